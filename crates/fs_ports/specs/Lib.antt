@@ -1,0 +1,4 @@
+pub mod Causes
+pub mod Moments
+pub mod Pieces
+pub mod Tape

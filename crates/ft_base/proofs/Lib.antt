@@ -1,0 +1,2 @@
+pub mod FieldsLemmas
+pub mod Ints

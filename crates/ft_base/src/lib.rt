@@ -1,0 +1,37 @@
+//! The types that every other crate speaks of: bytes, lists, words, hashes, documents and replies.
+//!
+//! A contract sees each of them as plain data: `Bytes` as a list of numbers, `ListOf<T>` as a list
+//! of `T`, the words of a command as a list of lists of bytes, a hash as the list of its fields and
+//! values. So the definitions of the crates above need no map from code to model.
+//! Read `bytes.rt` and `words.rt` first, then `specs/Hash.antt` and `specs/Reply.antt`.
+#![tactic(auto)]
+
+mod bytes;
+mod doc;
+mod hash_rec;
+mod limits;
+mod list_of;
+mod number;
+mod reply;
+#[cfg(test)]
+mod tests;
+mod words;
+
+/// Bytes of any value.
+pub use bytes::Bytes;
+/// A hash under its key, with the number of the event that last wrote it.
+pub use doc::Doc;
+/// The fields of a hash and their values, in order of first setting.
+pub use hash_rec::HashRec;
+/// The limits of a command on the wire.
+pub use limits::{MAX_COMMAND_BYTES, MAX_WORD_BYTES, MAX_WORDS};
+/// A list that a syntax tree or a reply may hold of its own type.
+pub use list_of::ListOf;
+/// Whole numbers in their one decimal spelling.
+pub use number::{put_int, read_int};
+/// What a command is answered, and how it is spelled on the wire.
+pub use reply::{Reply, put_reply};
+/// Want of memory, the one answer that nothing else in a contract explains.
+pub use std::alloc::AllocError as NoMemory;
+/// The words of a command, lent or held.
+pub use words::{Frame, Span, Words};

@@ -1,0 +1,5 @@
+pub mod Decoding
+pub mod Gives
+pub mod Request
+pub mod Stream
+pub mod Wire
