@@ -1,0 +1,4 @@
+pub mod Examples
+pub mod HistoryLaws
+pub mod PlaceLaws
+pub mod Writing

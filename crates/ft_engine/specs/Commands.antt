@@ -1,0 +1,81 @@
+-- The commands that have a name here (Redis and RediSearch), and what a command asks of the machine.
+use Rattle.std.specs.Prelude.{ℕ, List, [], ◌∷◌, Bool, true, false, Option, Some, None, codes, if◌then◌else◌}
+use Rattle.std.specs.List.{list_any}
+use Rattle.std.specs.Str.{str_eq_ignore_ascii_case}
+
+-- A command: its name, and its lawful numbers of words, the name among them.
+pub record CommandRow : Type 0 where
+  pub name : List ℕ
+  pub least : ℕ
+  -- none where there is no most
+  pub most : Option ℕ
+  -- only even numbers are lawful
+  pub even : Bool
+
+abbrev pub between : List ℕ → ℕ → ℕ → CommandRow
+between name least most = record { name = name; least = least; most = Some most; even = false }
+
+abbrev pub from : List ℕ → ℕ → CommandRow
+from name least = record { name = name; least = least; most = None; even = false }
+
+abbrev pub in_pairs : List ℕ → ℕ → CommandRow
+in_pairs name least = record { name = name; least = least; most = None; even = true }
+
+-- the table of commands
+abbrev pub commands : List CommandRow
+commands =
+    between (codes "PING") 1 2
+    ∷ between (codes "ECHO") 2 2
+    ∷ between (codes "SELECT") 2 2
+    ∷ from (codes "QUIT") 1
+    ∷ in_pairs (codes "HSET") 4
+    ∷ between (codes "HSETNX") 4 4
+    ∷ between (codes "HGET") 3 3
+    ∷ from (codes "HMGET") 3
+    ∷ between (codes "HGETALL") 2 2
+    ∷ from (codes "HDEL") 3
+    ∷ between (codes "HLEN") 2 2
+    ∷ between (codes "HEXISTS") 3 3
+    ∷ between (codes "HINCRBY") 4 4
+    ∷ between (codes "HKEYS") 2 2
+    ∷ between (codes "HVALS") 2 2
+    ∷ from (codes "DEL") 2
+    ∷ from (codes "EXISTS") 2
+    ∷ between (codes "TYPE") 2 2
+    ∷ between (codes "DBSIZE") 1 1
+    ∷ between (codes "RENAME") 3 3
+    ∷ between (codes "FLUSHALL") 1 2
+    ∷ from (codes "FT.CREATE") 5
+    ∷ from (codes "FT.ALTER") 6
+    ∷ between (codes "FT.DROPINDEX") 2 3
+    ∷ between (codes "FT._LIST") 1 1
+    ∷ between (codes "FT.INFO") 2 2
+    ∷ between (codes "FT.TAGVALS") 3 3
+    ∷ from (codes "FT.SEARCH") 3
+    ∷ from (codes "FT.AGGREGATE") 3
+    ∷ from (codes "FT.CURSOR") 4
+    ∷ between (codes "FT.DEBUG") 3 3
+    ∷ []
+
+-- whether a word is this name, in any case
+abbrev pub is_name : List ℕ → List ℕ → Bool
+is_name word name = str_eq_ignore_ascii_case word name
+
+-- whether a word is the name of a command of the table
+abbrev pub is_known : List ℕ → Bool
+is_known word = list_any (λ row. is_name word row.name) commands
+
+-- What a command asks. Of the table only HSET of one field is built today.
+pub data Asked : Type 0 where
+  SetField : (key field value : List ℕ) → Asked
+  NotBuilt : Asked
+  Unknown : Asked
+
+-- what a name asks whose form is not built
+abbrev pub not_built : List ℕ → Asked
+not_built name = if is_known name then NotBuilt else Unknown
+
+abbrev pub asked : List (List ℕ) → Asked
+asked [] = Unknown
+asked (name ∷ key ∷ field ∷ value ∷ []) = if is_name name (codes "HSET") then SetField key field value else not_built name
+asked (name ∷ _) = not_built name

@@ -1,0 +1,17 @@
+//! The whole state of the server, and what a command does to it.
+//!
+//! The machine is defined in `specs/`, over plain lists: what it holds (`Machine.antt`), the table of
+//! commands (`Commands.antt`), one step (`Step.antt`) and legal histories (`History.antt`). `Engine`
+//! stands for a state of the machine, and `exec` takes its step. Read `specs/` first, then `engine.rt`.
+#![tactic(auto)]
+
+mod command;
+mod docs;
+mod engine;
+mod hash;
+mod short_reply;
+#[cfg(test)]
+mod tests;
+
+/// The state of the server, and one command executed.
+pub use engine::Engine;

@@ -1,0 +1,43 @@
+//! The program: `rsearch script` answers the requests of standard input on standard output.
+//!
+//! `main` only makes the real things and calls `run`, which is generic over the link and the clock and
+//! carries the promise of the whole: what is written is the replies of a legal history of the commands
+//! read. Read `specs/Session.antt` and `run.rt` first, then `serving.rt`.
+#![tactic(auto)]
+
+mod exit;
+mod form;
+mod input;
+mod run;
+mod serving;
+mod std_link;
+#[cfg(test)]
+mod tests;
+
+use exit::Exit;
+use run::run;
+use std::env;
+use std::process::ExitCode;
+use std_link::{StdLink, SystemClock};
+
+fn main(rt: HostRuntime) -> ExitCode {
+    let mut words = Vec::new(rt.alloc());
+    let Ok(args) = env::args(&rt) else {
+        return ExitCode::from(Exit::Usage.status());
+    };
+    for word in args.skip(1) {
+        if words.push(word).is_err() {
+            return ExitCode::from(Exit::NoMemory.status());
+        }
+    }
+    let Ok(handle) = rt.clone() else {
+        return ExitCode::from(Exit::NoMemory.status());
+    };
+    let mut link = StdLink::new(rt.stdin(), rt.stdout());
+    let mut clock = SystemClock { rt: handle };
+    let exit = run(rt.alloc(), words.as_slice(), &mut link, &mut clock);
+    if exit == Exit::Usage {
+        let _ = eprintln!(rt; "usage: rsearch script | load SEED DOCS | serve PORT WORKERS");
+    }
+    ExitCode::from(exit.status())
+}
