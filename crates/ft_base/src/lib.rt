@@ -7,18 +7,22 @@
 #![tactic(auto)]
 
 mod bytes;
+mod definition;
 mod doc;
 mod hash_rec;
 mod limits;
 mod list_of;
 mod number;
 mod reply;
+mod steps;
 #[cfg(test)]
 mod tests;
 mod words;
 
 /// Bytes of any value.
 pub use bytes::Bytes;
+/// What an index is defined by.
+pub use definition::{Field, FieldKind, IndexDef, StopWords};
 /// A hash under its key, with the number of the event that last wrote it.
 pub use doc::Doc;
 /// The fields of a hash and their values, in order of first setting.
@@ -31,6 +35,8 @@ pub use list_of::ListOf;
 pub use number::{put_int, read_int};
 /// What a command is answered, and how it is spelled on the wire.
 pub use reply::{Reply, put_reply};
+/// A count of steps that only contracts see.
+pub use steps::Steps;
 /// Want of memory, the one answer that nothing else in a contract explains.
 pub use std::alloc::AllocError as NoMemory;
 /// The words of a command, lent or held.

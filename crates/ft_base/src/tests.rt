@@ -1,12 +1,16 @@
 //! Against mistakes that the check would pass: a definition that says something else than Redis does,
 //! a call that always finds memory wanting, a condition that nobody can meet.
-ghost use Rattle.std.specs.Prelude.{◌≡◌, IfOk, IsTrue};
+ghost use Rattle.std.specs.Prelude.{◌≡◌, ◌<◌, IfOk, IsTrue};
 ghost use Rattle.ft_base.specs.Reply.{fits_wire};
 
 use crate::{
-    Bytes, Doc, Frame, HashRec, ListOf, NoMemory, Reply, Span, Words, put_int, put_reply, read_int,
+    Bytes, Doc, Frame, HashRec, ListOf, NoMemory, Reply, Span, Steps, Words, put_int, put_reply,
+    read_int,
 };
 use std::alloc::Global;
+use std::marker::Brand;
+use std::mem::size_of;
+use std::sync::ledger::{Blank, Ledger};
 use std::test::Fail;
 
 #[test]
@@ -218,4 +222,20 @@ fn lists_grow_at_their_end(rt: HostRuntime) -> Result<(), Fail> {
     let again = ListOf::from_vec(list.into_vec());
     assert_eq!(rt; again.len(), 2);
     Ok(())
+}
+
+fn count_twice<L: Ledger>(blank: Blank) -> usize
+    requires name { blank.name ≡ L.name }
+    requires parts { blank.parts ≡ L.parts }
+    requires some { 0 < L.parts }
+{
+    let mut steps = Steps::<L>::new(blank);
+    steps.tick();
+    steps.tick();
+    size_of::<Steps<L>>()
+}
+
+#[test]
+fn a_count_of_steps_takes_no_bytes(rt: HostRuntime) {
+    assert_eq!(rt; count_twice::<Brand>(Blank::new(1)), 0);
 }

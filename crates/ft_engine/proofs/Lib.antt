@@ -1,4 +1,9 @@
+pub mod Creating
 pub mod Examples
 pub mod HistoryLaws
 pub mod PlaceLaws
+pub mod Searching
+pub mod Spellings
+pub mod Stepping
+pub mod TokensLaws
 pub mod Writing

@@ -1,16 +1,17 @@
 -- A document that is written, and what the writing is answered.
 use Rattle.std.proofs.Common.{◌≡◌, ℕ, suc, ◌<◌, Bool, true, false, not, List, [], ◌∷◌, ◌++◌, length, get_or, set, take, drop, Option, Some, None, Result, sym, ap, subst, ◌∙◌, arith, lit<}
-use Rattle.std.specs.Prelude.{remove, IfOk, OnOk, is_some, is_none}
+use Rattle.std.specs.Prelude.{remove, IfOk, OnOk, is_some, is_none, pos}
 use Rattle.std.proofs.lemmas.Fmt.{decimal_digit}
 use Rattle.std.proofs.lemmas.List.{get_or-set_same, get_or_default, take-set, drop-set-lt}
 use Rattle.std.proofs.lemmas.Result.{on_ok_weaker, IfOk-weaker}
 use Rattle.ft_base.specs.Hash.{Hash, get_field, set_field}
-use Rattle.ft_base.specs.Reply.{line}
+use Rattle.ft_base.specs.Reply.{line, spelling}
 use Rattle.ft_base.specs.Space.{doc_of, erase, write}
 use Rattle.ft_base.specs.declared.doc.Doc.{Doc}
 use Rattle.ft_engine.specs.Changes.{rewritten, Rewrites}
 use Rattle.ft_engine.specs.Places.{IsPlaceOf}
 use Rattle.ft_engine.specs.Step.{hash_in, fresh_fields}
+use Rattle.ft_engine.proofs.Spellings.{spelling-Number}
 
 -- a document of its parts
 abbrev made : ℕ → List ℕ → Hash → Doc
@@ -67,19 +68,19 @@ fresh_ok old docs i key field r same place h =
     IfOk-weaker r _ _ (λ fresh k. k no_doc ∙ ap (λ (u : Hash). is_none (get_field u field)) (sym (hash_at old key i no_doc at))) h
 
 -- what a call says that set a field is the reply
-pub told : (found : Option (List ℕ)) (fresh said : Bool) (old new text : List ℕ) → fresh ≡ said → fresh ≡ is_none found → old ≡ [] → text ≡ fresh_fields (not said) → new ≡ old ++ text
-    → new ≡ fresh_fields (is_some found)
+pub told : (found : Option (List ℕ)) (fresh said : Bool) (old new text : List ℕ) → fresh ≡ said → fresh ≡ is_none found → old ≡ [] → text ≡ spelling (fresh_fields (not said)) → new ≡ old ++ text
+    → new ≡ spelling (fresh_fields (is_some found))
 told found fresh said old new text test says empty spelled more =
-    more ∙ (ap (λ (o : List ℕ). o ++ text) empty ∙ (spelled ∙ ap fresh_fields (turned found (sym test ∙ says))))
+    more ∙ (ap (λ (o : List ℕ). o ++ text) empty ∙ (spelled ∙ ap (λ (b : Bool). spelling (fresh_fields b)) (turned found (sym test ∙ says))))
   where
     turned : (f : Option (List ℕ)) → said ≡ is_none f → not said ≡ is_some f
     turned None e = ap not e
     turned (Some v) e = ap not e
 
 -- the text of one new field
-pub one : 58 ∷ 49 ∷ 13 ∷ 10 ∷ [] ≡ fresh_fields false
-one = sym (ap (line 58) (decimal_digit 1 (lit< tt)))
+pub one : 58 ∷ 49 ∷ 13 ∷ 10 ∷ [] ≡ spelling (fresh_fields false)
+one = sym (spelling-Number (pos 1) ∙ ap (line 58) (decimal_digit 1 (lit< tt)))
 
 -- the text of no new field
-pub none : 58 ∷ 48 ∷ 13 ∷ 10 ∷ [] ≡ fresh_fields true
-none = sym (ap (line 58) (decimal_digit 0 (lit< tt)))
+pub none : 58 ∷ 48 ∷ 13 ∷ 10 ∷ [] ≡ spelling (fresh_fields true)
+none = sym (spelling-Number (pos 0) ∙ ap (line 58) (decimal_digit 0 (lit< tt)))

@@ -1,7 +1,8 @@
 -- The commands that have a name here (Redis and RediSearch), and what a command asks of the machine.
-use Rattle.std.specs.Prelude.{ℕ, List, [], ◌∷◌, Bool, true, false, Option, Some, None, codes, if◌then◌else◌}
-use Rattle.std.specs.List.{list_any}
+use Rattle.std.specs.Prelude.{ℕ, List, [], ◌∷◌, Bool, true, false, Option, Some, None, codes, not, ◌&&◌, if◌then◌else◌}
+use Rattle.std.specs.List.{list_any, list_all}
 use Rattle.std.specs.Str.{str_eq_ignore_ascii_case}
+use Rattle.ft_engine.specs.Tokens.{is_separator, lowered}
 
 -- A command: its name, and its lawful numbers of words, the name among them.
 pub record CommandRow : Type 0 where
@@ -65,9 +66,12 @@ is_name word name = str_eq_ignore_ascii_case word name
 abbrev pub is_known : List ℕ → Bool
 is_known word = list_any (λ row. is_name word row.name) commands
 
--- What a command asks. Of the table only HSET of one field is built today.
+-- What a command asks. Of the table three forms are built today: HSET of one field, FT.CREATE of one TEXT field
+-- without options, and FT.SEARCH of one word with NOCONTENT.
 pub data Asked : Type 0 where
   SetField : (key field value : List ℕ) → Asked
+  CreateText : (index field : List ℕ) → Asked
+  SearchWord : (index word : List ℕ) → Asked
   NotBuilt : Asked
   Unknown : Asked
 
@@ -75,7 +79,24 @@ pub data Asked : Type 0 where
 abbrev pub not_built : List ℕ → Asked
 not_built name = if is_known name then NotBuilt else Unknown
 
+-- whether a query is one word: bytes of words alone, and at least one
+abbrev pub is_one_word : List ℕ → Bool
+is_one_word [] = false
+is_one_word (b ∷ bytes) = list_all (λ c. not (is_separator c)) (b ∷ bytes)
+
+abbrev pub four : List ℕ → List ℕ → List ℕ → List ℕ → Asked
+four name second third fourth =
+    if is_name name (codes "HSET") then SetField second third fourth
+    else (if is_name name (codes "FT.SEARCH") && (is_name fourth (codes "NOCONTENT") && is_one_word third) then SearchWord second (lowered third)
+    else not_built name)
+
+abbrev pub five : List ℕ → List ℕ → List ℕ → List ℕ → List ℕ → Asked
+five name second third fourth fifth =
+    if is_name name (codes "FT.CREATE") && (is_name third (codes "SCHEMA") && is_name fifth (codes "TEXT")) then CreateText second fourth
+    else not_built name
+
 abbrev pub asked : List (List ℕ) → Asked
 asked [] = Unknown
-asked (name ∷ key ∷ field ∷ value ∷ []) = if is_name name (codes "HSET") then SetField key field value else not_built name
+asked (name ∷ second ∷ third ∷ fourth ∷ []) = four name second third fourth
+asked (name ∷ second ∷ third ∷ fourth ∷ fifth ∷ []) = five name second third fourth fifth
 asked (name ∷ _) = not_built name

@@ -1,8 +1,12 @@
 pub mod Asks
 pub mod Changes
 pub mod Commands
+pub mod Definitions
 pub mod History
 pub mod Machine
+pub mod Pages
 pub mod Places
 pub mod Stands
 pub mod Step
+pub mod TokenValues
+pub mod Tokens

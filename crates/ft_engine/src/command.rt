@@ -1,17 +1,27 @@
 //! What a command asks, from its words alone.
-ghost use Rattle.std.specs.Prelude.{◌≡◌, ◌<◌, length, codes};
-ghost use Rattle.std.specs.List.{list_any};
+ghost use Rattle.std.specs.Prelude.{◌≡◌, ◌<◌, length, codes, not};
+ghost use Rattle.std.specs.List.{list_all, list_any};
 ghost use Rattle.ft_engine.specs.Asks.{asked_of};
-ghost use Rattle.ft_engine.specs.Commands.{asked, is_known, is_name};
+ghost use Rattle.ft_engine.specs.Commands.{asked, five, four, is_known, is_name, is_one_word, not_built};
+ghost use Rattle.ft_engine.specs.Tokens.{is_separator};
 
+use crate::units::is_separator;
 use ft_base::Words;
 
-/// What a command asks.
+/// What a command asks. The word of a query is as it came, in any case.
 pub enum Command<'a> {
     SetField {
         key: &'a [u8],
         field: &'a [u8],
         value: &'a [u8],
+    },
+    CreateText {
+        index: &'a [u8],
+        field: &'a [u8],
+    },
+    SearchWord {
+        index: &'a [u8],
+        word: &'a [u8],
     },
     NotBuilt,
     Unknown,
@@ -23,18 +33,88 @@ pub fn read_command<'a>(words: &Words<'a>) -> Command<'a>
     ensures { asked_of result ≡ asked words.now }
 {
     let name = words.word(0);
-    if words.len() == 4 && name.eq_ignore_ascii_case(b"HSET") {
+    if words.len() == 4 {
+        return four(name, words.word(1), words.word(2), words.word(3));
+    }
+    if words.len() == 5 {
+        return five(
+            name,
+            words.word(1),
+            words.word(2),
+            words.word(3),
+            words.word(4),
+        );
+    }
+    not_built(name)
+}
+
+/// A command of four words.
+fn four<'a>(name: &[u8], second: &'a [u8], third: &'a [u8], fourth: &'a [u8]) -> Command<'a>
+    ensures { asked_of result ≡ four name.now second.now third.now fourth.now }
+{
+    if name.eq_ignore_ascii_case(b"HSET") {
         return Command::SetField {
-            key: words.word(1),
-            field: words.word(2),
-            value: words.word(3),
+            key: second,
+            field: third,
+            value: fourth,
         };
     }
+    if name.eq_ignore_ascii_case(b"FT.SEARCH")
+        && fourth.eq_ignore_ascii_case(b"NOCONTENT")
+        && is_one_word(third)
+    {
+        return Command::SearchWord {
+            index: second,
+            word: third,
+        };
+    }
+    not_built(name)
+}
+
+/// A command of five words.
+fn five<'a>(
+    name: &[u8],
+    second: &'a [u8],
+    third: &[u8],
+    fourth: &'a [u8],
+    fifth: &[u8],
+) -> Command<'a>
+    ensures { asked_of result ≡ five name.now second.now third.now fourth.now fifth.now }
+{
+    if name.eq_ignore_ascii_case(b"FT.CREATE")
+        && third.eq_ignore_ascii_case(b"SCHEMA")
+        && fifth.eq_ignore_ascii_case(b"TEXT")
+    {
+        return Command::CreateText {
+            index: second,
+            field: fourth,
+        };
+    }
+    not_built(name)
+}
+
+/// A command whose form is not built, or whose name is none.
+fn not_built<'a>(name: &[u8]) -> Command<'a>
+    ensures { asked_of result ≡ not_built name.now }
+{
     if is_known(name) {
         Command::NotBuilt
     } else {
         Command::Unknown
     }
+}
+
+/// Whether a query is one word, without any byte that parts words.
+fn is_one_word(query: &[u8]) -> bool
+    ensures { result ≡ is_one_word query.now }
+{
+    !query.is_empty() && has_no_separator(query)
+}
+
+fn has_no_separator(bytes: &[u8]) -> bool
+    ensures { result ≡ list_all (λ b. not (is_separator b)) bytes.now }
+{
+    bytes.iter().all(|byte| !is_separator(*byte))
 }
 
 fn is_known(word: &[u8]) -> bool

@@ -6,9 +6,11 @@ ghost use Rattle.ft_engine.specs.Stands.{Stands};
 ghost use Rattle.ft_engine.specs.Step.{Answers};
 
 use crate::command::{Command, read_command};
+use crate::definitions::answer_create;
 use crate::hash::answer_set_field;
-use crate::short_reply::put_short;
-use ft_base::{Doc, NoMemory, Words};
+use crate::search::answer_search;
+use crate::short_reply::put_fault;
+use ft_base::{Doc, IndexDef, NoMemory, Words};
 use std::alloc::Global;
 use std::marker::Model;
 
@@ -21,6 +23,7 @@ const FIRST_DOCS: usize = 64;
 pub struct Engine {
     alloc: Global,
     docs: Vec<Doc>,
+    definitions: Vec<IndexDef>,
     latest: u64,
     next: u64,
 }
@@ -30,17 +33,18 @@ impl Model for Engine {
 
     ghost Value = { Stands };
 
-    ghost view = { λ e. record { state = record { space = e.docs.items; latest = e.latest }; next = e.next } };
+    ghost view = { λ e. record { state = record { space = e.docs.items; definitions = e.definitions.items; latest = e.latest }; next = e.next } };
 }
 
 impl Engine {
-    /// An engine without documents, whose first event has the number 1.
+    /// An engine without documents and indexes, whose first event has the number 1.
     pub fn new(alloc: Global) -> Result<Engine, NoMemory>
         ensures { IfOk result (λ engine. engine ≡ record { state = empty_state; next = 1 }) }
     {
         Ok(Engine {
             alloc,
             docs: Vec::with_capacity(alloc, FIRST_DOCS)?,
+            definitions: Vec::new(alloc),
             latest: 0,
             next: 1,
         })
@@ -68,8 +72,19 @@ impl Engine {
             Command::SetField { key, field, value } => {
                 answer_set_field(&mut self.docs, self.alloc, id, key, field, value, out)
             }
-            Command::NotBuilt => put_short(out, b"-ERR not built\r\n"),
-            Command::Unknown => put_short(out, b"-ERR unknown command\r\n"),
+            Command::CreateText { index, field } => {
+                answer_create(&mut self.definitions, self.alloc, id, index, field, out)
+            }
+            Command::SearchWord { index, word } => answer_search(
+                self.definitions.as_slice(),
+                self.docs.as_slice(),
+                self.alloc,
+                index,
+                word,
+                out,
+            ),
+            Command::NotBuilt => put_fault(out, b"ERR not built"),
+            Command::Unknown => put_fault(out, b"ERR unknown command"),
         }
     }
 }

@@ -3,7 +3,7 @@ ghost use Rattle.std.specs.Prelude.{◌≡◌, ◌≤◌, [], vec_capacity};
 ghost use Rattle.ft_engine.specs.Changes.{SetsField};
 
 use crate::docs::set_field;
-use crate::short_reply::{SHORT_REPLY, put_short};
+use crate::short_reply::{SHORT_REPLY, put_no_memory, put_short};
 use ft_base::Doc;
 use std::alloc::Global;
 
@@ -26,6 +26,6 @@ pub fn answer_set_field(
     match set_field(docs, alloc, id, key, field, value) {
         Ok(true) => put_short(out, b":1\r\n"),
         Ok(false) => put_short(out, b":0\r\n"),
-        Err(_) => put_short(out, b"-OOM out of memory\r\n"),
+        Err(_) => put_no_memory(out),
     }
 }

@@ -6,12 +6,18 @@
 #![tactic(auto)]
 
 mod command;
+mod definitions;
 mod docs;
 mod engine;
 mod hash;
+mod search;
 mod short_reply;
 #[cfg(test)]
 mod tests;
+#[cfg(test)]
+mod token_tests;
+mod tokens;
+mod units;
 
 /// The state of the server, and one command executed.
 pub use engine::Engine;

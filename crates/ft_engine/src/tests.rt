@@ -1,6 +1,7 @@
-//! Against mistakes that the check would pass: a step or a table of names that is defined otherwise
-//! than clients know it, a call that always finds memory wanting, conditions that nobody can meet.
-ghost use Rattle.std.specs.Prelude.{◌≡◌, ◌<◌, ◌≤◌, ◌+◌, ◌^◌, length, IsTrue, ◌↔◌};
+//! Against mistakes that the check would pass: a step, a table of names or a search that is defined
+//! otherwise than clients know it, a call that always finds memory wanting, conditions that nobody
+//! can meet.
+ghost use Rattle.std.specs.Prelude.{◌≡◌, ◌≤◌, ◌+◌, length, IsTrue, ◌↔◌};
 ghost use Rattle.ft_base.specs.Words.{LieIn};
 
 use crate::Engine;
@@ -11,19 +12,36 @@ use std::test::Fail;
 /// The most bytes of a line, and the most words.
 const LINE: usize = 100;
 
-/// The reply to a line of words with one space between each two.
-fn ask(alloc: Global, engine: &mut Engine, now: u64, line: &[u8]) -> Result<Vec<u8>, NoMemory>
-    requires { engine.old.next < 2 ^ 62 }
-    ensures { engine.new.next ≤ engine.old.next + 1 }
-{
+/// An engine, and the number of lines that it was asked.
+#[derive(Drop)]
+struct Session {
+    engine: Engine,
+    asked: u32,
+    ghost few: { engine.next ≤ asked + 1 },
+}
+
+fn begin(alloc: Global) -> Result<Session, NoMemory> {
+    Ok(Session {
+        engine: Engine::new(alloc)?,
+        asked: 0,
+    })
+}
+
+/// The reply to a line of words with one `|` between each two.
+fn ask(alloc: Global, session: &mut Session, line: &[u8]) -> Result<Vec<u8>, NoMemory> {
     let mut out = Vec::with_capacity(alloc, 64)?;
     let spans = spans_of(alloc, line)?;
     if lie_in(line, spans.as_slice())
         && line.len() <= LINE
         && spans.len() <= LINE
         && 0 < spans.len()
+        && session.asked < u32::MAX
     {
-        engine.exec(now, Words::new(line, spans.as_slice()), &mut out);
+        session.asked += 1;
+        let words = Words::new(line, spans.as_slice());
+        session
+            .engine
+            .exec(u64::from(session.asked), words, &mut out);
     }
     Ok(out)
 }
@@ -32,7 +50,7 @@ fn spans_of(alloc: Global, line: &[u8]) -> Result<Vec<Span>, NoMemory> {
     let mut spans = Vec::new(alloc);
     let mut from = 0;
     for to in 0..line.len() {
-        if line[to] == b' ' {
+        if line[to] == b'|' {
             spans.push(Span { from, to })?;
             from = to + 1;
         }
@@ -53,55 +71,109 @@ fn lie_in(bytes: &[u8], spans: &[Span]) -> bool
 }
 
 #[test]
-fn sets_fields_one_by_one(rt: HostRuntime) -> Result<(), Fail> {
-    let mut engine = Engine::new(rt.alloc())?;
-    let first = ask(rt.alloc(), &mut engine, 1, b"HSET k f v")?;
-    assert_eq!(rt; first.as_slice(), b":1\r\n".as_slice());
-    let again = ask(rt.alloc(), &mut engine, 2, b"hset k f w")?;
-    assert_eq!(rt; again.as_slice(), b":0\r\n".as_slice());
-    let other = ask(rt.alloc(), &mut engine, 3, b"HSet k g v")?;
-    assert_eq!(rt; other.as_slice(), b":1\r\n".as_slice());
-    let elsewhere = ask(rt.alloc(), &mut engine, 2, b"HSET l f v")?;
-    assert_eq!(rt; elsewhere.as_slice(), b":1\r\n".as_slice());
-    let kept = ask(rt.alloc(), &mut engine, 4, b"HSET k f v")?;
-    assert_eq!(rt; kept.as_slice(), b":0\r\n".as_slice());
-    Ok(())
-}
-
-#[test]
-fn refuses_what_is_not_built(rt: HostRuntime) -> Result<(), Fail> {
-    for line in [
-        "HSET k f",
-        "HSET k f v g",
-        "HSET k f v g w",
-        "PING",
-        "FT.SEARCH i q",
-        "ft.search i q",
-        "FT._LIST",
+fn answers_line_after_line(rt: HostRuntime) -> Result<(), Fail> {
+    let mut session = begin(rt.alloc())?;
+    for (line, want) in [
+        ("FT.SEARCH|ix|hello|NOCONTENT", "-Unknown index name\r\n"),
+        ("FT.CREATE|ix|SCHEMA|t|TEXT", "+OK\r\n"),
+        ("FT.SEARCH|ix|hello|NOCONTENT", "*1\r\n:0\r\n"),
+        ("HSET|a|t|hello world", ":1\r\n"),
+        ("hset|a|t|say hello world", ":0\r\n"),
+        ("FT.CREATE|ix|SCHEMA|u|TEXT", "-Index already exists\r\n"),
+        ("ft.create|iy|schema|u|text", "+OK\r\n"),
+        ("HSet|b|t|Hello, the WORLD", ":1\r\n"),
+        (
+            "FT.SEARCH|ix|hello|NOCONTENT",
+            "*3\r\n:2\r\n$1\r\na\r\n$1\r\nb\r\n",
+        ),
+        (
+            "ft.search|ix|WORLD|nocontent",
+            "*3\r\n:2\r\n$1\r\na\r\n$1\r\nb\r\n",
+        ),
+        ("FT.SEARCH|ix|say|NOCONTENT", "*2\r\n:1\r\n$1\r\na\r\n"),
+        ("FT.SEARCH|ix|wor|NOCONTENT", "*1\r\n:0\r\n"),
+        ("FT.SEARCH|ix|the|NOCONTENT", "*1\r\n:0\r\n"),
+        ("FT.SEARCH|iy|hello|NOCONTENT", "*1\r\n:0\r\n"),
+        ("FT.SEARCH|IX|hello|NOCONTENT", "-Unknown index name\r\n"),
+        ("HSET|c|u|hello", ":1\r\n"),
+        ("FT.SEARCH|iy|hello|NOCONTENT", "*2\r\n:1\r\n$1\r\nc\r\n"),
+        ("HSET|a|v|1", ":1\r\n"),
+        (
+            "FT.SEARCH|ix|hello|NOCONTENT",
+            "*3\r\n:2\r\n$1\r\nb\r\n$1\r\na\r\n",
+        ),
+        ("HSET|b|t|bye", ":0\r\n"),
+        ("FT.SEARCH|ix|hello|NOCONTENT", "*2\r\n:1\r\n$1\r\na\r\n"),
     ] {
-        let mut engine = Engine::new(rt.alloc())?;
-        let reply = ask(rt.alloc(), &mut engine, 1, line.as_bytes())?;
-        assert_eq!(rt;
-            reply.as_slice(),
-            b"-ERR not built\r\n".as_slice(),
-            "at {line}"
-        );
+        let reply = ask(rt.alloc(), &mut session, line.as_bytes())?;
+        assert_eq!(rt; reply.as_slice(), want.as_bytes(), "at {line}");
     }
     Ok(())
 }
 
 #[test]
-fn refuses_unknown_names(rt: HostRuntime) -> Result<(), Fail> {
-    let lines: [&[u8]; 5] = [b"NOPE", b"HSETX k f v", b"", b" k f v", b"\x00\xff k"];
-    for line in lines {
-        let mut engine = Engine::new(rt.alloc())?;
-        let reply = ask(rt.alloc(), &mut engine, 1, line)?;
-        let length = line.len();
-        assert_eq!(rt;
-            reply.as_slice(),
-            b"-ERR unknown command\r\n".as_slice(),
-            "at {length} bytes"
-        );
+fn refuses_by_the_words_alone(rt: HostRuntime) -> Result<(), Fail> {
+    let not_built = "-ERR not built\r\n";
+    let unknown = "-ERR unknown command\r\n";
+    for (line, want) in [
+        ("HSET|k|f", not_built),
+        ("HSET|k|f|v|g", not_built),
+        ("HSET|k|f|v|g|w", not_built),
+        ("PING", not_built),
+        ("FT._LIST", not_built),
+        ("FT.CREATE|ix|SCHEMA|t", not_built),
+        ("FT.CREATE|ix|ON|t|TEXT", not_built),
+        ("FT.CREATE|ix|SCHEMA|t|TAG", not_built),
+        ("FT.CREATE|ix|SCHEMA|t|TEXT|SORTABLE", not_built),
+        ("ft.search|ix|hello", not_built),
+        ("FT.SEARCH|ix|hello|WITHSCORES", not_built),
+        ("FT.SEARCH|ix|hello|NOCONTENT|VERBATIM", not_built),
+        ("FT.SEARCH|ix|hello world|NOCONTENT", not_built),
+        ("FT.SEARCH|ix|hello-world|NOCONTENT", not_built),
+        ("FT.SEARCH|ix||NOCONTENT", not_built),
+        ("NOPE", unknown),
+        ("HSETX|k|f|v", unknown),
+        ("", unknown),
+        ("|k|f|v", unknown),
+        ("\u{0}\u{ff}|k", unknown),
+    ] {
+        let mut session = begin(rt.alloc())?;
+        let reply = ask(rt.alloc(), &mut session, line.as_bytes())?;
+        assert_eq!(rt; reply.as_slice(), want.as_bytes(), "at {line}");
+    }
+    Ok(())
+}
+
+#[test]
+fn keeps_ten_keys_and_256_indexes(rt: HostRuntime) -> Result<(), Fail> {
+    let mut session = begin(rt.alloc())?;
+    for i in 0..256 {
+        let line = format!(in rt.alloc(); "FT.CREATE|i{i}|SCHEMA|t|TEXT")?;
+        let reply = ask(rt.alloc(), &mut session, line.as_bytes())?;
+        assert_eq!(rt; reply.as_slice(), b"+OK\r\n".as_slice(), "at {i}");
+    }
+    for i in 0..11 {
+        let line = format!(in rt.alloc(); "HSET|k{i}|t|hello")?;
+        let reply = ask(rt.alloc(), &mut session, line.as_bytes())?;
+        assert_eq!(rt; reply.as_slice(), b":1\r\n".as_slice(), "at {i}");
+    }
+    for (line, want) in [
+        ("FT.CREATE|i256|SCHEMA|t|TEXT", "-Too many indexes\r\n"),
+        ("FT.CREATE|i255|SCHEMA|t|TEXT", "-Index already exists\r\n"),
+        (
+            "FT.SEARCH|i255|hello|NOCONTENT",
+            "*11\r\n:11\r\n$2\r\nk0\r\n$2\r\nk1\r\n$2\r\nk2\r\n$2\r\nk3\r\n$2\r\nk4\r\n$2\r\nk5\r\n\
+             $2\r\nk6\r\n$2\r\nk7\r\n$2\r\nk8\r\n$2\r\nk9\r\n",
+        ),
+        ("HSET|k0|t|hello", ":0\r\n"),
+        (
+            "FT.SEARCH|i0|hello|NOCONTENT",
+            "*11\r\n:11\r\n$2\r\nk1\r\n$2\r\nk2\r\n$2\r\nk3\r\n$2\r\nk4\r\n$2\r\nk5\r\n$2\r\nk6\r\n\
+             $2\r\nk7\r\n$2\r\nk8\r\n$2\r\nk9\r\n$3\r\nk10\r\n",
+        ),
+    ] {
+        let reply = ask(rt.alloc(), &mut session, line.as_bytes())?;
+        assert_eq!(rt; reply.as_slice(), want.as_bytes(), "at {line}");
     }
     Ok(())
 }

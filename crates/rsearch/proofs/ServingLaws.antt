@@ -14,7 +14,7 @@ use Rattle.ft_engine.specs.Machine.{empty_state}
 use Rattle.ft_engine.specs.Stands.{Stands}
 use Rattle.resp_wire.specs.Stream.{Command, Stream, with_command, stream_of}
 use Rattle.rsearch.specs.Answer.{Answer}
-use Rattle.rsearch.specs.Session.{Answered, AllWritten, FirstWritten, LastCut}
+use Rattle.rsearch.specs.Session.{AllWritten, FirstWritten, LastCut}
 use Rattle.ft_engine.proofs.HistoryLaws.{IsLegal-push, replies_of-push}
 use Rattle.fs_ports.proofs.MomentLaws.{Gives-nil, Gives-trans}
 

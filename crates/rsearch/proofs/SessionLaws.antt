@@ -1,12 +1,12 @@
 -- A session out of its two halves: the input is read, and then its commands are served.
-use Rattle.std.proofs.Common.{◌≡◌, ℕ, List, [], ◌++◌, Some, None, sym, ap, ◌∙◌}
+use Rattle.std.proofs.Common.{◌≡◌, ℕ, List, ◌++◌, Some, None, sym, ap, ◌∙◌}
 use Rattle.std.proofs.lemmas.List.{append-nil}
 use Rattle.std.specs.declared.option.Option.{Option}
 use Rattle.std.specs.Io.KnownBytes.{Consumes, IsAtEnd, Keeps}
 use Rattle.std.proofs.KnownBytes.{Consumes-kept}
 use Rattle.resp_wire.specs.Stream.{stream_of}
 use Rattle.rsearch.specs.Ends.{IsAll}
-use Rattle.rsearch.specs.Session.{Outside, AllWritten, FirstWritten, Served, ServedFirst}
+use Rattle.rsearch.specs.Session.{Outside, AllWritten, Served, ServedFirst}
 use Rattle.rsearch.proofs.ServingLaws.{all_kept, none_written}
 
 -- what was read up to the end is all that there was

@@ -1,6 +1,6 @@
 //! The streams and the clock of the system, behind the traits of the outside.
 //! They tell no bytes and no moments, so what they do beyond their traits is shown by the program's run.
-ghost use Rattle.std.specs.Prelude.{None};
+ghost use Rattle.std.specs.Prelude.{◌≡◌, None};
 
 use fs_ports::{Clock, Failed, Link};
 use std::io::{Read, Write};
@@ -17,7 +17,10 @@ pub struct StdLink<R: Read + Drop, W: Write + Drop> {
 
 impl<R: Read + Drop, W: Write + Drop> StdLink<R, W> {
     /// A link that has not failed yet.
-    pub fn new(reader: R, writer: W) -> StdLink<R, W> {
+    pub fn new(reader: R, writer: W) -> StdLink<R, W>
+        ensures reads { ⟦<StdLink<R, W> as Link>⟧.read_faults result ≡ 0 }
+        ensures writes { ⟦<StdLink<R, W> as Link>⟧.write_faults result ≡ 0 }
+    {
         StdLink {
             reader,
             writer,

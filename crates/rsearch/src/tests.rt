@@ -8,18 +8,20 @@ use ft_base::{Bytes, ListOf, NoMemory};
 use std::alloc::Global;
 use std::test::Fail;
 
-const HSET: &str = "*4\r\n$4\r\nHSET\r\n$2\r\nd1\r\n$1\r\nt\r\n$11\r\nHello world\r\n";
+mod sessions;
 
-const HSET_AGAIN: &str = "*4\r\n$4\r\nhSet\r\n$2\r\nd1\r\n$1\r\nt\r\n$1\r\nx\r\n";
+const HSET: &[u8] = b"*4\r\n$4\r\nHSET\r\n$2\r\nd1\r\n$1\r\nt\r\n$11\r\nHello world\r\n";
 
-const PING: &str = "*1\r\n$4\r\nPING\r\n";
+const HSET_AGAIN: &[u8] = b"*4\r\n$4\r\nhSet\r\n$2\r\nd1\r\n$1\r\nt\r\n$1\r\nx\r\n";
 
-const NOPE: &str = "*1\r\n$4\r\nNOPE\r\n";
+const PING: &[u8] = b"*1\r\n$4\r\nPING\r\n";
 
-fn pieces_of(alloc: Global, texts: &[&str]) -> Result<ListOfPieces, NoMemory> {
+const NOPE: &[u8] = b"*1\r\n$4\r\nNOPE\r\n";
+
+fn pieces_of(alloc: Global, texts: &[&[u8]]) -> Result<ListOfPieces, NoMemory> {
     let mut pieces = ListOf::new(alloc);
     for text in texts {
-        pieces.push(Bytes::from_slice(alloc, text.as_bytes())?)?;
+        pieces.push(Bytes::from_slice(alloc, text)?)?;
     }
     Ok(pieces)
 }
@@ -34,7 +36,7 @@ fn calls_of(alloc: Global, call: u64) -> Result<ListOfCalls, NoMemory> {
 fn script(
     alloc: Global,
     out: &mut Vec<u8>,
-    texts: &[&str],
+    texts: &[&[u8]],
     fails: (u64, u64),
     write_max: usize,
 ) -> Result<Exit, NoMemory> {
@@ -58,21 +60,21 @@ fn script(
 #[test]
 fn answers_each_command(rt: HostRuntime) -> Result<(), Fail> {
     let replies = ":1\r\n:0\r\n-ERR not built\r\n-ERR unknown command\r\n";
-    let cases: [(&[&str], &str, Exit); 6] = [
+    let cases: [(&[&[u8]], &str, Exit); 6] = [
         (
-            &[HSET, HSET_AGAIN, "*0\r\n", PING, NOPE],
+            &[HSET, HSET_AGAIN, b"*0\r\n", PING, NOPE],
             replies,
             Exit::Done,
         ),
         (&[], "", Exit::Done),
-        (&["*0\r\n*-1\r\n"], "", Exit::Done),
-        (&[HSET, "*1\r\n$4\r\nPI"], ":1\r\n", Exit::Unread),
+        (&[b"*0\r\n*-1\r\n"], "", Exit::Done),
+        (&[HSET, b"*1\r\n$4\r\nPI"], ":1\r\n", Exit::Unread),
         (
-            &[HSET, "*1\r\n$+4\r\nPING\r\n", PING],
+            &[HSET, b"*1\r\n$+4\r\nPING\r\n", PING],
             ":1\r\n",
             Exit::Unread,
         ),
-        (&["PING\r\n"], "", Exit::Unread),
+        (&[b"PING\r\n"], "", Exit::Unread),
     ];
     for (texts, want, exit) in cases {
         for write_max in [1_000, 3] {

@@ -26,4 +26,4 @@ small line spans words same h k = rw same (record {
 
 pub exec-requires-clause-limits : goal.exec-requires-clause-limits
 exec-requires-clause-limits c =
-    small c.args.line.now _ c.new.result c.new.ensures c.if-line-le-LINE.true (omega (arith, c.as_slice.ensures.len, c.as_slice-then-len-gt0.ensures.len))
+    small c.args.line.now _ c.new-words.result c.new-words.ensures c.if-line-le-LINE.true (omega (arith, c.as_slice.ensures.len, c.as_slice-then-session-lt4294967295.ensures.len))

@@ -1,5 +1,4 @@
 use Rattle.std.proofs.KnownBytes.{Consumes-trans}
-use Rattle.std.proofs.Common.{◌++◌, take}
 use Rattle.rsearch.proofs.input.read_by.Goals as goal
 
 -- what the last read gave is lost

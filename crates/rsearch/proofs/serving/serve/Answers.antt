@@ -1,7 +1,6 @@
-use Rattle.std.proofs.Common.{◌≡◌, ◌∙◌, ◌≤◌, ◌+◌, length, refl, sym, subst, arith}
+use Rattle.std.proofs.Common.{◌∙◌, refl, arith}
 use Rattle.std.proofs.KnownBytes.{Keeps-trans}
-use Rattle.resp_wire.specs.Stream.{stream_of}
-use Rattle.rsearch.proofs.ServingLaws.{Going, begins, goes_on, is_cut, stops}
+use Rattle.rsearch.proofs.ServingLaws.{begins, goes_on, is_cut, stops}
 use Rattle.rsearch.proofs.serving.serve.Goals as goal
 
 -- nothing was answered yet

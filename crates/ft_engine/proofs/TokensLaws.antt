@@ -1,0 +1,72 @@
+-- How a reader that keeps an open run and goes through a text's units from the front comes to the tokens.
+use Rattle.std.proofs.Common.{◌≡◌, ℕ, ◌+◌, suc, List, [], ◌∷◌, ◌++◌, Bool, true, false, map, length, Option, Some, None, refl, sym, ap, ◌∙◌, append_assoc, length-append, append-nil, add-zero, add-one, if◌then◌else◌, arith}
+use Rattle.std.proofs.lemmas.List.{length-map}
+use Rattle.std.specs.Char.{to_ascii_lowercase}
+use Rattle.ft_engine.specs.declared.tokens.Token.{Token}
+use Rattle.ft_engine.specs.Tokens.{units, split, before, lowered, is_stop, numbered, tokens}
+use Rattle.ft_engine.specs.TokenValues.{values}
+
+-- the tokens that are still to come where a lowered run is open before these units
+unfoldable pub coming : List (List ℕ) → ℕ → List ℕ → List (Option ℕ) → List (ℕ × List ℕ)
+coming stops place run units =
+    let parts = split units in numbered stops place (before (run ++ lowered parts.0) (map lowered parts.1))
+
+-- lowering leaves empty what is empty
+map-before : (run : List ℕ) (runs : List (List ℕ)) → map lowered (before run runs) ≡ before (lowered run) (map lowered runs)
+map-before [] runs = refl
+map-before (b ∷ run) runs = refl
+
+-- at the front of the text all its tokens are to come
+pub coming-start : (stops : List (List ℕ)) (text : List ℕ) → tokens text stops ≡ coming stops 1 [] (units text)
+unfolding coming
+coming-start stops text = ap (numbered stops 1) (map-before (split (units text)).0 (split (units text)).1)
+
+-- at its end the open run alone
+pub coming-end : (stops : List (List ℕ)) (place : ℕ) (run : List ℕ) → coming stops place run [] ≡ numbered stops place (before run [])
+unfolding coming
+coming-end stops place run = rw append-nil
+
+-- a byte of a word goes into the run
+pub coming-some : (stops : List (List ℕ)) (place : ℕ) (run : List ℕ) (b : ℕ) (units : List (Option ℕ))
+    → coming stops place run (Some b ∷ units) ≡ coming stops place (run ++ to_ascii_lowercase b ∷ []) units
+unfolding coming
+coming-some stops place run b units = sym (rw append_assoc refl)
+
+-- a word more is none, or one with the place at hand, and the next has the place behind it
+numbered-word : (stops : List (List ℕ)) (place : ℕ) (word : List ℕ) (words : List (List ℕ))
+    → numbered stops place (word ∷ words)
+    ≡ numbered stops place (word ∷ []) ++ numbered stops (place + length (numbered stops place (word ∷ []))) words
+numbered-word stops place word words =
+    let rest : ℕ → List (ℕ × List ℕ) = λ from. numbered stops from words in
+    let one : List (ℕ × List ℕ) = (place, word) ∷ [] in
+    elim (is_stop stops word)
+    as (λ stop. (if stop then rest place else (place, word) ∷ rest (suc place))
+    ≡ (if stop then [] else one) ++ rest (place + length (if stop then [] else one))) [
+      | true ↦ ap rest (sym (add-zero place))
+      | false ↦ ap (λ from. (place, word) ∷ rest from) (sym (add-one place))
+    ]
+
+-- the same of a run before others, where an empty one is none
+numbered-before : (stops : List (List ℕ)) (place : ℕ) (run : List ℕ) (runs : List (List ℕ))
+    → numbered stops place (before run runs)
+    ≡ numbered stops place (before run []) ++ numbered stops (place + length (numbered stops place (before run []))) runs
+numbered-before stops place [] runs = ap (λ from. numbered stops from runs) (sym (add-zero place))
+numbered-before stops place (b ∷ run) runs = numbered-word stops place (b ∷ run) runs
+
+-- a separator ends the run
+coming-none : (stops : List (List ℕ)) (place : ℕ) (run : List ℕ) (units : List (Option ℕ))
+    → coming stops place run (None ∷ units)
+    ≡ numbered stops place (before run []) ++ coming stops (place + length (numbered stops place (before run []))) [] units
+unfolding coming
+coming-none stops place run units =
+    rw (append-nil run, map-before (split units).0 (split units).1) (numbered-before stops place run _)
+
+-- the same where the run's token, if it is one, went to those found
+pub coming-closed : (stops : List (List ℕ)) (run : List ℕ) (units : List (Option ℕ)) (found new : List Token)
+    → values new ≡ values found ++ numbered stops (length found + 1) (before run [])
+    → values found ++ coming stops (length found + 1) run (None ∷ units) ≡ values new ++ coming stops (length new + 1) [] units
+coming-closed stops run units found new same =
+    let more : List (ℕ × List ℕ) = numbered stops (length found + 1) (before run []) in
+    let counted : length new ≡ length found + length more = simp (length-append, length-map) at (ap length same) in
+    let place : length new + 1 ≡ length found + 1 + length more = omega arith in
+    rw (coming-none, place, same, append_assoc) refl

@@ -1,0 +1,143 @@
+//! Sessions of commands: the words of each, and the reply that a client gets.
+use super::script;
+use crate::exit::Exit;
+use ft_base::{NoMemory, put_int};
+use std::alloc::Global;
+use std::test::Fail;
+
+/// The words of a command, parted by bars, and its reply.
+type Row<'a> = (&'a str, &'a str);
+
+fn put_line(out: &mut Vec<u8>, mark: u8, number: usize) -> Result<(), NoMemory> {
+    out.push(mark)?;
+    put_int(out, i64::try_from(number).unwrap_or(0))?;
+    out.extend_from_slice(b"\r\n")
+}
+
+fn put_word(out: &mut Vec<u8>, word: &[u8]) -> Result<(), NoMemory> {
+    put_line(out, b'$', word.len())?;
+    out.extend_from_slice(word)?;
+    out.extend_from_slice(b"\r\n")
+}
+
+// Appends the request whose words the line has between bars.
+fn put_request(out: &mut Vec<u8>, line: &str) -> Result<(), NoMemory> {
+    let bytes = line.as_bytes();
+    let mut count = 1usize;
+    for b in bytes {
+        if *b == b'|' {
+            count = count.saturating_add(1);
+        }
+    }
+    put_line(out, b'*', count)?;
+    for word in bytes.split(|b| *b == b'|') {
+        put_word(out, word)?;
+    }
+    Ok(())
+}
+
+// Whether the replies to the rows, one after another, are those that they name.
+fn are_answered(alloc: Global, rows: &[Row<'_>]) -> Result<bool, NoMemory> {
+    let mut requests = Vec::new(alloc);
+    let mut replies = Vec::new(alloc);
+    for (line, reply) in rows {
+        put_request(&mut requests, line)?;
+        replies.extend_from_slice(reply.as_bytes())?;
+    }
+    let mut out = Vec::new(alloc);
+    let exit = script(alloc, &mut out, &[requests.as_slice()], (0, 0), 1_000)?;
+    Ok(exit == Exit::Done && out.as_slice() == replies.as_slice())
+}
+
+#[test]
+fn the_first_search(rt: HostRuntime) -> Result<(), Fail> {
+    let rows = [
+        ("HSET|d1|t|Hello world", ":1\r\n"),
+        ("FT.CREATE|idx|SCHEMA|t|TEXT", "+OK\r\n"),
+        ("FT.SEARCH|idx|hello|NOCONTENT", "*2\r\n:1\r\n$2\r\nd1\r\n"),
+        ("FT.SEARCH|idx|WORLD|nocontent", "*2\r\n:1\r\n$2\r\nd1\r\n"),
+        ("FT.SEARCH|idx|wor|NOCONTENT", "*1\r\n:0\r\n"),
+        ("FT.SEARCH|iz|hello|NOCONTENT", "-Unknown index name\r\n"),
+        ("FT.CREATE|idx|SCHEMA|t|TEXT", "-Index already exists\r\n"),
+        ("ft.create|Idx|schema|u|text", "+OK\r\n"),
+        ("FT.SEARCH|Idx|hello|NOCONTENT", "*1\r\n:0\r\n"),
+        ("FT.SEARCH|idx|hello world|NOCONTENT", "-ERR not built\r\n"),
+        ("FT.SEARCH|idx|hello", "-ERR not built\r\n"),
+        ("FT.CREATE|iy|SCHEMA|t|TAG", "-ERR not built\r\n"),
+        ("NOPE", "-ERR unknown command\r\n"),
+    ];
+    assert_eq!(rt; are_answered(rt.alloc(), &rows)?, true);
+    Ok(())
+}
+
+#[test]
+fn words_of_a_text(rt: HostRuntime) -> Result<(), Fail> {
+    let rows = [
+        ("FT.CREATE|ix|SCHEMA|t|TEXT", "+OK\r\n"),
+        ("HSET|d1|t|the cat", ":1\r\n"),
+        (
+            "HSET|d2|t|hello\\-world hello-world x_1 caf\u{e9}",
+            ":1\r\n",
+        ),
+        ("FT.SEARCH|ix|the|NOCONTENT", "*1\r\n:0\r\n"),
+        ("FT.SEARCH|ix|cat|NOCONTENT", "*2\r\n:1\r\n$2\r\nd1\r\n"),
+        ("FT.SEARCH|ix|world|NOCONTENT", "*2\r\n:1\r\n$2\r\nd2\r\n"),
+        ("FT.SEARCH|ix|x_1|NOCONTENT", "*2\r\n:1\r\n$2\r\nd2\r\n"),
+        ("FT.SEARCH|ix|x|NOCONTENT", "*1\r\n:0\r\n"),
+        (
+            "FT.SEARCH|ix|caf\u{e9}|NOCONTENT",
+            "*2\r\n:1\r\n$2\r\nd2\r\n",
+        ),
+        ("FT.SEARCH|ix|caf|NOCONTENT", "*1\r\n:0\r\n"),
+        ("HSET|d2|t|gone", ":0\r\n"),
+        ("FT.SEARCH|ix|world|NOCONTENT", "*1\r\n:0\r\n"),
+    ];
+    assert_eq!(rt; are_answered(rt.alloc(), &rows)?, true);
+    Ok(())
+}
+
+#[test]
+fn a_search_gives_the_first_ten(rt: HostRuntime) -> Result<(), Fail> {
+    let mut requests = Vec::new(rt.alloc());
+    put_request(&mut requests, "FT.CREATE|ix|SCHEMA|t|TEXT")?;
+    for key in b'a'..b'l' {
+        put_line(&mut requests, b'*', 4)?;
+        put_word(&mut requests, b"HSET")?;
+        put_word(&mut requests, &[key])?;
+        put_word(&mut requests, b"t")?;
+        put_word(&mut requests, b"x")?;
+    }
+    put_request(&mut requests, "HSET|a|t|x")?;
+    put_request(&mut requests, "FT.SEARCH|ix|x|NOCONTENT")?;
+    let mut out = Vec::new(rt.alloc());
+    let exit = script(rt.alloc(), &mut out, &[requests.as_slice()], (0, 0), 1_000)?;
+    assert_eq!(rt; exit, Exit::Done);
+    let keys =
+        "$1\r\nb\r\n$1\r\nc\r\n$1\r\nd\r\n$1\r\ne\r\n$1\r\nf\r\n$1\r\ng\r\n$1\r\nh\r\n$1\r\ni\r\n$1\r\nj\r\n$1\r\nk\r\n";
+    assert_eq!(rt; out.ends_with(keys.as_bytes()), true);
+    assert_eq!(rt;
+        out.len(),
+        5 + 11 * 4 + 4 + "*11\r\n:11\r\n".len() + keys.len()
+    );
+    Ok(())
+}
+
+#[test]
+fn there_are_256_indexes(rt: HostRuntime) -> Result<(), Fail> {
+    let mut requests = Vec::new(rt.alloc());
+    for number in 0..257usize {
+        put_line(&mut requests, b'*', 5)?;
+        put_word(&mut requests, b"FT.CREATE")?;
+        put_line(&mut requests, b'$', 2)?;
+        requests.extend_from_slice(&[(number / 128) as u8, (number % 128) as u8, 13, 10])?;
+        put_word(&mut requests, b"SCHEMA")?;
+        put_word(&mut requests, b"t")?;
+        put_word(&mut requests, b"TEXT")?;
+    }
+    let mut out = Vec::new(rt.alloc());
+    let exit = script(rt.alloc(), &mut out, &[requests.as_slice()], (0, 0), 5)?;
+    assert_eq!(rt; exit, Exit::Done);
+    assert_eq!(rt; out.len(), 256 * 5 + 19);
+    assert_eq!(rt; out.ends_with(b"+OK\r\n-Too many indexes\r\n"), true);
+    Ok(())
+}
