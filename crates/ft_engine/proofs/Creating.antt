@@ -1,5 +1,5 @@
 -- What a creation gives: the name is taken, there is no room, or the index goes last.
-use Rattle.std.proofs.Common.{◌≡◌, ℕ, ◌≤◌, ◌<◌, Bool, true, false, List, [], ◌∷◌, ◌++◌, length, Option, Some, None, refl, sym, ap, ◌∙◌, arith}
+use Rattle.std.proofs.Common.{◌≡◌, ℕ, Bool, true, false, List, [], ◌∷◌, ◌++◌, length, Option, Some, None, refl, sym, ap, ◌∙◌}
 use Rattle.std.specs.Prelude.{codes, is_some, nat_le}
 use Rattle.std.specs.Borrow.{Bor}
 use Rattle.std.specs.Option.{option_copied}
@@ -7,7 +7,7 @@ use Rattle.ft_base.specs.declared.definition.IndexDef.{IndexDef}
 use Rattle.ft_base.specs.declared.reply.Reply.TheVariants.{Line}
 use Rattle.ft_engine.specs.Definitions.{index_of}
 use Rattle.ft_engine.specs.Machine.{State}
-use Rattle.ft_engine.specs.Step.{Outcome, created, refused, most_indexes}
+use Rattle.ft_engine.specs.Step.{created, refused, most_indexes}
 
 -- whether a name is taken, as a look-up says
 pub known : (old slice : List IndexDef) (name : List ℕ) (index : Option (Bor IndexDef)) (said test : Bool) → slice ≡ old → option_copied index ≡ index_of slice name → said ≡ is_some index → said ≡ test

@@ -4,7 +4,7 @@ use Rattle.std.specs.Prelude.{codes}
 use Rattle.ft_base.specs.Hash.{set_field}
 use Rattle.ft_base.specs.Space.{write}
 use Rattle.ft_base.specs.declared.doc.Doc.{Doc}
-use Rattle.ft_engine.specs.Commands.{SetField, NotBuilt, Unknown, asked}
+use Rattle.ft_engine.specs.Commands.{SetField, CreateText, SearchWord, NotBuilt, Unknown, asked}
 use Rattle.ft_engine.specs.Machine.{at_moment}
 
 -- the words of the examples
@@ -44,6 +44,18 @@ small_list = refl
 -- a name of the table with one more byte is none
 longer_name : asked (codes "HSET1" ∷ key ∷ field ∷ value ∷ []) ≡ Unknown
 longer_name = refl
+
+-- FT.CREATE of one TEXT field, in lower case
+new_index : asked (codes "ft.create" ∷ codes "ix" ∷ codes "schema" ∷ field ∷ codes "text" ∷ []) ≡ CreateText (codes "ix") field
+new_index = refl
+
+-- a query is lowered
+capital_query : asked (codes "FT.SEARCH" ∷ codes "ix" ∷ codes "WORLD" ∷ codes "nocontent" ∷ []) ≡ SearchWord (codes "ix") (codes "world")
+capital_query = refl
+
+-- a query of two words
+query_of_two : asked (codes "FT.SEARCH" ∷ codes "ix" ∷ codes "hello-world" ∷ codes "NOCONTENT" ∷ []) ≡ NotBuilt
+query_of_two = refl
 
 -- an earlier moment counts as the latest one
 earlier_moment : (at_moment 5 (record { space = []; definitions = []; latest = 7 })).latest ≡ 7

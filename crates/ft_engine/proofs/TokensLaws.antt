@@ -1,9 +1,9 @@
 -- How a reader that keeps an open run and goes through a text's units from the front comes to the tokens.
-use Rattle.std.proofs.Common.{◌≡◌, ℕ, ◌+◌, suc, List, [], ◌∷◌, ◌++◌, Bool, true, false, map, length, Option, Some, None, refl, sym, ap, ◌∙◌, append_assoc, length-append, append-nil, add-zero, add-one, if◌then◌else◌, arith}
+use Rattle.std.proofs.Common.{◌≡◌, ℕ, ◌+◌, List, [], ◌∷◌, ◌++◌, map, length, Option, Some, None, refl, sym, ap, append_assoc, length-append, append-nil, add-zero, add-one, arith}
 use Rattle.std.proofs.lemmas.List.{length-map}
 use Rattle.std.specs.Char.{to_ascii_lowercase}
 use Rattle.ft_engine.specs.declared.tokens.Token.{Token}
-use Rattle.ft_engine.specs.Tokens.{units, split, before, lowered, is_stop, numbered, tokens}
+use Rattle.ft_engine.specs.Tokens.{units, split, before, lowered, numbered, tokens}
 use Rattle.ft_engine.specs.TokenValues.{values}
 
 -- the tokens that are still to come where a lowered run is open before these units
@@ -32,26 +32,12 @@ pub coming-some : (stops : List (List ℕ)) (place : ℕ) (run : List ℕ) (b : 
 unfolding coming
 coming-some stops place run b units = sym (rw append_assoc refl)
 
--- a word more is none, or one with the place at hand, and the next has the place behind it
-numbered-word : (stops : List (List ℕ)) (place : ℕ) (word : List ℕ) (words : List (List ℕ))
-    → numbered stops place (word ∷ words)
-    ≡ numbered stops place (word ∷ []) ++ numbered stops (place + length (numbered stops place (word ∷ []))) words
-numbered-word stops place word words =
-    let rest : ℕ → List (ℕ × List ℕ) = λ from. numbered stops from words in
-    let one : List (ℕ × List ℕ) = (place, word) ∷ [] in
-    elim (is_stop stops word)
-    as (λ stop. (if stop then rest place else (place, word) ∷ rest (suc place))
-    ≡ (if stop then [] else one) ++ rest (place + length (if stop then [] else one))) [
-      | true ↦ ap rest (sym (add-zero place))
-      | false ↦ ap (λ from. (place, word) ∷ rest from) (sym (add-one place))
-    ]
-
--- the same of a run before others, where an empty one is none
+-- a run that ends is one word or none, and the words behind it are numbered from the next place
 numbered-before : (stops : List (List ℕ)) (place : ℕ) (run : List ℕ) (runs : List (List ℕ))
     → numbered stops place (before run runs)
     ≡ numbered stops place (before run []) ++ numbered stops (place + length (numbered stops place (before run []))) runs
-numbered-before stops place [] runs = ap (λ from. numbered stops from runs) (sym (add-zero place))
-numbered-before stops place (b ∷ run) runs = numbered-word stops place (b ∷ run) runs
+numbered-before stops place [] runs = grind (arith, add-zero)
+numbered-before stops place (b ∷ run) runs = grind (arith, add-zero, add-one)
 
 -- a separator ends the run
 coming-none : (stops : List (List ℕ)) (place : ℕ) (run : List ℕ) (units : List (Option ℕ))

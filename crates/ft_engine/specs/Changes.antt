@@ -9,7 +9,7 @@ use Rattle.ft_base.specs.declared.reply.Reply.{Reply}
 use Rattle.ft_base.specs.declared.reply.Reply.TheVariants.{Fault}
 use Rattle.ft_engine.specs.Definitions.{text_index, index_of, found}
 use Rattle.ft_engine.specs.Machine.{State}
-use Rattle.ft_engine.specs.Step.{Outcome, hash_in, fresh_fields, created, found_reply, out_of_memory}
+use Rattle.ft_engine.specs.Step.{hash_in, fresh_fields, created, found_reply, out_of_memory}
 use Rattle.ft_engine.specs.Tokens.{lowered}
 
 -- the document with a new id and one field set

@@ -1,5 +1,5 @@
 -- What a search keeps of the documents that it found.
-use Rattle.std.specs.Prelude.{◌≡◌, ℕ, List, length, take, map}
+use Rattle.std.specs.Prelude.{◌≡◌, List, length, take, map}
 use Rattle.ft_base.specs.declared.doc.Doc.{Doc}
 use Rattle.ft_base.specs.declared.reply.Reply.TheVariants.{Bulk}
 use Rattle.ft_engine.specs.declared.search.Page.{Page}

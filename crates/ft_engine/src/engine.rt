@@ -33,7 +33,14 @@ impl Model for Engine {
 
     ghost Value = { Stands };
 
-    ghost view = { λ e. record { state = record { space = e.docs.items; definitions = e.definitions.items; latest = e.latest }; next = e.next } };
+    ghost view = { λ e. record {
+      state = record {
+        space = e.docs.items;
+        definitions = e.definitions.items;
+        latest = e.latest;
+      };
+      next = e.next;
+    } };
 }
 
 impl Engine {

@@ -106,7 +106,8 @@ fn page_of(index: &IndexDef, docs: &[Doc], alloc: Global, word: &[u8]) -> Result
 /// Counts a document, and keeps its key while there is room in the window.
 fn note(page: &mut Page, doc: &Doc) -> Result<(), NoMemory>
     requires { page.old.total < 2 ^ 63 }
-    ensures shown { OnOk result ((docs : List Doc) → Shows docs page.old → Shows (docs ++ doc.now ∷ []) page.new) }
+    ensures shown { OnOk result ((docs : List Doc)
+        → Shows docs page.old → Shows (docs ++ doc.now ∷ []) page.new) }
     ensures total { OnOk result (page.new.total ≡ page.old.total + 1) }
 {
     page.total += 1;

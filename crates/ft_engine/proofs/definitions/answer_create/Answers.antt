@@ -1,10 +1,9 @@
-use Rattle.std.proofs.Common.{◌≡◌, ◌≤◌, ℕ, Bool, true, false, length, List, sym, ap, ◌∙◌, inl, inr, arith}
+use Rattle.std.proofs.Common.{◌≡◌, true, false, length, sym, ap, ◌∙◌, inl, arith}
 use Rattle.std.specs.Prelude.{is_some, nat_le}
 use Rattle.std.proofs.lemmas.Bool.Decides.{nat_tests}
 use Rattle.ft_base.specs.Reply.{spelling}
 use Rattle.ft_engine.specs.Changes.{with_definitions}
 use Rattle.ft_engine.specs.Definitions.{index_of, text_index}
-use Rattle.ft_engine.specs.Machine.{State}
 use Rattle.ft_engine.specs.Step.{Outcome, most_indexes}
 use Rattle.ft_engine.proofs.Creating.{known, created-taken, created-full, created-last}
 use Rattle.ft_engine.proofs.Spellings.{ok_written}

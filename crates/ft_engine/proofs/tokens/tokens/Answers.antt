@@ -1,4 +1,4 @@
-use Rattle.std.proofs.Common.{◌≡◌, ◌∙◌, sym, ap, refl, arith}
+use Rattle.std.proofs.Common.{arith}
 use Rattle.ft_engine.proofs.TokensLaws.{coming-start, coming-end, coming-some, coming-closed}
 use Rattle.ft_engine.proofs.tokens.tokens.Goals as goal
 
