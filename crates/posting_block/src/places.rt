@@ -1,0 +1,69 @@
+//! Where a word stands in a document, as a list of numbers of its own.
+ghost use Rattle.std.specs.Prelude.{◌≡◌, [], ◌∷◌, ◌++◌, IfOk, OnOk, OnErr, length};
+
+use std::alloc::{AllocError as NoMemory, Global};
+use std::marker::Model;
+
+/// The codes of a word's places, `field * 2^32 + place` each. Whoever fills the list keeps them
+/// rising.
+#[derive(Debug, Drop)]
+pub struct ListOfPlaces {
+    codes: Vec<u64>,
+}
+
+impl Model for ListOfPlaces {
+    ghost use Rattle.std.specs.Prelude.{List, ℕ};
+
+    ghost Value = { List ℕ };
+
+    ghost view = { λ l. l.codes.items };
+}
+
+impl ListOfPlaces {
+    /// No places, and no memory taken.
+    pub fn new(alloc: Global) -> ListOfPlaces
+        ensures { result ≡ [] }
+    {
+        ListOfPlaces {
+            codes: Vec::new(alloc),
+        }
+    }
+
+    /// Takes a vector over as it is.
+    pub fn from_vec(codes: Vec<u64>) -> ListOfPlaces
+        ensures { result ≡ codes.items }
+    {
+        ListOfPlaces { codes }
+    }
+
+    /// The number of places.
+    pub fn len(&self) -> usize
+        ensures { result ≡ length self.now }
+    {
+        self.codes.len()
+    }
+
+    /// The codes, lent.
+    pub fn as_slice(&self) -> &[u64]
+        ensures { result.now ≡ self.now }
+    {
+        self.codes.as_slice()
+    }
+
+    /// Adds a place behind the others.
+    pub fn push(&mut self, code: u64) -> Result<(), NoMemory>
+        ensures ok { OnOk result (self.new ≡ self.old ++ code ∷ []) }
+        ensures err { OnErr result (self.new ≡ self.old) }
+    {
+        self.codes.push(code)?;
+        Ok(())
+    }
+
+    /// The same places in memory of their own.
+    pub fn copy(&self) -> Result<ListOfPlaces, NoMemory>
+        ensures { IfOk result (λ copy. copy ≡ self.now) }
+    {
+        let codes = Vec::from_slice(*self.codes.allocator(), self.codes.as_slice())?;
+        Ok(ListOfPlaces { codes })
+    }
+}
