@@ -17,13 +17,19 @@ mod tests;
 use exit::Exit;
 use run::run;
 use std::env;
+use std::io::ErrorKind;
 use std::process::ExitCode;
 use std_link::{StdLink, SystemClock};
 
 fn main(rt: HostRuntime) -> ExitCode {
     let mut words = Vec::new(rt.alloc());
-    let Ok(args) = env::args(&rt) else {
-        return ExitCode::from(Exit::Usage.status());
+    let args = match env::args(&rt) {
+        Ok(args) => args,
+        Err(fault) if matches!(fault.kind(), ErrorKind::OutOfMemory) => {
+            return ExitCode::from(Exit::NoMemory.status());
+        }
+        // A word that is not UTF-8 is of no form.
+        Err(_) => return end(&rt, Exit::Usage),
     };
     for word in args.skip(1) {
         if words.push(word).is_err() {
@@ -36,6 +42,11 @@ fn main(rt: HostRuntime) -> ExitCode {
     let mut link = StdLink::new(rt.stdin(), rt.stdout());
     let mut clock = SystemClock { rt: handle };
     let exit = run(rt.alloc(), words.as_slice(), &mut link, &mut clock);
+    end(&rt, exit)
+}
+
+/// The status of the process, behind the usage line where the words are of no form.
+fn end(rt: &HostRuntime, exit: Exit) -> ExitCode {
     if exit == Exit::Usage {
         let _ = eprintln!(rt; "usage: rsearch script | load SEED DOCS | serve PORT WORKERS");
     }
