@@ -62,7 +62,7 @@ def clauses_of(crate, path):
     found = None
     for source in pathlib.Path("crates", crate, "src").rglob("*.rt"):
         text = source.read_text()
-        for match in re.finditer(rf"\bfn {call}\b(.*?)(?=\n\s*\{{\n|\n\s*\{{\}}|\}};\n)", text, re.S):
+        for match in re.finditer(rf"\bfn {call}\b(.*?)(?=\n\s*\{{\n|\n\s*\{{\}}|\}};\n(?:\n|\}}))", text, re.S):
             found = (found or set()) | set(re.findall(r"\bensures\*? ([a-z_]+) \{", match[1]))
             found |= set(re.findall(r"\brequires ([a-z_]+) \{", match[1]))
             if re.search(r"\bensures\*? \{", match[1]):

@@ -1,9 +1,12 @@
+pub mod AskingLaws
 pub mod Creating
 pub mod Examples
+pub mod FillingLaws
 pub mod HistoryLaws
-pub mod PlaceLaws
-pub mod Searching
+pub mod IndexingLaws
+pub mod ReadingLaws
+pub mod SearchLaws
 pub mod Spellings
 pub mod Stepping
-pub mod TokensLaws
+pub mod WritesLaws
 pub mod Writing

@@ -31,3 +31,7 @@ fault_written first second third text e f g =
 -- the text of a done command, written to an empty buffer
 pub ok_written : (old new : List ℕ) → old ≡ [] → new ≡ old ++ 43 ∷ 79 ∷ 75 ∷ 13 ∷ 10 ∷ [] → new ≡ spelling (Line (codes "OK"))
 ok_written old new e f = f ∙ (ap (λ (t : List ℕ). t ++ 43 ∷ 79 ∷ 75 ∷ 13 ∷ 10 ∷ []) e ∙ sym (spelling-Line (codes "OK")))
+
+-- the answer to PING, likewise
+pub pong_written : (old new : List ℕ) → old ≡ [] → new ≡ old ++ 43 ∷ 80 ∷ 79 ∷ 78 ∷ 71 ∷ 13 ∷ 10 ∷ [] → new ≡ spelling (Line (codes "PONG"))
+pong_written old new e f = f ∙ (ap (λ (t : List ℕ). t ++ 43 ∷ 80 ∷ 79 ∷ 78 ∷ 71 ∷ 13 ∷ 10 ∷ []) e ∙ sym (spelling-Line (codes "PONG")))

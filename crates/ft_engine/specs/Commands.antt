@@ -2,7 +2,8 @@
 use Rattle.std.specs.Prelude.{ℕ, List, [], ◌∷◌, Bool, true, false, Option, Some, None, codes, not, ◌&&◌, if◌then◌else◌}
 use Rattle.std.specs.List.{list_any, list_all}
 use Rattle.std.specs.Str.{str_eq_ignore_ascii_case}
-use Rattle.ft_engine.specs.Tokens.{is_separator, lowered}
+use Rattle.ft_base.specs.Words.{is_quit}
+use Rattle.token_text.specs.Tokens.{is_separator, lowered}
 
 -- A command: its name, and its lawful numbers of words, the name among them.
 pub record CommandRow : Type 0 where
@@ -66,9 +67,12 @@ is_name word name = str_eq_ignore_ascii_case word name
 abbrev pub is_known : List ℕ → Bool
 is_known word = list_any (λ row. is_name word row.name) commands
 
--- What a command asks. Of the table three forms are built today: HSET of one field, FT.CREATE of one TEXT field
--- without options, and FT.SEARCH of one word with NOCONTENT.
+-- What a command asks. Of the table these forms are built today: PING with one word or none, QUIT, HSET of one field,
+-- FT.CREATE of one TEXT field without options, and FT.SEARCH of one word with NOCONTENT.
 pub data Asked : Type 0 where
+  Ping : Asked
+  Say : (message : List ℕ) → Asked
+  Quit : Asked
   SetField : (key field value : List ℕ) → Asked
   CreateText : (index field : List ℕ) → Asked
   SearchWord : (index word : List ℕ) → Asked
@@ -84,6 +88,12 @@ abbrev pub is_one_word : List ℕ → Bool
 is_one_word [] = false
 is_one_word (b ∷ bytes) = list_all (λ c. not (is_separator c)) (b ∷ bytes)
 
+abbrev pub one : List ℕ → Asked
+one name = if is_name name (codes "PING") then Ping else not_built name
+
+abbrev pub two : List ℕ → List ℕ → Asked
+two name second = if is_name name (codes "PING") then Say second else not_built name
+
 abbrev pub four : List ℕ → List ℕ → List ℕ → List ℕ → Asked
 four name second third fourth =
     if is_name name (codes "HSET") then SetField second third fourth
@@ -95,8 +105,14 @@ five name second third fourth fifth =
     if is_name name (codes "FT.CREATE") && (is_name third (codes "SCHEMA") && is_name fifth (codes "TEXT")) then CreateText second fourth
     else not_built name
 
+abbrev pub by_number : List (List ℕ) → Asked
+by_number [] = Unknown
+by_number (name ∷ []) = one name
+by_number (name ∷ second ∷ []) = two name second
+by_number (name ∷ second ∷ third ∷ fourth ∷ []) = four name second third fourth
+by_number (name ∷ second ∷ third ∷ fourth ∷ fifth ∷ []) = five name second third fourth fifth
+by_number (name ∷ _) = not_built name
+
+-- QUIT ends a connection, whatever words are behind it
 abbrev pub asked : List (List ℕ) → Asked
-asked [] = Unknown
-asked (name ∷ second ∷ third ∷ fourth ∷ []) = four name second third fourth
-asked (name ∷ second ∷ third ∷ fourth ∷ fifth ∷ []) = five name second third fourth fifth
-asked (name ∷ _) = not_built name
+asked words = if is_quit words then Quit else by_number words

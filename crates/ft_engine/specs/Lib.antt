@@ -2,11 +2,10 @@ pub mod Asks
 pub mod Changes
 pub mod Commands
 pub mod Definitions
+pub mod Filling
 pub mod History
+pub mod Indexing
 pub mod Machine
 pub mod Pages
-pub mod Places
 pub mod Stands
 pub mod Step
-pub mod TokenValues
-pub mod Tokens

@@ -7,18 +7,15 @@ use Rattle.ft_base.specs.declared.definition.IndexDef.{IndexDef}
 use Rattle.ft_base.specs.declared.doc.Doc.{Doc}
 use Rattle.ft_base.specs.declared.reply.Reply.{Reply}
 use Rattle.ft_base.specs.declared.reply.Reply.TheVariants.{Line, Fault, Number, Bulk, Array}
-use Rattle.ft_engine.specs.Commands.{Asked, SetField, CreateText, SearchWord, NotBuilt, Unknown, asked}
-use Rattle.ft_engine.specs.Definitions.{text_index, index_of, found}
+use Rattle.ft_engine.specs.Commands.{Asked, Ping, Say, Quit, SetField, CreateText, SearchWord, NotBuilt, Unknown, asked}
+use Rattle.ft_engine.specs.Definitions.{text_index, index_of}
+use Rattle.ft_meaning.specs.Meaning.{found}
 use Rattle.ft_engine.specs.Machine.{State, at_moment}
 
 -- a reply, and the state after it
 pub record Outcome : Type 0 where
   pub reply : Reply
   pub after : State
-
--- a command that is refused leaves the state
-abbrev pub refused : List ℕ → State → Outcome
-refused text state = record { reply = Fault text; after = state }
 
 abbrev pub out_of_memory : Reply
 out_of_memory = Fault (codes "OOM out of memory")
@@ -39,46 +36,64 @@ fresh_fields present = Number (if present then pos 0 else pos 1)
 abbrev pub most_indexes : ℕ
 most_indexes = 256
 
--- a new index goes last, if its name is free and there is room
-abbrev pub created : IndexDef → State → Outcome
-created index state =
-    if is_some (index_of state.definitions index.name) then refused (codes "Index already exists") state
-    else (if nat_le most_indexes (length state.definitions) then refused (codes "Too many indexes") state
-    else record { reply = Line (codes "OK"); after = record state { definitions = state.definitions ++ index ∷ [] } })
+-- What creating an index is answered, and the definitions after it: a new one goes last, if its name is free and there
+-- is room.
+abbrev pub created : IndexDef → List IndexDef → Reply × List IndexDef
+created index definitions =
+    if is_some (index_of definitions index.name) then (Fault (codes "Index already exists"), definitions)
+    else (if nat_le most_indexes (length definitions) then (Fault (codes "Too many indexes"), definitions)
+    else (Line (codes "OK"), definitions ++ index ∷ []))
 
--- The number of documents that were found, and the keys of the first ten.
+-- how many keys a search answers at the most
+abbrev pub window : ℕ
+window = 10
+
+-- The number of documents that were found, and the keys of the first.
 abbrev pub found_reply : List Doc → Reply
-found_reply docs = Array (Number (pos (length docs)) ∷ map (λ (doc : Doc). Bulk doc.key) (take 10 docs))
+found_reply docs = Array (Number (pos (length docs)) ∷ map (λ (doc : Doc). Bulk doc.key) (take window docs))
 
-abbrev pub searched : Option IndexDef → List ℕ → State → Outcome
-searched None word state = refused (codes "Unknown index name") state
-searched (Some index) word state = record { reply = found_reply (found index word state.space); after = state }
+-- what a search of an index is answered over these documents, where there is that index
+abbrev pub searched : Option IndexDef → List ℕ → List Doc → Reply
+searched None word docs = Fault (codes "Unknown index name")
+searched (Some index) word docs = found_reply (found index word docs)
+
+abbrev pub answered : Reply → State → Outcome
+answered reply state = record { reply = reply; after = state }
 
 -- What a command gives that asks this.
 abbrev pub outcome : Asked → ℕ → State → Outcome
-outcome Unknown number state = refused (codes "ERR unknown command") state
-outcome NotBuilt number state = refused (codes "ERR not built") state
+outcome Unknown number state = answered (Fault (codes "ERR unknown command")) state
+outcome NotBuilt number state = answered (Fault (codes "ERR not built")) state
+outcome Ping number state = answered (Line (codes "PONG")) state
+outcome (Say message) number state = answered (Bulk message) state
+outcome Quit number state = answered (Line (codes "OK")) state
 outcome (SetField key field value) number state = let hash = hash_of state key in record {
   reply = fresh_fields (is_some (get_field hash field));
   after = record state { space = write state.space key (set_field hash field value) number };
 }
-outcome (CreateText index field) number state = created (text_index index field number) state
-outcome (SearchWord index word) number state = searched (index_of state.definitions index) word state
-
--- One command. Its moment counts first, whatever its reply.
-abbrev pub step : List (List ℕ) → ℕ → ℕ → State → Outcome
-step words number moment state = outcome (asked words) number (at_moment moment state)
+outcome (CreateText index field) number state = let result = created (text_index index field number) state.definitions in record {
+  reply = result.0;
+  after = record state { definitions = result.1 };
+}
+outcome (SearchWord index word) number state = answered (searched (index_of state.definitions index) word state.space) state
 
 -- Whether a command may be answered that memory is wanting. A refusal by the words alone takes none.
 abbrev pub MayWant : Asked → Type 0
 MayWant (SetField key field value) = Unit {0}
 MayWant (CreateText index field) = Unit {0}
 MayWant (SearchWord index word) = Unit {0}
+MayWant (Say message) = Unit {0}
+MayWant Ping = ⊥
+MayWant Quit = ⊥
 MayWant NotBuilt = ⊥
 MayWant Unknown = ⊥
 
--- The reply and the next state are the machine's; or memory was wanting, and nothing but the moment counts.
+-- What was asked was done: the reply and the next state are the machine's; or memory was wanting, and nothing changed.
+abbrev pub Does : Asked → ℕ → State → List ℕ → State → Type 0
+Does asks number old reply new =
+    ((reply ≡ spelling (outcome asks number old).reply) × (new ≡ (outcome asks number old).after))
+    ⊎ (MayWant asks × (reply ≡ spelling out_of_memory) × (new ≡ old))
+
+-- One command. Its moment counts first, whatever its reply.
 abbrev pub Answers : List (List ℕ) → ℕ → ℕ → State → List ℕ → State → Type 0
-Answers words number moment old reply new =
-    ((reply ≡ spelling (step words number moment old).reply) × (new ≡ (step words number moment old).after))
-    ⊎ (MayWant (asked words) × (reply ≡ spelling out_of_memory) × (new ≡ at_moment moment old))
+Answers words number moment old reply new = Does (asked words) number (at_moment moment old) reply new

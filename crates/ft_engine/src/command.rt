@@ -2,14 +2,19 @@
 ghost use Rattle.std.specs.Prelude.{◌≡◌, ◌<◌, length, codes, not};
 ghost use Rattle.std.specs.List.{list_all, list_any};
 ghost use Rattle.ft_engine.specs.Asks.{asked_of};
-ghost use Rattle.ft_engine.specs.Commands.{asked, five, four, is_known, is_name, is_one_word, not_built};
-ghost use Rattle.ft_engine.specs.Tokens.{is_separator};
+ghost use Rattle.ft_engine.specs.Commands.{asked, by_number, five, four, is_known, is_name, is_one_word, not_built, one, two};
+ghost use Rattle.token_text.specs.Tokens.{is_separator};
 
-use crate::units::is_separator;
 use ft_base::Words;
+use token_text::is_separator;
 
 /// What a command asks. The word of a query is as it came, in any case.
 pub enum Command<'a> {
+    Ping,
+    Say {
+        message: &'a [u8],
+    },
+    Quit,
     SetField {
         key: &'a [u8],
         field: &'a [u8],
@@ -32,7 +37,24 @@ pub fn read_command<'a>(words: &Words<'a>) -> Command<'a>
     requires { 0 < length words.now }
     ensures { asked_of result ≡ asked words.now }
 {
+    if words.word(0).eq_ignore_ascii_case(b"QUIT") {
+        return Command::Quit;
+    }
+    by_number(words)
+}
+
+/// A command that is not QUIT.
+fn by_number<'a>(words: &Words<'a>) -> Command<'a>
+    requires { 0 < length words.now }
+    ensures { asked_of result ≡ by_number words.now }
+{
     let name = words.word(0);
+    if words.len() == 1 {
+        return one(name);
+    }
+    if words.len() == 2 {
+        return two(name, words.word(1));
+    }
     if words.len() == 4 {
         return four(name, words.word(1), words.word(2), words.word(3));
     }
@@ -44,6 +66,26 @@ pub fn read_command<'a>(words: &Words<'a>) -> Command<'a>
             words.word(3),
             words.word(4),
         );
+    }
+    not_built(name)
+}
+
+/// A command of one word.
+fn one<'a>(name: &[u8]) -> Command<'a>
+    ensures { asked_of result ≡ one name.now }
+{
+    if name.eq_ignore_ascii_case(b"PING") {
+        return Command::Ping;
+    }
+    not_built(name)
+}
+
+/// A command of two words.
+fn two<'a>(name: &[u8], second: &'a [u8]) -> Command<'a>
+    ensures { asked_of result ≡ two name.now second.now }
+{
+    if name.eq_ignore_ascii_case(b"PING") {
+        return Command::Say { message: second };
     }
     not_built(name)
 }

@@ -1,82 +1,86 @@
-//! The definitions of indexes: looked up by name, and made.
-ghost use Rattle.std.specs.Prelude.{◌≡◌, ◌≤◌, [], ◌∷◌, ◌++◌, map, vec_capacity, IfOk, OnOk, OnErr};
-ghost use Rattle.std.specs.Borrow.{Bor};
-ghost use Rattle.std.specs.List.{find};
-ghost use Rattle.std.specs.Option.{option_copied};
-ghost use Rattle.std.specs.Str.{bytes_eq};
-ghost use Rattle.ft_base.specs.declared.definition.IndexDef.{IndexDef};
+//! The definitions of indexes, and what FT.CREATE does.
+ghost use Rattle.std.specs.Prelude.{◌≡◌, ◌≤◌, ◌+◌, [], ◌∷◌, ◌++◌, map, vec_capacity, IfOk, OnOk, OnErr};
 ghost use Rattle.ft_engine.specs.Changes.{CreatesText};
-ghost use Rattle.ft_engine.specs.Definitions.{default_stops, index_of, text_field, text_index};
+ghost use Rattle.ft_engine.specs.Definitions.{default_stops, text_field, text_index};
+ghost use Rattle.ft_engine.specs.Stands.{InStep, definitions_of};
 
+use crate::filling::fill;
+use crate::indexes::index_named;
 use crate::short_reply::{SHORT_REPLY, put_fault, put_no_memory, put_short};
 use ft_base::{Bytes, Field, FieldKind, IndexDef, ListOf, NoMemory, StopWords};
+use ft_index::FtIndex;
+use hash_store::HashStore;
+use inverted_list::Markers;
 use std::alloc::Global;
 
 /// The most indexes that there may be.
 const MOST_INDEXES: usize = 256;
 
-/// Creates an index of one TEXT field, and writes the reply.
+/// Creates an index of one TEXT field over the documents that are there, and writes the reply.
 pub fn answer_create(
-    definitions: &mut Vec<IndexDef>,
+    store: &mut HashStore,
+    indexes: &mut Vec<FtIndex>,
     alloc: Global,
     serial: u64,
     name: &[u8],
     field: &[u8],
     out: &mut Vec<u8>,
 )
+    requires kept { InStep store.old indexes.old.items serial }
     requires empty { out.old.items ≡ [] }
     requires room { SHORT_REPLY ≤ vec_capacity out.old }
-    ensures outcome { CreatesText definitions.old.items definitions.new.items serial name.now
-        field.now out.new.items }
+    ensures outcome { CreatesText (definitions_of indexes.old.items)
+        (definitions_of indexes.new.items) serial name.now field.now out.new.items }
+    ensures kept { InStep store.new indexes.new.items (serial + 1) }
+    ensures space { store.new.space ≡ store.old.space }
     ensures room { SHORT_REPLY ≤ vec_capacity out.new }
 {
-    if index_of(definitions.as_slice(), name).is_some() {
+    if index_named(indexes.as_slice(), name).is_some() {
         return put_fault(out, b"Index already exists");
     }
-    if MOST_INDEXES <= definitions.len() {
+    if MOST_INDEXES <= indexes.len() {
         return put_fault(out, b"Too many indexes");
     }
-    match add(definitions, alloc, serial, name, field) {
+    match add(store, indexes, alloc, serial, name, field) {
         Ok(()) => put_short(out, b"+OK\r\n"),
         Err(_) => put_no_memory(out),
     }
 }
 
-/// The definition of this name.
-pub fn index_of<'a>(definitions: &'a [IndexDef], name: &[u8]) -> Option<&'a IndexDef>
-    ensures { option_copied result ≡ index_of definitions.now name.now }
-{
-    first_named(definitions, name)
-}
-
-fn first_named<'a>(definitions: &'a [IndexDef], name: &[u8]) -> Option<&'a IndexDef>
-    ensures { option_copied result
-        ≡ find (λ (index : IndexDef). bytes_eq name.now index.name) definitions.now }
-{
-    definitions
-        .iter()
-        .find(|index| name == index.name.as_slice())
-}
-
 /// A new index goes last.
 fn add(
-    definitions: &mut Vec<IndexDef>,
+    store: &mut HashStore,
+    indexes: &mut Vec<FtIndex>,
     alloc: Global,
     serial: u64,
     name: &[u8],
     field: &[u8],
 ) -> Result<(), NoMemory>
-    ensures ok { OnOk result (definitions.new.items
-        ≡ definitions.old.items ++ text_index name.now field.now serial ∷ []) }
-    ensures err { OnErr result (definitions.new.items ≡ definitions.old.items) }
+    requires kept { InStep store.old indexes.old.items serial }
+    ensures ok { OnOk result (definitions_of indexes.new.items
+        ≡ definitions_of indexes.old.items ++ text_index name.now field.now serial ∷ []) }
+    ensures err { OnErr result (definitions_of indexes.new.items ≡ definitions_of indexes.old.items) }
+    ensures kept { InStep store.new indexes.new.items (serial + 1) }
+    ensures space { store.new.space ≡ store.old.space }
 {
-    let index = text_index(alloc, name, field, serial)?;
-    definitions.push(index)?;
+    let def = text_index(alloc, name, field, serial)?;
+    let mut markers = Markers {
+        event: serial,
+        next: 0,
+    };
+    let mut index = FtIndex::new(alloc, def, &mut markers)?;
+    fill(&mut index, store, &mut markers)?;
+    indexes.push(index)?;
     Ok(())
 }
 
 /// An index of one TEXT field over all keys, with the default stop words.
-fn text_index(alloc: Global, name: &[u8], field: &[u8], serial: u64) -> Result<IndexDef, NoMemory>
+pub fn text_index(
+    alloc: Global,
+    name: &[u8],
+    field: &[u8],
+    serial: u64,
+) -> Result<IndexDef, NoMemory>
     ensures { IfOk result (λ index. index ≡ text_index name.now field.now serial) }
 {
     let stops = default_stops(alloc)?;

@@ -1,57 +1,61 @@
 //! The engine: a state of the machine, and the step that a command makes it take.
-ghost use Rattle.std.specs.Prelude.{◌≡◌, ◌<◌, ◌≤◌, ◌+◌, ◌^◌, [], length, vec_capacity, IfOk};
+ghost use Rattle.std.specs.Prelude.{◌≡◌, ◌<◌, ◌≤◌, ◌+◌, ◌^◌, ℕ, [], length, vec_capacity, IfOk};
 ghost use Rattle.ft_base.specs.Words.{KeepsLimits};
 ghost use Rattle.ft_engine.specs.Machine.{empty_state};
-ghost use Rattle.ft_engine.specs.Stands.{Stands};
-ghost use Rattle.ft_engine.specs.Step.{Answers};
+ghost use Rattle.ft_engine.specs.Asks.{ValuesOf, asked_of};
+ghost use Rattle.ft_engine.specs.Stands.{InStep, IsIndexed, Stands, state_of};
+ghost use Rattle.ft_engine.specs.Step.{Answers, Does};
 
 use crate::command::{Command, read_command};
 use crate::definitions::answer_create;
-use crate::hash::answer_set_field;
+use crate::ping::answer_say;
 use crate::search::answer_search;
-use crate::short_reply::put_fault;
-use ft_base::{Doc, IndexDef, NoMemory, Words};
+use crate::short_reply::{SHORT_REPLY, put_fault, put_short};
+use crate::writes::answer_set_field;
+use ft_base::{NoMemory, Words};
+use ft_index::FtIndex;
+use hash_store::HashStore;
 use std::alloc::Global;
 use std::marker::Model;
 
-/// The documents for which a new engine has room.
-const FIRST_DOCS: usize = 64;
-
-/// The state of the server. A contract sees the state of the machine that it stands for, and the
-/// number of the next event.
+/// The state of the server. A contract sees the state of the machine that it stands for, the number
+/// of the next event, and the indexes.
 #[derive(Drop)]
 pub struct Engine {
     alloc: Global,
-    docs: Vec<Doc>,
-    definitions: Vec<IndexDef>,
+    store: HashStore,
+    indexes: Vec<FtIndex>,
     latest: u64,
     next: u64,
 }
 
 impl Model for Engine {
-    ghost use Rattle.ft_engine.specs.Stands.{Stands};
+    ghost use Rattle.ft_engine.specs.Stands.{InStep, Stands, definitions_of};
 
     ghost Value = { Stands };
 
     ghost view = { λ e. record {
       state = record {
-        space = e.docs.items;
-        definitions = e.definitions.items;
+        space = e.store.space;
+        definitions = definitions_of e.indexes.items;
         latest = e.latest;
       };
       next = e.next;
+      indexes = e.indexes.items;
     } };
+
+    ghost invariant = { λ e. InStep e.store e.indexes.items e.next };
 }
 
 impl Engine {
     /// An engine without documents and indexes, whose first event has the number 1.
     pub fn new(alloc: Global) -> Result<Engine, NoMemory>
-        ensures { IfOk result (λ engine. engine ≡ record { state = empty_state; next = 1 }) }
+        ensures { IfOk result (λ engine. engine ≡ record { state = empty_state; next = 1; indexes = [] }) }
     {
         Ok(Engine {
             alloc,
-            docs: Vec::with_capacity(alloc, FIRST_DOCS)?,
-            definitions: Vec::new(alloc),
+            store: HashStore::new(alloc),
+            indexes: Vec::new(alloc),
             latest: 0,
             next: 1,
         })
@@ -69,29 +73,66 @@ impl Engine {
         ensures answer { Answers words.entry self.old.next now self.old.state
             out.new.items self.new.state }
         ensures next { self.new.next ≡ self.old.next + 1 }
+
+        // Each index stands for the documents.
+        ensures indexed { IsIndexed self.new }
         ensures room { 64 ≤ vec_capacity out.new }
     {
         let command = read_command(&words);
         self.latest = self.latest.max(now);
-        let id = self.next;
+        do_step(
+            &mut self.store,
+            &mut self.indexes,
+            self.alloc,
+            self.next,
+            command,
+            out,
+        );
         self.next += 1;
-        match command {
-            Command::SetField { key, field, value } => {
-                answer_set_field(&mut self.docs, self.alloc, id, key, field, value, out)
-            }
-            Command::CreateText { index, field } => {
-                answer_create(&mut self.definitions, self.alloc, id, index, field, out)
-            }
-            Command::SearchWord { index, word } => answer_search(
-                self.definitions.as_slice(),
-                self.docs.as_slice(),
-                self.alloc,
-                index,
-                word,
-                out,
-            ),
-            Command::NotBuilt => put_fault(out, b"ERR not built"),
-            Command::Unknown => put_fault(out, b"ERR unknown command"),
+    }
+}
+
+/// Does what a command asks in an event with this number, and writes the reply.
+fn do_step(
+    store: &mut HashStore,
+    indexes: &mut Vec<FtIndex>,
+    alloc: Global,
+    number: u64,
+    command: Command<'_>,
+    out: &mut Vec<u8>,
+)
+    requires kept { InStep store.old indexes.old.items number }
+    requires number { number < 2 ^ 62 }
+    requires values { ValuesOf (asked_of command) }
+    requires empty { out.old.items ≡ [] }
+    requires room { SHORT_REPLY ≤ vec_capacity out.old }
+    ensures done { (latest : ℕ) → Does (asked_of command.entry) number
+        (state_of store.old indexes.old.items latest) out.new.items
+        (state_of store.new indexes.new.items latest) }
+    ensures kept { InStep store.new indexes.new.items (number + 1) }
+    ensures room { SHORT_REPLY ≤ vec_capacity out.new }
+{
+    match command {
+        Command::Ping => put_short(out, b"+PONG\r\n"),
+        Command::Say { message } => answer_say(alloc, message, out),
+        Command::Quit => put_short(out, b"+OK\r\n"),
+        Command::SetField { key, field, value } => answer_set_field(
+            store,
+            indexes.as_mut_slice(),
+            alloc,
+            number,
+            key,
+            field,
+            value,
+            out,
+        ),
+        Command::CreateText { index, field } => {
+            answer_create(store, indexes, alloc, number, index, field, out)
         }
+        Command::SearchWord { index, word } => {
+            answer_search(indexes.as_slice(), alloc, index, word, out)
+        }
+        Command::NotBuilt => put_fault(out, b"ERR not built"),
+        Command::Unknown => put_fault(out, b"ERR unknown command"),
     }
 }

@@ -7,17 +7,15 @@
 
 mod command;
 mod definitions;
-mod docs;
 mod engine;
-mod hash;
+mod filling;
+mod indexes;
+mod ping;
 mod search;
 mod short_reply;
 #[cfg(test)]
 mod tests;
-#[cfg(test)]
-mod token_tests;
-mod tokens;
-mod units;
+mod writes;
 
 /// The state of the server, and one command executed.
 pub use engine::Engine;

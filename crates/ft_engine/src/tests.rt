@@ -4,6 +4,8 @@
 ghost use Rattle.std.specs.Prelude.{◌≡◌, ◌≤◌, ◌+◌, length, IsTrue, ◌↔◌};
 ghost use Rattle.ft_base.specs.Words.{LieIn};
 
+mod compared;
+
 use crate::Engine;
 use ft_base::{NoMemory, Span, Words};
 use std::alloc::Global;
@@ -14,13 +16,13 @@ const LINE: usize = 100;
 
 /// An engine, and the number of lines that it was asked.
 #[derive(Drop)]
-struct Session {
+pub struct Session {
     engine: Engine,
     asked: u32,
     ghost few: { engine.next ≤ asked + 1 },
 }
 
-fn begin(alloc: Global) -> Result<Session, NoMemory> {
+pub fn begin(alloc: Global) -> Result<Session, NoMemory> {
     Ok(Session {
         engine: Engine::new(alloc)?,
         asked: 0,
@@ -28,7 +30,7 @@ fn begin(alloc: Global) -> Result<Session, NoMemory> {
 }
 
 /// The reply to a line of words with one `|` between each two.
-fn ask(alloc: Global, session: &mut Session, line: &[u8]) -> Result<Vec<u8>, NoMemory> {
+pub fn ask(alloc: Global, session: &mut Session, line: &[u8]) -> Result<Vec<u8>, NoMemory> {
     let mut out = Vec::with_capacity(alloc, 64)?;
     let spans = spans_of(alloc, line)?;
     if lie_in(line, spans.as_slice())
@@ -74,6 +76,11 @@ fn lie_in(bytes: &[u8], spans: &[Span]) -> bool
 fn answers_line_after_line(rt: HostRuntime) -> Result<(), Fail> {
     let mut session = begin(rt.alloc())?;
     for (line, want) in [
+        ("PING", "+PONG\r\n"),
+        ("ping|hello there", "$11\r\nhello there\r\n"),
+        ("PING|", "$0\r\n\r\n"),
+        ("Quit", "+OK\r\n"),
+        ("QUIT|now|then|again|or not", "+OK\r\n"),
         ("FT.SEARCH|ix|hello|NOCONTENT", "-Unknown index name\r\n"),
         ("FT.CREATE|ix|SCHEMA|t|TEXT", "+OK\r\n"),
         ("FT.SEARCH|ix|hello|NOCONTENT", "*1\r\n:0\r\n"),
@@ -112,6 +119,28 @@ fn answers_line_after_line(rt: HostRuntime) -> Result<(), Fail> {
 }
 
 #[test]
+fn finds_a_document_written_three_times_once(rt: HostRuntime) -> Result<(), Fail> {
+    let mut session = begin(rt.alloc())?;
+    for (line, want) in [
+        ("FT.CREATE|ix|SCHEMA|t|TEXT", "+OK\r\n"),
+        ("HSET|d|t|x", ":1\r\n"),
+        ("HSET|d|t|x", ":0\r\n"),
+        ("HSET|d|t|x", ":0\r\n"),
+        ("FT.SEARCH|ix|x|NOCONTENT", "*2\r\n:1\r\n$1\r\nd\r\n"),
+        // An index that is made later finds the same.
+        ("FT.CREATE|iy|SCHEMA|t|TEXT", "+OK\r\n"),
+        ("FT.SEARCH|iy|x|NOCONTENT", "*2\r\n:1\r\n$1\r\nd\r\n"),
+        ("HSET|d|t|y", ":0\r\n"),
+        ("FT.SEARCH|ix|x|NOCONTENT", "*1\r\n:0\r\n"),
+        ("FT.SEARCH|iy|y|NOCONTENT", "*2\r\n:1\r\n$1\r\nd\r\n"),
+    ] {
+        let reply = ask(rt.alloc(), &mut session, line.as_bytes())?;
+        assert_eq!(rt; reply.as_slice(), want.as_bytes(), "at {line}");
+    }
+    Ok(())
+}
+
+#[test]
 fn refuses_by_the_words_alone(rt: HostRuntime) -> Result<(), Fail> {
     let not_built = "-ERR not built\r\n";
     let unknown = "-ERR unknown command\r\n";
@@ -119,7 +148,8 @@ fn refuses_by_the_words_alone(rt: HostRuntime) -> Result<(), Fail> {
         ("HSET|k|f", not_built),
         ("HSET|k|f|v|g", not_built),
         ("HSET|k|f|v|g|w", not_built),
-        ("PING", not_built),
+        ("PING|a|b", not_built),
+        ("QUITE", unknown),
         ("FT._LIST", not_built),
         ("FT.CREATE|ix|SCHEMA|t", not_built),
         ("FT.CREATE|ix|ON|t|TEXT", not_built),

@@ -2,7 +2,9 @@ pub mod AgainLaws
 pub mod FaultLaws
 pub mod MoreLaws
 pub mod Passing
+pub mod ReachedLaws
 pub mod ReadingLaws
 pub mod Standing
+pub mod Staying
 pub mod StreamLaws
 pub mod TakesLaws

@@ -12,6 +12,7 @@ mod decoder;
 mod fault;
 mod laws;
 mod places;
+mod reached;
 mod reading;
 #[cfg(test)]
 mod tests;

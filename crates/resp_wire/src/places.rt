@@ -1,10 +1,11 @@
 //! The readers once more, over places of the whole bytes: a rest becomes the place where it begins,
 //! and a word the span where it lies.
-ghost use Rattle.std.specs.Prelude.{◌≡◌, ◌≤◌, ◌<◌, ◌-◌, [], length, drop, slice_range, pos, ◌<ℤ◌};
+ghost use Rattle.std.specs.Prelude.{◌≡◌, ◌≤◌, ◌<◌, ◌-◌, [], length, drop, slice_range};
 ghost use Rattle.std.specs.Prelude.{vec_capacity, IfOk, IfErr, OnErr, Err};
 ghost use Rattle.std.specs.Result.{IsOkAnd};
 ghost use Rattle.ft_base.specs.Words.{LieIn, words_of};
 ghost use Rattle.resp_wire.specs.Gives.{Gives};
+ghost use Rattle.resp_wire.specs.Reached.{announced};
 ghost use Rattle.resp_wire.specs.Wire.{count_at, word_at, words_at, request_at};
 
 use crate::fault::{Stop, WireFault};
@@ -22,7 +23,7 @@ pub fn count_in(bytes: &[u8], at: usize) -> Result<(i64, usize), Stop>
 }
 
 /// Where the word at a place lies, and where it ends with its line's end.
-fn word_in(bytes: &[u8], at: usize, room: usize) -> Result<(Span, usize), Stop>
+pub fn word_in(bytes: &[u8], at: usize, room: usize) -> Result<(Span, usize), Stop>
     requires { at ≤ length bytes.now }
     ensures found { Gives (λ x. (slice_range bytes.now x.0.from x.0.to, drop x.1 bytes.now))
         result (word_at room (drop at bytes.now)) }
@@ -72,7 +73,7 @@ pub fn request_in(
         r (request_at (drop at bytes.now))) }
     ensures within { IfOk result (λ r. IfOk r (λ next. next ≤ length bytes.now)) }
     ensures many { OnErr result
-        (IsOkAnd (count_at (drop at bytes.now)) (λ count. pos 1_024 <ℤ count.0)) }
+        (IfOk (request_at (drop at bytes.now)) (λ read. 1_024 < length read.0)) }
     ensures none { OnErr result (spans.new.items ≡ []) }
     ensures inside { LieIn bytes.now spans.new.items }
     ensures capacity { 1_024 ≤ vec_capacity spans.new }
@@ -88,14 +89,15 @@ pub fn request_in(
 
 /// How many words the request at a place has, and where the first of them begins.
 #[tactic(auto, unfolding(crate::specs::Wire::request_at, crate::specs::Wire::words_at))]
-fn announced_in(bytes: &[u8], at: usize) -> Result<(usize, usize), Stop>
+pub fn announced_in(bytes: &[u8], at: usize) -> Result<(usize, usize), Stop>
     requires { at ≤ length bytes.now }
     ensures ok { IfOk result (λ x. request_at (drop at bytes.now)
         ≡ words_at x.0 MAX_COMMAND_BYTES (drop x.1 bytes.now)) }
     ensures err { IfErr result (λ stop. request_at (drop at bytes.now) ≡ Err stop) }
     ensures within { IfOk result (λ x. x.1 ≤ length bytes.now) }
-    ensures many { IfOk result (λ x. 1_024 < x.0
-        → IsOkAnd (count_at (drop at bytes.now)) (λ count. pos 1_024 <ℤ count.0)) }
+    ensures number { IfOk result (λ x. x.0 ≤ MAX_WORDS) }
+    ensures line { IfOk result (λ x. IsOkAnd (count_at (drop at bytes.now))
+        (λ line. (announced line.0 ≡ x.0) × (line.1 ≡ drop x.1 bytes.now))) }
 {
     let (count, next) = count_in(bytes, at)?;
     if count < 0 {

@@ -1,3 +1,4 @@
+pub mod EndingLaws
 pub mod FormLaws
+pub mod QuitLaws
 pub mod ServingLaws
-pub mod SessionLaws

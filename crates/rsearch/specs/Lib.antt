@@ -1,5 +1,7 @@
 pub mod Answer
 pub mod Ends
+pub mod FaultText
+pub mod Reading
 pub mod Script
 pub mod Session
 pub mod Status

@@ -1,48 +1,37 @@
--- What the program promises of one stream: what was written is the replies of a legal history of the commands read.
-use Rattle.std.specs.Prelude.{◌≡◌, ℕ, ◌<◌, List, [], ◌∷◌, ◌++◌, map, length}
+-- What the program promises of one connection: what was written is the replies of a legal history of the commands read.
+use Rattle.std.specs.Prelude.{◌≡◌, ℕ, ◌<◌, ◌^◌, List, [], ◌∷◌, ◌++◌, map, length, Bool, false, None}
 use Rattle.std.specs.declared.option.Option.{Option}
 use Rattle.std.specs.Io.KnownBytes.{Appends, Consumes}
-use Rattle.std.specs.List.{All}
+use Rattle.std.specs.List.{All, list_any}
+use Rattle.ft_base.specs.Words.{is_quit}
+use Rattle.fs_ports.specs.declared.clock.Clock as Clock
+use Rattle.fs_ports.specs.declared.link.Link as Link
 use Rattle.fs_ports.specs.Moments.{Gives}
 use Rattle.ft_engine.specs.Machine.{State}
 use Rattle.ft_engine.specs.History.{Entry, IsLegal, replies_of, reply_of, words_of, moment_of, caller_of}
-use Rattle.resp_wire.specs.Stream.{Command, stream_of}
+use Rattle.resp_wire.specs.Stream.{Command, stream_of, fault_of, due}
 
--- These commands were answered, by a legal history of this one caller that begins at number 1 in the empty state, at the
--- moments that the clock gave.
-pub record Answered (commands : List Command) (entries : List Entry) (given given' : Option (List ℕ)) : Type 0 where
+-- whether a QUIT is among the commands
+abbrev pub quits : List Command → Bool
+quits commands = list_any is_quit commands
+
+-- These bytes leave the connection open: no QUIT is among their commands, and they have no fault of the wire.
+pub record IsOpen (input : List ℕ) : Type 0 where
+  pub no_quit : quits (stream_of input).commands ≡ false
+  pub no_fault : fault_of input ≡ None
+
+-- They leave it open, and more may be read.
+pub record WantsMore (input : List ℕ) : Type 0 where
+  pub is_open : IsOpen input
+  pub few : length input < 2 ^ 40
+
+-- Commands were answered so: by a legal history of this one caller that begins at number 1 in the empty state, at the
+-- moments that the clock gave, in order.
+pub record Answered (entries : List Entry) (given given' : Option (List ℕ)) : Type 0 where
   pub after : State
   pub legal : IsLegal 1 entries after
   pub alone : All (λ (entry : Entry). caller_of entry ≡ 0) entries
-  pub words : map words_of entries ≡ commands
   pub moments : Gives given given' (map moment_of entries)
-
--- All commands were answered, and their replies were written.
-pub record AllWritten (commands : List Command) (given given' written written' : Option (List ℕ)) : Type 0 where
-  pub entries : List Entry
-  pub answered : Answered commands entries given given'
-  pub bytes : Appends written written' (replies_of entries)
-
--- The first of the commands were answered, and their replies were written.
-pub record FirstWritten (commands : List Command) (given given' written written' : Option (List ℕ)) : Type 0 where
-  pub first : List Command
-  pub others : List Command
-  pub whole : commands ≡ first ++ others
-  pub written_first : AllWritten first given given' written written'
-
--- The first of the commands were answered, and their replies were written, but of the last one's only a front.
-pub record LastCut (commands : List Command) (given given' written written' : Option (List ℕ)) : Type 0 where
-  pub first : List Command
-  pub others : List Command
-  pub whole : commands ≡ first ++ others
-  pub entries : List Entry
-  pub last : Entry
-  pub answered : Answered first (entries ++ last ∷ []) given given'
-  pub front : List ℕ
-  pub back : List ℕ
-  pub reply : reply_of last ≡ front ++ back
-  pub cut : 0 < length back
-  pub bytes : Appends written written' (replies_of entries ++ front)
 
 -- What a link and a clock tell at one moment.
 pub record Outside : Type 0 where
@@ -52,18 +41,39 @@ pub record Outside : Type 0 where
   pub write_faults : ℕ
   pub given : Option (List ℕ)
 
--- This input was read, all its commands were answered and the replies written; this rest of it is no whole request.
-pub record Served (input rest : List ℕ) (before after : Outside) : Type 0 where
-  pub read : Consumes before.left after.left input
-  pub rest_is : (stream_of input).rest ≡ rest
-  pub all : AllWritten (stream_of input).commands before.given after.given before.written after.written
+-- what these tell now
+abbrev pub told : {L C : Type 0} → Link.Ghosts L → Clock.Ghosts C → L → C → Outside
+told port watch link clock = record {
+  left = port.left link;
+  written = port.written link;
+  read_faults = port.read_faults link;
+  write_faults = port.write_faults link;
+  given = watch.given clock;
+}
 
--- This input was read, and a reply was not written whole.
-pub record ServedInPart (input : List ℕ) (before after : Outside) : Type 0 where
+-- These bytes were read, and the commands that are due but for these last ones were answered. What was written is the
+-- replies, and this text behind them.
+pub record Served (input : List ℕ) (others : List Command) (text : List ℕ) (before after : Outside) : Type 0 where
+  pub entries : List Entry
   pub read : Consumes before.left after.left input
-  pub part : LastCut (stream_of input).commands before.given after.given before.written after.written
+  pub due_are : due input ≡ map words_of entries ++ others
+  pub answered : Answered entries before.given after.given
+  pub written : Appends before.written after.written (replies_of entries ++ text)
 
--- This input was read, and memory was wanting before all its commands were answered.
-pub record ServedFirst (input : List ℕ) (before after : Outside) : Type 0 where
+-- the first bytes of a piece, but not all of it
+pub record IsCut (front piece : List ℕ) : Type 0 where
+  pub back : List ℕ
+  pub whole : piece ≡ front ++ back
+  pub proper : 0 < length back
+
+-- Of the reply to the last command that was answered only a front was written, and all before it whole.
+pub record ReplyCut (input : List ℕ) (before after : Outside) : Type 0 where
+  pub entries : List Entry
+  pub last : Entry
+  pub others : List Command
+  pub front : List ℕ
   pub read : Consumes before.left after.left input
-  pub first : FirstWritten (stream_of input).commands before.given after.given before.written after.written
+  pub due_are : due input ≡ map words_of (entries ++ last ∷ []) ++ others
+  pub answered : Answered (entries ++ last ∷ []) before.given after.given
+  pub cut : IsCut front (reply_of last)
+  pub written : Appends before.written after.written (replies_of entries ++ front)

@@ -2,14 +2,15 @@
 //!
 //! `main` only makes the real things and calls `run`, which is generic over the link and the clock and
 //! carries the promise of the whole: what is written is the replies of a legal history of the commands
-//! read. Read `specs/Session.antt` and `run.rt` first, then `serving.rt`.
+//! read. Read `specs/Session.antt`, `specs/Ends.antt` and `run.rt` first, then `connection.rt`.
 #![tactic(auto)]
 
+mod connection;
 mod exit;
+mod fault_text;
 mod form;
 mod input;
 mod run;
-mod serving;
 mod std_link;
 #[cfg(test)]
 mod tests;

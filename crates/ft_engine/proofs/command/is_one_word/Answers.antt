@@ -2,7 +2,7 @@ use Rattle.std.proofs.Common.{◌≡◌, ◌<◌, ℕ, Bool, List, [], ◌∷◌
 use Rattle.std.proofs.lemmas.Grind.{common_steps}
 use Rattle.std.specs.List.{list_all}
 use Rattle.ft_engine.specs.Commands.{is_one_word}
-use Rattle.ft_engine.specs.Tokens.{is_separator}
+use Rattle.token_text.specs.Tokens.{is_separator}
 use Rattle.ft_engine.proofs.command.is_one_word.Goals as goal
 
 -- a query with a byte is one word where each byte is of words

@@ -1,11 +1,15 @@
-use Rattle.std.proofs.Common.{◌≤◌, take}
-use Rattle.ft_engine.specs.Definitions.{found}
-use Rattle.ft_engine.specs.Pages.{Shows}
+use Rattle.std.specs.Prelude.{◌≤◌, ◌^◌, length}
+use Rattle.inverted_list.specs.Places.{IsSound}
+use Rattle.ft_engine.proofs.ReadingLaws.{Reading, past}
 use Rattle.ft_engine.proofs.search.page_of.Given as goal
 
--- the page shows what was found among the documents so far
-abbrev pub invariant-loop-doc : goal.invariant-loop-doc
-invariant-loop-doc l = record {
-  shown : Shows (found l.index l.word (take l.doc-index l.docs)) l.page;
-  few : l.page.total ≤ l.doc-index;
+-- the page shows the live keys of the entries so far
+abbrev pub invariant-reading : goal.invariant-reading
+invariant-reading g l = record {
+  sound : IsSound l.place l.list;
+  reading : Reading l.table.live l.list.entries l.place.last l.page;
+  small : l.place.last ≤ 2 ^ 62;
 }
+
+abbrev pub decreases-reading : goal.decreases-reading
+decreases-reading g l = length (past l.place.last l.list.entries)

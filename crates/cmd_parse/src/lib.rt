@@ -1,0 +1,18 @@
+//! What a command asks, from its words alone.
+//!
+//! One table names every command with its lawful numbers of words. Where the name and the number
+//! are right the words are judged from the left, and the first fault is answered. Nothing here takes
+//! memory: what is read is lent from the words.
+//! Read first `specs/Commands.antt`, which has the table, then `specs/Read.antt` and `read.rt`.
+#![tactic(auto)]
+
+mod command;
+mod read;
+mod table;
+#[cfg(test)]
+mod tests;
+
+/// What a command asks, and why it asks nothing.
+pub use command::{CmdFault, Command, Verb};
+/// Reads a command.
+pub use read::read_command;

@@ -1,0 +1,124 @@
+//! A command from its words, in the order of refusals: an unknown name, a form that is not built,
+//! a wrong number of words, and the first fault of the words from the left.
+ghost use Rattle.std.specs.Prelude.{◌≡◌, ◌<◌, ◌+◌, length, drop, not, IfOk};
+ghost use Rattle.std.specs.List.{list_all};
+ghost use Rattle.cmd_parse.specs.Lawful.{IsLawful, LawfulNumber};
+ghost use Rattle.cmd_parse.specs.Read.{asked_of, command_of, create_text, first_fault, is_flush_word, is_one_word, plain, read, search_word, select_fault};
+ghost use Rattle.ft_base.specs.Number.{int_of};
+ghost use Rattle.token_text.specs.Tokens.{is_separator};
+
+use crate::command::{CmdFault, Command, Verb};
+use crate::table::{Form, form_of, is_name};
+use ft_base::{Words, read_int};
+use token_text::is_separator;
+
+/// Reads a command. It takes no memory, and copies no word.
+pub fn read_command<'a>(words: Words<'a>) -> Result<Command<'a>, CmdFault>
+    requires { 0 < length words }
+    ensures exact { asked_of result ≡ read words.entry }
+    ensures lawful { IfOk result (λ command. IsLawful words.entry (command_of command)) }
+{
+    let Some(form) = form_of(words.word(0)) else {
+        return Err(CmdFault::Unknown);
+    };
+    let count = words.len();
+    match form {
+        Form::Between(verb, least, most) if least <= count && count <= most => plain(verb, &words),
+        Form::AtLeast(verb, least) if least <= count => plain(verb, &words),
+        Form::InPairs(verb, least) if least <= count && count % 2 == 0 => plain(verb, &words),
+        Form::Between(..) | Form::AtLeast(..) | Form::InPairs(..) => Err(CmdFault::Arity),
+        Form::Create => create_text(&words),
+        Form::Search => search_word(&words),
+        Form::Unbuilt => Err(CmdFault::NotBuilt),
+    }
+}
+
+/// A plain command of a lawful number of words.
+fn plain<'a>(verb: Verb, words: &Words<'a>) -> Result<Command<'a>, CmdFault>
+    requires some { 0 < length words.now }
+    requires number { LawfulNumber verb (length (drop 1 words.now)) }
+    ensures exact { asked_of result ≡ plain verb (drop 1 words.now) }
+    ensures lawful { IfOk result (λ command. IsLawful words.now (command_of command)) }
+{
+    let args = words.rest(1);
+    match first_fault(verb, &args) {
+        Some(fault) => Err(fault),
+        None => Ok(Command::Plain { verb, args }),
+    }
+}
+
+/// The first fault among the arguments of a plain command.
+fn first_fault(verb: Verb, args: &Words<'_>) -> Option<CmdFault>
+    requires { LawfulNumber verb (length args.now) }
+    ensures { result ≡ first_fault verb args.now }
+{
+    match verb {
+        Verb::Select => select_fault(args.word(0)),
+        Verb::Hincrby if read_int(args.word(2)).is_none() => Some(CmdFault::NotInteger),
+        Verb::Flushall if args.len() == 1 && !is_flush_word(args.word(0)) => {
+            Some(CmdFault::Syntax { at: 1 })
+        }
+        _ => None,
+    }
+}
+
+/// The fault of SELECT's word, which has to be 0.
+fn select_fault(index: &[u8]) -> Option<CmdFault>
+    ensures { result ≡ select_fault (int_of index.now) }
+{
+    match read_int(index) {
+        None => Some(CmdFault::NotInteger),
+        Some(index) if index != 0 => Some(CmdFault::BadDb),
+        Some(_) => None,
+    }
+}
+
+/// Whether a word is one that FLUSHALL may have behind it.
+fn is_flush_word(word: &[u8]) -> bool
+    ensures { result ≡ is_flush_word word.now }
+{
+    is_name(word, b"ASYNC") || is_name(word, b"SYNC")
+}
+
+/// FT.CREATE, of which one TEXT field without options is built.
+fn create_text<'a>(words: &Words<'a>) -> Result<Command<'a>, CmdFault>
+    requires { 0 < length words.now }
+    ensures exact { asked_of result ≡ create_text (drop 1 words.now) }
+    ensures lawful { IfOk result (λ command. IsLawful words.now (command_of command)) }
+{
+    if words.len() == 5 && is_name(words.word(2), b"SCHEMA") && is_name(words.word(4), b"TEXT") {
+        return Ok(Command::CreateText {
+            index: words.word(1),
+            field: words.word(3),
+        });
+    }
+    Err(CmdFault::NotBuilt)
+}
+
+/// FT.SEARCH, of which one word with NOCONTENT is built.
+fn search_word<'a>(words: &Words<'a>) -> Result<Command<'a>, CmdFault>
+    requires { 0 < length words.now }
+    ensures exact { asked_of result ≡ search_word (drop 1 words.now) }
+    ensures lawful { IfOk result (λ command. IsLawful words.now (command_of command)) }
+{
+    if words.len() == 4 && is_name(words.word(3), b"NOCONTENT") && is_one_word(words.word(2)) {
+        return Ok(Command::SearchWord {
+            index: words.word(1),
+            word: words.word(2),
+        });
+    }
+    Err(CmdFault::NotBuilt)
+}
+
+/// Whether a query is one word: bytes of words alone, and at least one.
+fn is_one_word(query: &[u8]) -> bool
+    ensures { result ≡ is_one_word query.now }
+{
+    !query.is_empty() && has_no_separator(query)
+}
+
+fn has_no_separator(bytes: &[u8]) -> bool
+    ensures { result ≡ list_all (λ b. not (is_separator b)) bytes.now }
+{
+    bytes.iter().all(|byte| !is_separator(*byte))
+}

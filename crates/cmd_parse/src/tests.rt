@@ -1,0 +1,186 @@
+//! Against mistakes that the check would pass: a table that says something else than Redis does of a
+//! name or a number of words, and conditions that nobody can meet.
+ghost use Rattle.std.specs.Prelude.{◌↔◌, IsTrue};
+ghost use Rattle.ft_base.specs.Words.{LieIn};
+
+use crate::{Command, read_command};
+use ft_base::{NoMemory, Span, Words};
+use std::alloc::Global;
+use std::test::Fail;
+
+/// What a line asks, whose words have one `|` between each two.
+fn asked(alloc: Global, line: &str) -> Result<String, NoMemory> {
+    let spans = spans_of(alloc, line.as_bytes())?;
+    if spans.is_empty() || !lie_in(line.as_bytes(), spans.as_slice()) {
+        return Ok(String::new(alloc));
+    }
+    match read_command(Words::new(line.as_bytes(), spans.as_slice())) {
+        Ok(command) => shown(alloc, &command),
+        Err(fault) => format!(in alloc; "{fault:?}"),
+    }
+}
+
+fn shown(alloc: Global, command: &Command<'_>) -> Result<String, NoMemory> {
+    let mut out = String::new(alloc);
+    match command {
+        Command::Plain { verb, args } => {
+            out = format!(in alloc; "{verb:?}")?;
+            for i in 0..args.len() {
+                put(&mut out, args.word(i))?;
+            }
+        }
+        Command::CreateText { index, field } => {
+            out.push_str("create")?;
+            put(&mut out, index)?;
+            put(&mut out, field)?;
+        }
+        Command::SearchWord { index, word } => {
+            out.push_str("search")?;
+            put(&mut out, index)?;
+            put(&mut out, word)?;
+        }
+    }
+    Ok(out)
+}
+
+fn put(out: &mut String, word: &[u8]) -> Result<(), NoMemory> {
+    out.push('|')?;
+    out.push_str(std::str::from_utf8(word).unwrap_or("?"))
+}
+
+fn spans_of(alloc: Global, line: &[u8]) -> Result<Vec<Span>, NoMemory> {
+    let mut spans = Vec::new(alloc);
+    let mut from = 0;
+    for to in 0..line.len() {
+        if line[to] == b'|' {
+            spans.push(Span { from, to })?;
+            from = to + 1;
+        }
+    }
+    spans.push(Span {
+        from,
+        to: line.len(),
+    })?;
+    Ok(spans)
+}
+
+fn lie_in(bytes: &[u8], spans: &[Span]) -> bool
+    ensures { IsTrue result ↔ LieIn bytes.now spans.now }
+{
+    spans
+        .iter()
+        .all(|span| span.from <= span.to && span.to <= bytes.len())
+}
+
+// Of each command, which of the lines with one word to six are read as it: `+`, and `-` where the
+// number of words is wrong.
+#[test]
+fn takes_lawful_numbers_of_words(rt: HostRuntime) -> Result<(), Fail> {
+    for (name, verb, taken) in [
+        ("ping", "Ping", "++----"),
+        ("Echo", "Echo", "-+----"),
+        ("SELECT", "Select", "-+----"),
+        ("quit", "Quit", "++++++"),
+        ("HSET", "Hset", "---+-+"),
+        ("hsetNX", "Hsetnx", "---+--"),
+        ("HGET", "Hget", "--+---"),
+        ("HMGET", "Hmget", "--++++"),
+        ("hgetall", "Hgetall", "-+----"),
+        ("HDEL", "Hdel", "--++++"),
+        ("HLEN", "Hlen", "-+----"),
+        ("hexists", "Hexists", "--+---"),
+        ("HINCRBY", "Hincrby", "---+--"),
+        ("HKEYS", "Hkeys", "-+----"),
+        ("hvals", "Hvals", "-+----"),
+        ("DEL", "Del", "-+++++"),
+        ("exists", "Exists", "-+++++"),
+        ("TYPE", "TypeOf", "-+----"),
+        ("DbSize", "Dbsize", "+-----"),
+        ("RENAME", "Rename", "--+---"),
+    ] {
+        let mut line = format!(in rt.alloc(); "{name}")?;
+        let mut want = format!(in rt.alloc(); "{verb}")?;
+        for mark in taken.chars() {
+            let asked = asked(rt.alloc(), line.as_str())?;
+            let wanted = if mark == '+' { want.as_str() } else { "Arity" };
+            assert_eq!(rt; asked.as_str(), wanted, "at {line}");
+            line.push_str("|0")?;
+            want.push_str("|0")?;
+        }
+    }
+    Ok(())
+}
+
+#[test]
+fn finds_the_first_fault(rt: HostRuntime) -> Result<(), Fail> {
+    for (line, want) in [
+        // Names that are none.
+        ("", "Unknown"),
+        ("|k", "Unknown"),
+        ("NOPE|k|f", "Unknown"),
+        ("HGETS|k|f", "Unknown"),
+        ("HGE|k|f", "Unknown"),
+        ("FT.SEARCHES", "Unknown"),
+        ("FT.", "Unknown"),
+        // SELECT.
+        ("select|0", "Select|0"),
+        ("SELECT|1", "BadDb"),
+        ("SELECT|-1", "BadDb"),
+        ("SELECT|+0", "NotInteger"),
+        ("SELECT|-0", "NotInteger"),
+        ("SELECT|00", "NotInteger"),
+        ("SELECT|", "NotInteger"),
+        ("SELECT|x", "NotInteger"),
+        ("SELECT|9223372036854775807", "BadDb"),
+        ("SELECT|9223372036854775808", "NotInteger"),
+        // HINCRBY.
+        ("hincrby|k|f|-5", "Hincrby|k|f|-5"),
+        ("HINCRBY|k|f|+5", "NotInteger"),
+        ("HINCRBY|k|f|05", "NotInteger"),
+        ("HINCRBY|k|f|-0", "NotInteger"),
+        ("HINCRBY|k|f|", "NotInteger"),
+        (
+            "HINCRBY|x|y|9223372036854775807",
+            "Hincrby|x|y|9223372036854775807",
+        ),
+        ("HINCRBY|k|f|9223372036854775808", "NotInteger"),
+        ("HINCRBY|k|f|x|y", "Arity"),
+        // FLUSHALL.
+        ("flushall", "Flushall"),
+        ("FLUSHALL|async", "Flushall|async"),
+        ("FlushAll|Sync", "Flushall|Sync"),
+        ("FLUSHALL|now", "Syntax { at: 1 }"),
+        ("FLUSHALL|", "Syntax { at: 1 }"),
+        ("FLUSHALL|now|x", "Arity"),
+        // Commands of indexes.
+        ("FT.CREATE|ix|SCHEMA|t|TEXT", "create|ix|t"),
+        ("ft.create|IX|schema|T|Text", "create|IX|T"),
+        ("FT.CREATE", "NotBuilt"),
+        ("FT.CREATE|ix|SCHEMA|t", "NotBuilt"),
+        ("FT.CREATE|ix|ON|t|TEXT", "NotBuilt"),
+        ("FT.CREATE|ix|SCHEMA|t|TAG", "NotBuilt"),
+        ("FT.CREATE|ix|SCHEMA|t|TEXT|SORTABLE", "NotBuilt"),
+        ("FT.SEARCH|ix|World|NOCONTENT", "search|ix|World"),
+        (
+            "ft.search|ix|caf\u{e9}_1|nocontent",
+            "search|ix|caf\u{e9}_1",
+        ),
+        ("FT.SEARCH|ix|hello", "NotBuilt"),
+        ("FT.SEARCH|ix||NOCONTENT", "NotBuilt"),
+        ("FT.SEARCH|ix|hello-world|NOCONTENT", "NotBuilt"),
+        ("FT.SEARCH|ix|hello|VERBATIM", "NotBuilt"),
+        ("FT.SEARCH|ix|hello|NOCONTENT|VERBATIM", "NotBuilt"),
+        ("ft.alter", "NotBuilt"),
+        ("FT.DROPINDEX", "NotBuilt"),
+        ("ft._list|x|y", "NotBuilt"),
+        ("FT.INFO|ix", "NotBuilt"),
+        ("FT.TAGVALS", "NotBuilt"),
+        ("FT.AGGREGATE|ix", "NotBuilt"),
+        ("FT.CURSOR", "NotBuilt"),
+        ("FT.DEBUG", "NotBuilt"),
+    ] {
+        let asked = asked(rt.alloc(), line)?;
+        assert_eq!(rt; asked.as_str(), want, "at {line}");
+    }
+    Ok(())
+}

@@ -1,0 +1,242 @@
+-- A document that is written: the space, and what each index stands for.
+use Rattle.std.specs.Prelude.{◌≡◌, ◌<◌, ◌≤◌, ◌+◌, ℕ, Bool, true, false, cond, not, List, [], ◌∷◌, ◌++◌, zero, suc, Option, None, Some, IfSome, length, map, nat_eq, slice_index_or, refl}
+use Rattle.std.proofs.Common.{sym, ap, ◌∙◌, subst, inl, inr, arith}
+use Rattle.std.specs.List.{All}
+use Rattle.std.specs.Map.{remove_entry}
+use Rattle.std.specs.Option.{option_map}
+use Rattle.std.specs.Str.{bytes_eq}
+use Rattle.std.proofs.lemmas.Bool.{cases_Bool}
+use Rattle.std.proofs.lemmas.List.{map-append}
+use Rattle.std.proofs.lemmas.List.Elements.{All-map, All-append, All-cons, All-filter, All-head, All-nil, All-tail, filter-append}
+use Rattle.ft_base.specs.Hash.{Hash, set_field}
+use Rattle.ft_base.specs.Space.{doc_of, erase, write}
+use Rattle.ft_base.specs.declared.doc.Doc.{Doc}
+use Rattle.ft_base.specs.declared.limits.TheConstants.{MAX_WORD_BYTES}
+use Rattle.ft_engine.specs.Step.{hash_in}
+use Rattle.ft_engine.specs.Indexing.{Awaits, settled}
+use Rattle.ft_engine.specs.Stands.{AreWritten, IndexStands, InStep, definitions_of, markers_at}
+use Rattle.ft_index.proofs.IndexLaws.{gone, index-committed, index-gone, last-push, last-removed, rises-push, rises-removed}
+use Rattle.ft_index.proofs.LiveLaws.{above-no, below-no, last_id-low, row_of, rows-without, same-yes, without-below}
+use Rattle.ft_index.specs.Index.{AreBefore, Index, Indexes, IsIndex, commits, committed}
+use Rattle.ft_index.specs.Live.{without}
+use Rattle.ft_meaning.specs.Meaning.{ValuesFit}
+use Rattle.hash_store.specs.Store.{Store}
+use Rattle.inverted_list.specs.Listing.{RisesAbove, last_id}
+use Rattle.inverted_list.specs.declared.marker.Markers.{Markers}
+use Rattle.ft_engine.proofs.IndexingLaws.{are_before-later, stands-later}
+
+-- the documents but that of an id, where there is an id
+abbrev pub kept : Option ℕ → List Doc → List Doc
+kept None docs = docs
+kept (Some id) docs = without id docs
+
+-- the id of a key's document
+abbrev pub id_of : List Doc → List ℕ → Option ℕ
+id_of docs key = option_map (λ (doc : Doc). doc.id) (doc_of docs key)
+
+found-above : (low : ℕ) (docs : List Doc) (key : List ℕ) (found : Doc) → RisesAbove low (map row_of docs) → doc_of docs key ≡ Some found → low < found.id
+found-above low [] key found rises there = cc (there)
+found-above low (doc ∷ docs) key found rises there = by_test (bytes_eq key doc.key) there (found-above doc.id docs key found rises.1)
+  where
+    by_test : (here : Bool) → cond here (Some doc) (doc_of docs key) ≡ Some found → (doc_of docs key ≡ Some found → doc.id < found.id) → low < found.id
+    by_test true there later = let same : doc ≡ found = cc (there) in subst (λ (d : Doc). low < d.id) same rises.0
+    by_test false there later = omega (arith, rises.0, later there)
+
+others-kept : (docs : List Doc) (doc : Doc) (key : List ℕ) (found : Option Doc) → RisesAbove doc.id (map row_of docs) → doc_of docs key ≡ found
+    → doc ∷ kept (option_map (λ (d : Doc). d.id) found) docs ≡ kept (option_map (λ (d : Doc). d.id) found) (doc ∷ docs)
+others-kept docs doc key None rises is = refl
+others-kept docs doc key (Some found) rises is =
+    let later : doc.id < found.id = found-above doc.id docs key found rises is in
+    rw (above-no found.id doc.id later) refl
+
+-- what is taken out by its key is taken out by its id
+pub erase-kept : (low : ℕ) (docs : List Doc) (key : List ℕ) → RisesAbove low (map row_of docs) → erase docs key ≡ kept (id_of docs key) docs
+erase-kept low [] key rises = refl
+erase-kept low (doc ∷ docs) key rises =
+    by_test (bytes_eq key doc.key) (ap (λ rest. doc ∷ rest) (erase-kept doc.id docs key rises.1) ∙ others-kept docs doc key (doc_of docs key) rises.1 refl)
+  where
+    by_test : (here : Bool) → doc ∷ erase docs key ≡ kept (id_of docs key) (doc ∷ docs)
+        → cond here docs (doc ∷ erase docs key) ≡ kept (option_map (λ (d : Doc). d.id) (cond here (Some doc) (doc_of docs key))) (doc ∷ docs)
+    by_test true others = rw (same-yes doc.id) (sym (without-below doc.id doc.id docs rises.1 (omega arith)))
+    by_test false others = others
+
+-- a row taken out, where there is one
+abbrev pub kept_rows : Option ℕ → List (ℕ × List ℕ) → List (ℕ × List ℕ)
+kept_rows None rows = rows
+kept_rows (Some id) rows = remove_entry (nat_eq id) rows
+
+rows-kept : (replaced : Option ℕ) (docs : List Doc) → RisesAbove 0 (map row_of docs) → map row_of (kept replaced docs) ≡ kept_rows replaced (map row_of docs)
+rows-kept None docs rises = refl
+rows-kept (Some id) docs rises = sym (rows-without 0 id docs rises)
+
+kept_rows-rise : (replaced : Option ℕ) (rows : List (ℕ × List ℕ)) → RisesAbove 0 rows → RisesAbove 0 (kept_rows replaced rows)
+kept_rows-rise None rows rises = rises
+kept_rows-rise (Some id) rows rises = rises-removed 0 id rows rises
+
+kept_rows-end : (replaced : Option ℕ) (rows : List (ℕ × List ℕ)) → RisesAbove 0 rows → last_id 0 (kept_rows replaced rows) ≤ last_id 0 rows
+kept_rows-end None rows rises = omega arith
+kept_rows-end (Some id) rows rises = last-removed 0 id rows rises
+
+kept-fit : (replaced : Option ℕ) (docs : List Doc) → All (λ (doc : Doc). ValuesFit doc.hash) docs → All (λ (doc : Doc). ValuesFit doc.hash) (kept replaced docs)
+kept-fit None docs fit = fit
+kept-fit (Some id) docs fit = All-filter (λ (doc : Doc). not (nat_eq id doc.id)) (λ (doc : Doc). ValuesFit doc.hash) docs fit
+
+one-fits : (doc : Doc) → ValuesFit doc.hash → All (λ (doc : Doc). ValuesFit doc.hash) (doc ∷ [])
+one-fits doc fits zero d short = fits
+one-fits doc fits (suc k) d short = absurd (omega (arith, short))
+
+-- the documents once one of them is written
+pub space-written : (docs : List Doc) (doc : Doc) → AreWritten docs doc.id → ValuesFit doc.hash → AreWritten (kept (id_of docs doc.key) docs ++ doc ∷ []) (doc.id + 1)
+space-written docs doc written fits =
+    let replaced = id_of docs doc.key in
+    let rows : map row_of (kept replaced docs ++ doc ∷ []) ≡ kept_rows replaced (map row_of docs) ++ row_of doc ∷ [] =
+    map-append row_of (kept replaced docs) (doc ∷ []) ∙ ap (λ rows. rows ++ row_of doc ∷ []) (rows-kept replaced docs written.rise) in
+    let end : last_id 0 (kept_rows replaced (map row_of docs)) < doc.id = omega (arith, kept_rows-end replaced (map row_of docs) written.rise, written.earlier) in
+    record {
+      rise = subst (RisesAbove 0) (sym rows) (rises-push 0 (row_of doc) (kept_rows replaced (map row_of docs)) (kept_rows-rise replaced (map row_of docs) written.rise) end);
+      earlier = subst (λ (rows : List (ℕ × List ℕ)). last_id 0 rows < doc.id + 1) (sym rows) (rw (last-push 0 (row_of doc) (kept_rows replaced (map row_of docs))) (omega arith));
+      fit = All-append (λ (doc : Doc). ValuesFit doc.hash) (kept replaced docs) (doc ∷ []) (kept-fit replaced docs written.fit) (one-fits doc fits);
+    }
+
+-- where nothing is written, the documents are still of earlier events
+pub space-later : (docs : List Doc) (next : ℕ) → AreWritten docs next → AreWritten docs (next + 1)
+space-later docs next written = record { rise = written.rise; earlier = omega (arith, written.earlier); fit = written.fit }
+
+not-later : (replaced : Option ℕ) (docs : List Doc) (doc : Doc) → IfSome replaced (λ id. id < doc.id) → kept replaced (docs ++ doc ∷ []) ≡ kept replaced docs ++ doc ∷ []
+not-later None docs doc earlier = refl
+not-later (Some id) docs doc earlier =
+    filter-append (λ (d : Doc). not (nat_eq id d.id)) docs (doc ∷ []) ∙ rw (below-no id doc.id earlier) refl
+
+found-earlier : (low last : ℕ) (docs : List Doc) (key : List ℕ) → RisesAbove low (map row_of docs) → last_id low (map row_of docs) < last → IfSome (id_of docs key) (λ id. id < last)
+found-earlier low last [] key rises earlier = tt
+found-earlier low last (doc ∷ docs) key rises earlier = by_test (bytes_eq key doc.key) (found-earlier doc.id last docs key rises.1 earlier)
+  where
+    by_test : (here : Bool) → IfSome (id_of docs key) (λ id. id < last) → IfSome (option_map (λ (d : Doc). d.id) (cond here (Some doc) (doc_of docs key))) (λ id. id < last)
+    by_test true later = omega (arith, last_id-low doc.id (map row_of docs) rises.1, earlier)
+    by_test false later = later
+
+-- An index that a document waits in stands for the written space once it is settled.
+pub index-settled : (docs : List Doc) (doc : Doc) (replaced : Option ℕ) (markers : Markers) (index : Index) → IfSome replaced (λ id. id < doc.id) → markers.event ≡ doc.id
+    → IndexStands docs (doc.id + 1) markers index → Awaits docs doc index → IndexStands (kept replaced docs ++ doc ∷ []) (doc.id + 1) (markers_at (doc.id + 1)) (settled replaced index)
+index-settled docs doc replaced markers index earlier event stands awaits = record {
+  documents = documents replaced earlier;
+  sound = sound replaced;
+  earlier = rw (settled-last replaced) stands.earlier;
+  before = before replaced;
+}
+  where
+    whole : IsIndex (committed index)
+    whole = index-committed index.def index.table index.terms stands.sound
+
+    documents : (replaced : Option ℕ) → IfSome replaced (λ id. id < doc.id) → Indexes (settled replaced index) (kept replaced docs ++ doc ∷ [])
+    documents None earlier = awaits.seen
+    documents (Some id) earlier =
+        subst (Indexes (settled (Some id) index)) (not-later (Some id) docs doc earlier) (gone (committed index) (settled (Some id) index) id (docs ++ doc ∷ []) refl refl refl whole awaits.seen)
+
+    sound : (replaced : Option ℕ) → IsIndex (settled replaced index)
+    sound None = whole
+    sound (Some id) = index-gone index.def (committed index).table index.terms id whole
+
+    commits-last : (ready : Option (ℕ × List ℕ)) → (commits ready index.table).last ≡ index.table.last
+    commits-last None = refl
+    commits-last (Some row) = refl
+
+    settled-last : (replaced : Option ℕ) → (settled replaced index).table.last ≡ index.table.last
+    settled-last None = commits-last index.table.ready
+    settled-last (Some id) = commits-last index.table.ready
+
+    later : AreBefore (markers_at (doc.id + 1)) index.terms
+    later = are_before-later markers (markers_at (doc.id + 1)) index.terms (inl (omega (arith, event))) stands.before
+
+    before : (replaced : Option ℕ) → AreBefore (markers_at (doc.id + 1)) (settled replaced index).terms
+    before None = later
+    before (Some id) = later
+
+-- All of them do.
+pub in_step-written : (store : Store) (docs : List Doc) (doc : Doc) (replaced : Option ℕ) (markers : Markers) (indexes : List Index) → store.space ≡ write docs doc.key doc.hash doc.id → store.last < doc.id + 1
+    → replaced ≡ id_of docs doc.key → AreWritten docs doc.id → ValuesFit doc.hash → markers.event ≡ doc.id → All (IndexStands docs (doc.id + 1) markers) indexes → All (Awaits docs doc) indexes
+    → InStep store (map (settled replaced) indexes) (doc.id + 1)
+in_step-written store docs doc replaced markers indexes space last same written fits event stand waits =
+    let whole : store.space ≡ kept replaced docs ++ doc ∷ [] = space ∙ (ap (λ rest. rest ++ doc ∷ []) (erase-kept 0 docs doc.key written.rise) ∙ ap (λ (r : Option ℕ). kept r docs ++ doc ∷ []) (sym same)) in
+    let earlier : IfSome replaced (λ id. id < doc.id) = subst (λ (r : Option ℕ). IfSome r (λ id. id < doc.id)) (sym same) (found-earlier 0 doc.id docs doc.key written.rise written.earlier) in
+    let documents : AreWritten (kept replaced docs ++ doc ∷ []) (doc.id + 1) = subst (λ (r : Option ℕ). AreWritten (kept r docs ++ doc ∷ []) (doc.id + 1)) (sym same) (space-written docs doc written fits) in
+    record {
+      last = last;
+      documents = subst (λ (space : List Doc). AreWritten space (doc.id + 1)) (sym whole) documents;
+      stand = subst (λ (space : List Doc). All (IndexStands space (doc.id + 1) (markers_at (doc.id + 1))) (map (settled replaced) indexes)) (sym whole)
+          (All-map (IndexStands (kept replaced docs ++ doc ∷ []) (doc.id + 1) (markers_at (doc.id + 1))) (settled replaced) indexes
+          (λ k d short. index-settled docs doc replaced markers (slice_index_or indexes k d) earlier event (stand k d short) (waits k d short)));
+    }
+
+-- Where nothing is written, each index stands for what it stood for.
+pub in_step-unwritten : (store : Store) (docs : List Doc) (id : ℕ) (markers : Markers) (indexes : List Index) → store.space ≡ docs → store.last < id + 1 → AreWritten docs id
+    → markers.event ≡ id → All (IndexStands docs (id + 1) markers) indexes → InStep store indexes (id + 1)
+in_step-unwritten store docs id markers indexes same last written event stand = record {
+  last = last;
+  documents = subst (λ (space : List Doc). AreWritten space (id + 1)) (sym same) (space-later docs id written);
+  stand = subst (λ (space : List Doc). All (IndexStands space (id + 1) (markers_at (id + 1))) indexes) (sym same)
+      (λ k d short. stands-later docs (id + 1) (id + 1) markers (markers_at (id + 1)) (slice_index_or indexes k d) (omega arith) (inl (omega (arith, event))) (stand k d short));
+}
+
+-- a command that touches neither documents nor indexes
+pub in_step-later : (store : Store) (indexes : List Index) (id : ℕ) → InStep store indexes id → InStep store indexes (id + 1)
+in_step-later store indexes id step = record {
+  last = omega (arith, step.last);
+  documents = space-later store.space id step.documents;
+  stand = λ k d short. stands-later store.space id (id + 1) (markers_at id) (markers_at (id + 1)) (slice_index_or indexes k d) (omega arith) (inl (omega arith)) (step.stand k d short);
+}
+
+-- what is settled keeps its definition
+pub definitions-settled : (replaced : Option ℕ) (indexes : List Index) → definitions_of (map (settled replaced) indexes) ≡ definitions_of indexes
+definitions-settled replaced [] = refl
+definitions-settled replaced (index ∷ indexes) = by_case replaced (definitions-settled replaced indexes)
+  where
+    by_case : (replaced : Option ℕ) → definitions_of (map (settled replaced) indexes) ≡ definitions_of indexes → definitions_of (map (settled replaced) (index ∷ indexes)) ≡ definitions_of (index ∷ indexes)
+    by_case None others = ap (λ rest. index.def ∷ rest) others
+    by_case (Some id) others = ap (λ rest. index.def ∷ rest) others
+
+abbrev fits_in : List ℕ × List ℕ → Type 0
+fits_in field = length field.1 ≤ MAX_WORD_BYTES
+
+-- a field that is set is there, and fits where its value does
+pub set-filled : (hash : Hash) (field value : List ℕ) → 0 < length (set_field hash field value)
+set-filled [] field value = omega arith
+set-filled (pair ∷ hash) field value = elim (cases_Bool (bytes_eq field pair.0)) [ inl y ↦ rw y (omega arith) | inr n ↦ rw n (omega arith) ]
+
+pub set-fits : (hash : Hash) (field value : List ℕ) → ValuesFit hash → length value ≤ MAX_WORD_BYTES → ValuesFit (set_field hash field value)
+set-fits [] field value fit fits = All-cons fits_in (field, value) [] fits fit
+set-fits (pair ∷ hash) field value fit fits =
+    let rest = All-tail fits_in pair hash fit in
+    elim (cases_Bool (bytes_eq field pair.0)) [
+      | inl y ↦ rw y (All-cons fits_in (pair.0, value) hash fits rest)
+      | inr n ↦ rw n (All-cons fits_in pair (set_field hash field value) (All-head fits_in pair hash fit) (set-fits hash field value rest fits))
+    ]
+
+pub found-fits : (docs : List Doc) (key : List ℕ) → All (λ (doc : Doc). ValuesFit doc.hash) docs → ValuesFit (hash_in (doc_of docs key))
+found-fits [] key fit = λ k d short. absurd (omega (arith, short))
+found-fits (doc ∷ docs) key fit = by_test (bytes_eq key doc.key) (found-fits docs key (All-tail (λ (doc : Doc). ValuesFit doc.hash) doc docs fit))
+  where
+    by_test : (here : Bool) → ValuesFit (hash_in (doc_of docs key)) → ValuesFit (hash_in (cond here (Some doc) (doc_of docs key)))
+    by_test true later = All-head (λ (doc : Doc). ValuesFit doc.hash) doc docs fit
+    by_test false later = later
+
+-- a store that holds the same documents is in step too
+pub in_step-same : (old new : Store) (indexes : List Index) (id : ℕ) → new.space ≡ old.space → new.last ≡ old.last → InStep old indexes id → InStep new indexes id
+in_step-same old new indexes id space last step = record {
+  last = subst (λ n. n < id) (sym last) step.last;
+  documents = subst (λ (docs : List Doc). AreWritten docs id) (sym space) step.documents;
+  stand = subst (λ (docs : List Doc). All (IndexStands docs id (markers_at id)) indexes) (sym space) step.stand;
+}
+
+-- an index more that stands for the documents
+pub in_step-more : (store : Store) (indexes : List Index) (index : Index) (id : ℕ) (markers : Markers) → InStep store indexes id → markers.event ≡ id → IndexStands store.space markers.event markers index
+    → InStep store (indexes ++ index ∷ []) (id + 1)
+in_step-more store indexes index id markers step event stands =
+    let P : Index → Type 0 = IndexStands store.space (id + 1) (markers_at (id + 1)) in
+    let later = in_step-later store indexes id step in
+    let here : P index = stands-later store.space markers.event (id + 1) markers (markers_at (id + 1)) index (omega (arith, event)) (inl (omega (arith, event))) stands in
+    record {
+      last = later.last;
+      documents = later.documents;
+      stand = All-append P indexes (index ∷ []) later.stand (All-cons P index [] here (All-nil P));
+    }

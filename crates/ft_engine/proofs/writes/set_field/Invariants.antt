@@ -1,0 +1,5 @@
+use Rattle.ft_engine.proofs.writes.set_field.Given as goal
+
+-- the documents of the store
+abbrev pub ghost-write : goal.ghost-write
+ghost-write a = a.store.now.space

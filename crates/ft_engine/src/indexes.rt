@@ -1,0 +1,66 @@
+//! What a write does to every index: postings first, liveness last.
+ghost use Rattle.std.specs.Prelude.{◌≡◌, ◌+◌, ℕ, List, Some, map, OnOk};
+ghost use Rattle.std.specs.List.{All, find};
+ghost use Rattle.std.specs.Option.{option_copied, option_map};
+ghost use Rattle.std.specs.Str.{bytes_eq};
+ghost use Rattle.ft_base.specs.declared.doc.Doc.{Doc};
+ghost use Rattle.ft_engine.specs.Indexing.{Awaits, settled};
+ghost use Rattle.ft_engine.specs.Stands.{IndexStands, definitions_of};
+ghost use Rattle.ft_index.specs.Index.{Index};
+ghost use Rattle.ft_meaning.specs.Meaning.{ValuesFit};
+
+use ft_base::{Doc, NoMemory};
+use ft_index::{FtIndex, Ready};
+use inverted_list::Markers;
+
+/// The index of a name.
+pub fn index_named<'a>(indexes: &'a [FtIndex], name: &[u8]) -> Option<&'a FtIndex>
+    ensures { option_copied result
+        ≡ find (λ (index : Index). bytes_eq name.now index.def.name) indexes.now }
+{
+    indexes
+        .iter()
+        .find(|index| name == index.def().name.as_slice())
+}
+
+/// Puts a document's postings into each index, where nothing sees them yet. Where memory is wanting,
+/// some indexes may have them.
+pub fn prepare_all(
+    indexes: &mut [FtIndex],
+    doc: &Doc,
+    markers: &mut Markers,
+) -> Result<(), NoMemory>
+    ghost space: { List Doc }
+    requires stand { All (IndexStands space doc.now.id markers.old) indexes.old }
+    requires values { ValuesFit doc.now.hash }
+    ensures stand { All (IndexStands space (doc.now.id + 1) markers.new) indexes.new }
+    ensures definitions { definitions_of indexes.new ≡ definitions_of indexes.old }
+    ensures waits { OnOk result (All (Awaits space doc.now) indexes.new) }
+    ensures event { markers.new.event ≡ markers.old.event }
+{
+    for index in indexes.iter_mut() {
+        index.prepare(doc, markers)?;
+    }
+    Ok(())
+}
+
+/// Makes the document that waits in each index live, and takes the one out that it replaces. It
+/// takes no memory.
+pub fn commit_all(indexes: &mut [FtIndex], id: u64, replaced: Option<u64>)
+    requires { All (λ (index : Index). option_map (λ row. row.0) index.table.ready ≡ Some id) indexes.old }
+    ensures { indexes.new ≡ map (settled replaced) indexes.old }
+{
+    for index in indexes.iter_mut() {
+        settle(index, id, replaced);
+    }
+}
+
+fn settle(index: &mut FtIndex, id: u64, replaced: Option<u64>)
+    requires { option_map (λ row. row.0) index.old.table.ready ≡ Some id }
+    ensures { index.new ≡ settled replaced index.old }
+{
+    index.commit(Ready { id });
+    if let Some(old) = replaced {
+        index.kill(old);
+    }
+}

@@ -1,0 +1,7 @@
+pub mod AddingLaws
+pub mod CollectedLaws
+pub mod FoundLaws
+pub mod HitsLaws
+pub mod IndexLaws
+pub mod LiveLaws
+pub mod TermsLaws

@@ -1,0 +1,4 @@
+pub mod Collected
+pub mod Hits
+pub mod Index
+pub mod Live

@@ -1,0 +1,17 @@
+//! One index: which documents are live, and for each word the list of where it stands.
+//!
+//! A document goes in under the number of the event that wrote it. Its postings go into the lists
+//! while it is not live yet, which may want memory; then it is made live, which wants none. A document
+//! that is written again gets a new id: the old id is killed, and what it left in the lists is dead.
+//! So a list may hold entries that no search may answer, and whoever reads one asks what is live.
+//! Read first `specs/Hits.antt` and `specs/Index.antt`, then `index.rt`.
+#![tactic(auto)]
+
+mod adding;
+mod index;
+mod occurrences;
+#[cfg(test)]
+mod tests;
+
+/// One index.
+pub use index::{FtIndex, Ready};

@@ -1,0 +1,46 @@
+-- What a query finds (RediSearch, dialect 2), document by document and from the plain hashes alone.
+use Rattle.std.specs.Prelude.{ℕ, ◌≤◌, List, [], length, Bool, true, false, ◌&&◌, not, Option, Some, None, filter, if◌then◌else◌}
+use Rattle.std.specs.List.{All, list_any}
+use Rattle.std.specs.Str.{bytes_eq}
+use Rattle.ft_base.specs.Hash.{Hash, get_field}
+use Rattle.ft_base.specs.declared.definition.Field.{Field}
+use Rattle.ft_base.specs.declared.definition.FieldKind.{FieldKind}
+use Rattle.ft_base.specs.declared.definition.FieldKind.TheVariants.{Text, Tag, Numeric}
+use Rattle.ft_base.specs.declared.definition.IndexDef.{IndexDef}
+use Rattle.ft_base.specs.declared.doc.Doc.{Doc}
+use Rattle.ft_base.specs.declared.limits.TheConstants.{MAX_WORD_BYTES}
+use Rattle.token_text.specs.Tokens.{tokens}
+use Rattle.token_text.specs.declared.token.Token.{Token}
+
+-- each value of a hash came as a word of a command
+abbrev pub ValuesFit : Hash → Type 0
+ValuesFit hash = All (λ (field : List ℕ × List ℕ). length field.1 ≤ MAX_WORD_BYTES) hash
+
+abbrev pub is_text : FieldKind → Bool
+is_text Text = true
+is_text (Tag separator case) = false
+is_text Numeric = false
+
+-- whether a field's words are found: it is TEXT, and not NOINDEX
+abbrev pub has_words : Field → Bool
+has_words field = is_text field.kind && not field.noindex
+
+abbrev pub value_tokens : List (List ℕ) → Option (List ℕ) → List Token
+value_tokens stops None = []
+value_tokens stops (Some value) = tokens value stops
+
+-- the tokens of a document's field, where its words are found
+abbrev pub field_tokens : IndexDef → Doc → Field → List Token
+field_tokens def doc field = if has_words field then value_tokens def.stops.words (get_field doc.hash field.name) else []
+
+-- whether a word is among tokens
+abbrev pub has_word : List ℕ → List Token → Bool
+has_word word found = list_any (λ (token : Token). bytes_eq word token.word) found
+
+-- Whether a word is among the tokens of some field of a document.
+abbrev pub holds_word : IndexDef → List ℕ → Doc → Bool
+holds_word def word doc = list_any (λ (field : Field). has_word word (field_tokens def doc field)) def.fields
+
+-- The documents that a word finds, in order of ids. Each document is a member: no definition of today has a prefix.
+abbrev pub found : IndexDef → List ℕ → List Doc → List Doc
+found def word docs = filter (holds_word def word) docs

@@ -1,0 +1,183 @@
+//! Two maps: ids by key, and documents by id, of which the last may wait to be committed.
+ghost use Rattle.std.specs.Prelude.{◌≡◌, ◌<◌, [], None, Some, length, map, find, nat_eq, nat_lt, IfOk, IfSome, OnOk, OnErr};
+ghost use Rattle.std.specs.Borrow.{sem};
+ghost use Rattle.std.specs.Option.{option_copied, option_map};
+ghost use Rattle.std.specs.Str.{bytes_eq};
+ghost use Rattle.std.specs.List.{All, IsDistinct};
+ghost use Rattle.std.specs.List.Sorted.{IsStrictlyIncreasing};
+ghost use Rattle.ft_base.specs.Space.{doc_of, write, erase};
+ghost use Rattle.hash_store.specs.Store.{after_read};
+
+use crate::by_id::{DocRows, live_after, live_doc, take_out};
+use crate::by_key::{KeyIds, id_of};
+use crate::rows;
+use crate::rows::{add_rows, drop_waiting, lead_nowhere, lead_to};
+use ft_base::{Doc, NoMemory};
+use std::alloc::Global;
+use std::collections::BTreeMap;
+use std::marker::Model;
+
+/// The documents, each found by its key and by its id, and one that was prepared.
+#[derive(Drop)]
+pub struct HashStore {
+    alloc: Global,
+    ids: KeyIds,
+    docs: DocRows,
+    // The id of the row that still waits to be committed.
+    pending: Option<u64>,
+    last: u64,
+    reads: u64,
+}
+
+impl Model for HashStore {
+    ghost use Rattle.hash_store.specs.Store.{Store};
+
+    ghost Value = { Store };
+
+    ghost use Rattle.hash_store.specs.Rows.{store_of};
+    ghost use Rattle.hash_store.specs.Maps.{IsStore};
+
+    ghost view = { λ s. store_of s.pending s.last s.reads s.docs.entries };
+
+    ghost invariant = { λ s. IsStore s.pending s.last s.docs.entries s.ids.entries };
+}
+
+/// That a document is ready in the store that made this. A contract sees the document's id.
+#[derive(Drop)]
+pub struct ReadyPut {
+    id: u64,
+}
+
+impl Model for ReadyPut {
+    ghost use Rattle.std.specs.Prelude.{ℕ};
+
+    ghost Value = { ℕ };
+
+    ghost view = { λ put. put.id };
+}
+
+impl HashStore {
+    ghost use Rattle.hash_store.specs.Reading.{EndsAs};
+
+    /// A store without documents, and no memory taken.
+    pub fn new(alloc: Global) -> HashStore
+        ensures { result ≡ record { space = []; reads = 0; ready = None; last = 0 } }
+    {
+        HashStore {
+            alloc,
+            ids: BTreeMap::new(alloc),
+            docs: BTreeMap::new(alloc),
+            pending: None,
+            last: 0,
+            reads: 0,
+        }
+    }
+
+    /// The document of a key.
+    pub fn get(&mut self, key: &[u8]) -> Option<&Doc>
+        ensures* counts { sem 𝓛 (EndsAs self.entry (after_read (doc_of self.old.space key.now) self.old)) }
+        ensures found { option_copied result ≡ doc_of self.old.space key.now }
+    {
+        let doc = rows::doc_of(&self.ids, &self.docs, key)?;
+        self.reads = self.reads.saturating_add(1);
+        Some(doc)
+    }
+
+    /// The document with the least id above one.
+    pub fn by_id_after(&mut self, id: u64) -> Option<&Doc>
+        ensures* counts { sem 𝓛 (EndsAs self.entry (after_read (find (λ doc. nat_lt id doc.id) self.old.space) self.old)) }
+        ensures found { option_copied result ≡ find (λ doc. nat_lt id doc.id) self.old.space }
+    {
+        let doc = live_after(&self.docs, self.pending, id)?;
+        self.reads = self.reads.saturating_add(1);
+        Some(doc)
+    }
+
+    /// The document of an id.
+    pub fn get_by_id(&mut self, id: u64) -> Option<&Doc>
+        ensures* counts { sem 𝓛 (EndsAs self.entry (after_read (find (λ doc. nat_eq id doc.id) self.old.space) self.old)) }
+        ensures found { option_copied result ≡ find (λ doc. nat_eq id doc.id) self.old.space }
+    {
+        let doc = live_doc(&self.docs, self.pending, id)?;
+        self.reads = self.reads.saturating_add(1);
+        Some(doc)
+    }
+
+    /// The id of the key's document, which is not read.
+    pub fn has(&self, key: &[u8]) -> Option<u64>
+        ensures { result ≡ option_map (λ doc. doc.id) (doc_of self.now.space key.now) }
+    {
+        id_of(&self.ids, key)
+    }
+
+    /// The number of documents.
+    pub fn len(&self) -> usize
+        ensures len { result ≡ length self.now.space }
+        ensures rises { IsStrictlyIncreasing (map (λ doc. doc.id) self.now.space) }
+        ensures distinct { IsDistinct bytes_eq (map (λ doc. doc.key) self.now.space) }
+        ensures filled { All (λ doc. 0 < length doc.hash) self.now.space }
+    {
+        self.docs.len() - usize::from(self.pending.is_some())
+    }
+
+    /// How many documents were handed out.
+    pub fn reads(&self) -> u64
+        ensures { result ≡ self.now.reads }
+    {
+        self.reads
+    }
+
+    /// Makes room for a document, which nothing shows yet. One that was prepared before and never
+    /// committed is gone.
+    pub fn prepare_put(&mut self, doc: Doc) -> Result<ReadyPut, NoMemory>
+        requires rising { self.old.last < doc.id }
+        requires filled { 0 < length doc.hash }
+        ensures ok { OnOk result (self.new ≡ record self.old { ready = Some doc; last = doc.id }) }
+        ensures put { IfOk result (λ put. put ≡ doc.id) }
+        ensures err { OnErr result (self.new ≡ self.old) }
+    {
+        let id = doc.id;
+        add_rows(self.alloc, &mut self.ids, &mut self.docs, doc)?;
+        // What was abandoned goes only now, so that want of memory leaves all as it was.
+        drop_waiting(&mut self.ids, &mut self.docs, self.pending, id);
+        self.pending = Some(id);
+        self.last = id;
+        Ok(ReadyPut { id })
+    }
+
+    /// Writes the document that was prepared last, and answers the id of the one that it replaced.
+    /// It takes no memory.
+    pub fn commit_put(&mut self, ready: ReadyPut) -> Option<u64>
+        requires last_prepared { option_map (λ doc. doc.id) self.old.ready ≡ Some ready }
+        ensures replaced { IfSome self.old.ready
+            (λ doc. result ≡ option_map (λ old. old.id) (doc_of self.old.space doc.key)) }
+        ensures written { IfSome self.old.ready
+            (λ doc. self.new ≡ record self.old { space = write self.old.space doc.key doc.hash doc.id; ready = None }) }
+    {
+        let old = lead_to(&mut self.ids, &self.docs, ready.id);
+        take_out(&mut self.docs, old);
+        self.pending = None;
+        old
+    }
+
+    /// Takes the key's document out, and answers its id. One that is prepared stays so. It takes no
+    /// memory.
+    pub fn erase(&mut self, key: &[u8]) -> Option<u64>
+        ensures was { result ≡ option_map (λ doc. doc.id) (doc_of self.old.space key.now) }
+        ensures gone { self.new ≡ record self.old { space = erase self.old.space key.now } }
+    {
+        let id = id_of(&self.ids, key)?;
+        self.docs.remove(&id);
+        lead_nowhere(&mut self.ids, &self.docs, self.pending, key);
+        Some(id)
+    }
+
+    /// Takes all documents out, and one that is prepared. It takes no memory.
+    pub fn clear(&mut self)
+        ensures { self.new ≡ record self.old { space = []; ready = None } }
+    {
+        self.ids.clear();
+        self.docs.clear();
+        self.pending = None;
+    }
+}

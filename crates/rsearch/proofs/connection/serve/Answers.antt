@@ -1,0 +1,103 @@
+use Rattle.std.proofs.Common.{◌≡◌, length, refl, ap, arith, rules, true, false}
+use Rattle.ft_base.specs.Words.{is_quit}
+use Rattle.rsearch.specs.Session.{Outside, told}
+use Rattle.rsearch.proofs.ServingLaws.{begins, goes_by, waits, reads_on, same_stream}
+use Rattle.rsearch.proofs.EndingLaws.{ends_reading, ends_long, ends_faulty, ends_text_cut, ends_reply_cut, ends_at_quit}
+use Rattle.rsearch.proofs.connection.serve.Goals as goal
+
+pub serving-init : goal.serving-init
+serving-init g c = record {
+  going = rw c.requires.engine (begins c.args.room.decoder _ (ap (λ d. d.taken) c.requires.decoder) (ap (λ d. d.left) c.requires.decoder));
+  counted = rw c.requires.decoder refl;
+  few = omega arith;
+  room = c.requires.reply;
+  buffer = omega (arith, c.requires.input, ap length c.as_mut_slice-input.ensures.value);
+}
+
+pub returns-in_default : goal.returns-in_default
+returns-in_default g c =
+    let before : Outside = told g.L.Link g.C.Clock c.args.link.now c.args.clock.now in
+    let now : Outside = told g.L.Link g.C.Clock c.serving.link c.serving.clock in
+    let after : Outside = told g.L.Link g.C.Clock c.answer.new.link c.answer.new.clock in
+    ends_reply_cut c.serving.decoder c.take.new.self c.serving.engine c.answer.new.engine before now after c.take.new.self.words c.answer.new.out.items c.serving.invariant.going c.answer.ensures.answer
+    (c.in-Words.ensures.words refl) (c.in-Words.ensures.limits refl) (omega (arith, c.serving.invariant.going.next, c.serving.invariant.going.few, c.serving.invariant.counted, c.serving.invariant.few)) (c.in-Words.ensures.command refl) c.answer.ensures.left
+    c.in_default.ensures.cut c.in_default.ensures.cause.failed
+
+pub returns-then-quit : goal.returns-then-quit
+returns-then-quit g c =
+    let before : Outside = told g.L.Link g.C.Clock c.args.link.now c.args.clock.now in
+    let now : Outside = told g.L.Link g.C.Clock c.serving.link c.serving.clock in
+    let after : Outside = told g.L.Link g.C.Clock c.answer.new.link c.answer.new.clock in
+    let quit : is_quit c.take.new.self.words ≡ true = cc in
+    ends_at_quit c.serving.decoder c.take.new.self c.serving.engine c.answer.new.engine before now after c.take.new.self.words c.answer.new.out.items c.serving.invariant.going c.answer.ensures.answer
+    (c.in-Words.ensures.words refl) (c.in-Words.ensures.limits refl) (omega (arith, c.serving.invariant.going.next, c.serving.invariant.going.few, c.serving.invariant.counted, c.serving.invariant.few)) (c.in-Words.ensures.command refl) c.answer.ensures.left
+    quit c.in-Ok.ensures.sent
+
+pub serving-preserved-else-quit : goal.serving-preserved-else-quit
+serving-preserved-else-quit g c =
+    let before : Outside = told g.L.Link g.C.Clock c.args.link.now c.args.clock.now in
+    let now : Outside = told g.L.Link g.C.Clock c.serving.link c.serving.clock in
+    let after : Outside = told g.L.Link g.C.Clock c.answer.new.link c.answer.new.clock in
+    let no_quit : is_quit c.take.new.self.words ≡ false = cc in
+    record {
+      going =
+          goes_by c.serving.decoder c.take.new.self c.serving.engine c.answer.new.engine before now after c.take.new.self.words c.answer.new.out.items c.serving.invariant.going c.answer.ensures.answer
+          (c.in-Words.ensures.words refl) (c.in-Words.ensures.limits refl) (omega (arith, c.serving.invariant.going.next, c.serving.invariant.going.few, c.serving.invariant.counted, c.serving.invariant.few)) (c.in-Words.ensures.command refl) c.answer.ensures.left
+          no_quit (c.in-Words.ensures.shorter refl) c.take.ensures.fed c.in-Ok.ensures.sent
+          (omega (arith, c.serving.invariant.going.reads, c.answer.ensures.other)) (omega (arith, c.serving.invariant.going.writes, c.answer.ensures.cause.later));
+      counted = omega (arith, c.serving.invariant.counted, c.take.ensures.fed);
+      few = c.serving.invariant.few;
+      room = c.answer.ensures.room;
+      buffer = c.serving.invariant.buffer;
+    }
+
+pub serving-preserved : goal.serving-preserved
+serving-preserved g c =
+    let before : Outside = told g.L.Link g.C.Clock c.args.link.now c.args.clock.now in
+    let now : Outside = told g.L.Link g.C.Clock c.serving.link c.serving.clock in
+    let after : Outside = told g.L.Link g.C.Clock c.read_more.new.link c.serving.clock in
+    let more = c.in-More.ensures.more refl in
+    record {
+      going =
+          reads_on c.take.new.self c.read_more.new.decoder c.serving.engine before now after
+          (waits c.serving.decoder c.take.new.self c.serving.engine before now c.serving.invariant.going more c.take.ensures.fed c.take.ensures.taken)
+          (same_stream c.serving.decoder.left c.take.new.self.left more) c.read_more.ensures.further c.read_more.ensures.written refl c.read_more.ensures.later (omega (arith, c.read_more.ensures.other));
+      counted = omega (arith, c.serving.invariant.counted, c.take.ensures.fed, c.in-Ok-read_more.ensures.count, c.read_more.ensures.further.taken);
+      few = omega (arith, c.in-Ok-read_more.ensures.count);
+      room = c.serving.invariant.room;
+      buffer = search rules;
+    }
+
+pub returns-in-Err : goal.returns-in-Err
+returns-in-Err g c =
+    let before : Outside = told g.L.Link g.C.Clock c.args.link.now c.args.clock.now in
+    let now : Outside = told g.L.Link g.C.Clock c.serving.link c.serving.clock in
+    let after : Outside = told g.L.Link g.C.Clock c.read_more.new.link c.serving.clock in
+    let more = c.in-More.ensures.more refl in
+    let alone = same_stream c.serving.decoder.left c.take.new.self.left more in
+    let same : c.read_more.new.decoder.left ≡ c.take.new.self.left = c.in-Err.ensures.same in
+    let going =
+    reads_on c.take.new.self c.read_more.new.decoder c.serving.engine before now after
+    (waits c.serving.decoder c.take.new.self c.serving.engine before now c.serving.invariant.going more c.take.ensures.fed c.take.ensures.taken)
+    alone c.read_more.ensures.further c.read_more.ensures.written refl c.read_more.ensures.later (omega (arith, c.read_more.ensures.other)) in
+    ends_reading c.in-Err.end c.read_more.new.decoder c.serving.engine before after c.serving.total now.read_faults going
+    (rw same alone) (omega (arith, c.serving.invariant.counted, c.take.ensures.fed, c.read_more.ensures.further.taken, ap length same)) c.serving.invariant.going.reads c.in-Err.ensures.end
+
+pub returns-in-NoMemory : goal.returns-in-NoMemory
+returns-in-NoMemory g c = ends_long c.serving.decoder c.serving.engine (told g.L.Link g.C.Clock c.args.link.now c.args.clock.now) (told g.L.Link g.C.Clock c.serving.link c.serving.clock) c.serving.invariant.going (c.in-NoMemory.ensures.many refl)
+
+pub returns-in_default-write_fault : goal.returns-in_default-write_fault
+returns-in_default-write_fault g c =
+    let before : Outside = told g.L.Link g.C.Clock c.args.link.now c.args.clock.now in
+    let now : Outside = told g.L.Link g.C.Clock c.serving.link c.serving.clock in
+    let after : Outside = told g.L.Link g.C.Clock c.write_fault.new.link c.serving.clock in
+    ends_text_cut c.serving.decoder c.serving.engine before now after (record { at = c.in-Fault.at; kind = c.in-Fault.kind }) c.serving.invariant.going (c.in-Fault.ensures.fault c.in-Fault.at c.in-Fault.kind refl) c.write_fault.ensures.left refl
+    c.in_default-write_fault.ensures.cut c.in_default-write_fault.ensures.cause.failed
+
+pub returns-in-Fault : goal.returns-in-Fault
+returns-in-Fault g c =
+    let before : Outside = told g.L.Link g.C.Clock c.args.link.now c.args.clock.now in
+    let now : Outside = told g.L.Link g.C.Clock c.serving.link c.serving.clock in
+    let after : Outside = told g.L.Link g.C.Clock c.write_fault.new.link c.serving.clock in
+    ends_faulty c.serving.decoder c.serving.engine before now after (record { at = c.in-Fault.at; kind = c.in-Fault.kind }) c.serving.invariant.going (c.in-Fault.ensures.fault c.in-Fault.at c.in-Fault.kind refl) c.write_fault.ensures.left refl
+    c.in-Ok-write_fault.ensures.sent

@@ -1,0 +1,67 @@
+-- What a contract sees of a term dictionary: its words, each with its posting list.
+use Rattle.std.specs.Prelude.{◌≡◌, ◌&&◌, ◌==◌, ℕ, Bool, true, false, List, [], Option, None, Some, eqb, find, length, IfSome}
+use Rattle.std.specs.Cmp.Lexicographic.{slice_cmp}
+use Rattle.std.specs.List.{starts_with}
+use Rattle.std.specs.List.Sorted.{IsStrictlySortedBy}
+use Rattle.std.specs.Map.{keys_of, lookup, update}
+use Rattle.std.specs.Option.{option_map, unwrap_or}
+use Rattle.std.specs.Ordering.{is_lt, nat_cmp}
+use Rattle.std.specs.Str.{bytes_eq}
+use Rattle.std.specs.declared.cmp.Ordering.{Ordering}
+use Rattle.inverted_list.specs.declared.marker.Markers.{Markers}
+use Rattle.inverted_list.specs.Listing.{Listing, RisesAbove, marker_of}
+
+-- words and their lists
+abbrev pub Lists : Type 0 → Type 0
+Lists P = List (List ℕ × Listing P)
+
+-- the order of words, by their bytes
+abbrev pub word_cmp : List ℕ → List ℕ → Ordering
+word_cmp = slice_cmp nat_cmp
+
+-- whether a word is above another one, where there is another one
+abbrev pub is_after : Option (List ℕ) → List ℕ → Bool
+is_after None word = true
+is_after (Some other) word = is_lt (word_cmp other word)
+
+module _ {P : Type 0} where
+  -- the list of a word, where it has one
+  abbrev pub list_of : Lists P → List ℕ → Option (Listing P)
+  list_of lists word = lookup (bytes_eq word) lists
+
+  -- the entries of a word: none where it has no list
+  abbrev pub entries_of : Lists P → List ℕ → List (ℕ × P)
+  entries_of lists word = unwrap_or (option_map (λ l. l.entries) (list_of lists word)) []
+
+  -- The words rise, so none is there twice.
+  abbrev pub WordsRise : Lists P → Type 0
+  WordsRise lists = IsStrictlySortedBy word_cmp (keys_of lists)
+
+  -- the ids of each word's entries rise from 1 on
+  abbrev pub IdsRise : Lists P → Type 0
+  IdsRise lists = (word : List ℕ) → IfSome (list_of lists word) (λ l. RisesAbove 0 l.entries)
+
+  -- a word has this list now, or none, and each other word has what it had
+  abbrev pub Sets : List ℕ → Option (Listing P) → Lists P → Lists P → Type 0
+  Sets word list old new = (other : List ℕ) → list_of new other ≡ update bytes_eq (list_of old) word list other
+
+  -- the list of a word that has none yet: no entries, and the marker that is given next
+  abbrev pub fresh_list : Markers → Listing P
+  fresh_list markers = record { marker = marker_of markers; entries = [] }
+
+  -- the word's list, or a fresh one
+  abbrev pub list_or_fresh : Lists P → List ℕ → Markers → Listing P
+  list_or_fresh lists word markers = unwrap_or (list_of lists word) (fresh_list markers)
+
+  -- the first word with the prefix that is above `after`, and so the least, since words rise
+  abbrev pub next_word : Lists P → List ℕ → Option (List ℕ) → Option (List ℕ)
+  next_word lists prefix after = find (λ word. starts_with eqb word prefix && is_after after word) (keys_of lists)
+
+  -- the list without its entries
+  abbrev pub bare : Listing P → Listing P
+  bare l = record l { entries = [] }
+
+  -- whether a list is there and has no entry
+  abbrev pub is_drained : Option (Listing P) → Bool
+  is_drained None = false
+  is_drained (Some l) = length l.entries == 0

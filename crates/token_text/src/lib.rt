@@ -1,0 +1,17 @@
+//! The words of a text, as TEXT fields are indexed and queries are read.
+//!
+//! A text is cut at ASCII blanks, controls and punctuation but `_`; a backslash before such a byte
+//! makes it a byte of its word. A to Z are lowered, stop words are dropped, and the others are
+//! numbered from 1. So `Hello\-World, the_end` has the tokens `hello-world` and `the_end`.
+//! Read first `specs/Tokens.antt`, then `token.rt`.
+#![tactic(auto)]
+
+#[cfg(test)]
+mod tests;
+mod token;
+mod units;
+
+/// The tokens of a text.
+pub use token::{Token, tokens};
+/// Which bytes part words.
+pub use units::is_separator;
