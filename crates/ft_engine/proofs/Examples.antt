@@ -4,7 +4,6 @@ use Rattle.std.specs.Prelude.{codes}
 use Rattle.ft_base.specs.Hash.{set_field}
 use Rattle.ft_base.specs.Space.{write}
 use Rattle.ft_base.specs.declared.doc.Doc.{Doc}
-use Rattle.ft_engine.specs.Commands.{SetField, CreateText, SearchWord, NotBuilt, Unknown, asked}
 use Rattle.ft_engine.specs.Machine.{at_moment}
 
 -- the words of the examples
@@ -16,46 +15,6 @@ field = codes "f"
 
 abbrev value : List ℕ
 value = codes "v"
-
--- HSET of one field, in lower case
-small_letters : asked (codes "hset" ∷ key ∷ field ∷ value ∷ []) ≡ SetField key field value
-small_letters = refl
-
--- and in mixed case
-mixed_letters : asked (codes "HSet" ∷ key ∷ field ∷ value ∷ []) ≡ SetField key field value
-mixed_letters = refl
-
--- HSET without a value
-three_words : asked (codes "HSET" ∷ key ∷ field ∷ []) ≡ NotBuilt
-three_words = refl
-
--- HSET of two fields
-six_words : asked (codes "HSET" ∷ key ∷ field ∷ value ∷ codes "g" ∷ codes "w" ∷ []) ≡ NotBuilt
-six_words = refl
-
--- no command has this name
-no_name : asked (codes "NOPE" ∷ []) ≡ Unknown
-no_name = refl
-
--- a name of the table that is not built
-small_list : asked (codes "ft._list" ∷ []) ≡ NotBuilt
-small_list = refl
-
--- a name of the table with one more byte is none
-longer_name : asked (codes "HSET1" ∷ key ∷ field ∷ value ∷ []) ≡ Unknown
-longer_name = refl
-
--- FT.CREATE of one TEXT field, in lower case
-new_index : asked (codes "ft.create" ∷ codes "ix" ∷ codes "schema" ∷ field ∷ codes "text" ∷ []) ≡ CreateText (codes "ix") field
-new_index = refl
-
--- a query is lowered
-capital_query : asked (codes "FT.SEARCH" ∷ codes "ix" ∷ codes "WORLD" ∷ codes "nocontent" ∷ []) ≡ SearchWord (codes "ix") (codes "world")
-capital_query = refl
-
--- a query of two words
-query_of_two : asked (codes "FT.SEARCH" ∷ codes "ix" ∷ codes "hello-world" ∷ codes "NOCONTENT" ∷ []) ≡ NotBuilt
-query_of_two = refl
 
 -- an earlier moment counts as the latest one
 earlier_moment : (at_moment 5 (record { space = []; definitions = []; latest = 7 })).latest ≡ 7

@@ -1,9 +1,10 @@
-pub mod AskingLaws
+pub mod AskedLaws
 pub mod Creating
 pub mod Examples
 pub mod FillingLaws
 pub mod HistoryLaws
 pub mod IndexingLaws
+pub mod PlainLaws
 pub mod ReadingLaws
 pub mod SearchLaws
 pub mod Spellings

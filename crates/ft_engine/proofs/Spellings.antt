@@ -1,5 +1,5 @@
 -- How replies are spelled, one layer at a time.
-use Rattle.std.proofs.Common.{◌≡◌, ℕ, List, [], ◌∷◌, ◌++◌, sym, ap, ◌∙◌}
+use Rattle.std.proofs.Common.{◌≡◌, ℕ, List, [], ◌∷◌, ◌++◌, sym, ap, ◌∙◌, append_assoc}
 use Rattle.std.specs.Prelude.{ℤ, codes}
 use denote.Hole.Carrier.{out}
 use Rattle.std.specs.Fmt.{signed_decimal}
@@ -35,3 +35,16 @@ ok_written old new e f = f ∙ (ap (λ (t : List ℕ). t ++ 43 ∷ 79 ∷ 75 ∷
 -- the answer to PING, likewise
 pub pong_written : (old new : List ℕ) → old ≡ [] → new ≡ old ++ 43 ∷ 80 ∷ 79 ∷ 78 ∷ 71 ∷ 13 ∷ 10 ∷ [] → new ≡ spelling (Line (codes "PONG"))
 pong_written old new e f = f ∙ (ap (λ (t : List ℕ). t ++ 43 ∷ 80 ∷ 79 ∷ 78 ∷ 71 ∷ 13 ∷ 10 ∷ []) e ∙ sym (spelling-Line (codes "PONG")))
+
+-- the same where the text is of two parts
+pub fault_of_two : (old first second third front middle : List ℕ) → old ≡ [] → first ≡ old ++ 45 ∷ front → second ≡ first ++ middle → third ≡ second ++ 13 ∷ 10 ∷ []
+    → third ≡ spelling (Fault (front ++ middle))
+fault_of_two old first second third front middle e f g h =
+    h ∙ (ap (λ (t : List ℕ). t ++ 13 ∷ 10 ∷ []) (g ∙ ap (λ (t : List ℕ). t ++ middle) (f ∙ ap (λ (t : List ℕ). t ++ 45 ∷ front) e)) ∙ sym (spelling-Fault (front ++ middle)))
+
+-- and of three
+pub fault_of_three : (old first second third front middle text : List ℕ) → old ≡ [] → first ≡ old ++ 45 ∷ front → second ≡ first ++ middle → third ≡ second ++ (text ++ 13 ∷ 10 ∷ [])
+    → third ≡ spelling (Fault (front ++ middle ++ text))
+fault_of_three old first second third front middle text e f g h =
+    h ∙ (ap (λ (t : List ℕ). t ++ (text ++ 13 ∷ 10 ∷ [])) (g ∙ ap (λ (t : List ℕ). t ++ middle) (f ∙ ap (λ (t : List ℕ). t ++ 45 ∷ front) e))
+    ∙ (sym (append_assoc (45 ∷ front ++ middle) text (13 ∷ 10 ∷ [])) ∙ sym (spelling-Fault (front ++ middle ++ text))))

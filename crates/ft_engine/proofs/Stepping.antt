@@ -3,7 +3,7 @@ use Rattle.std.specs.Prelude.{◌≡◌, ℕ, List}
 use Rattle.std.proofs.Common.{sym, ap, ◌∙◌, inl}
 use Rattle.ft_base.specs.Reply.{spelling}
 use Rattle.ft_base.specs.declared.reply.Reply.{Reply}
-use Rattle.ft_engine.specs.Commands.{Asked}
+use Rattle.cmd_parse.specs.Read.{Asked}
 use Rattle.ft_engine.specs.Machine.{State}
 use Rattle.ft_engine.specs.Step.{Does, Outcome, answered, outcome}
 

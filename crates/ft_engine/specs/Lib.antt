@@ -1,6 +1,5 @@
-pub mod Asks
+pub mod Asking
 pub mod Changes
-pub mod Commands
 pub mod Definitions
 pub mod Filling
 pub mod History

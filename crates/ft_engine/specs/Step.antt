@@ -1,5 +1,11 @@
 -- One step of the machine: a command at an event's number and a moment gives a reply and the next state.
-use Rattle.std.specs.Prelude.{◌≡◌, ◌⊎◌, ℕ, pos, List, [], ◌∷◌, ◌++◌, length, take, map, Option, Some, None, is_some, Bool, nat_le, if◌then◌else◌, codes}
+use Rattle.std.specs.Prelude.{◌≡◌, ◌⊎◌, ℕ, pos, List, [], ◌∷◌, ◌++◌, length, take, map, slice_index_or, Option, Some, None, is_some, Result, Ok, Err, Bool, nat_le, if◌then◌else◌, codes}
+use Rattle.std.specs.Fmt.{decimal}
+use Rattle.cmd_parse.specs.Read.{Asked, Plain, CreateText, SearchWord, read}
+use Rattle.cmd_parse.specs.declared.command.CmdFault.{CmdFault}
+use Rattle.cmd_parse.specs.declared.command.CmdFault.TheVariants.{Unknown, Arity, Syntax, NotInteger, BadDb, NotBuilt}
+use Rattle.cmd_parse.specs.declared.command.Verb.{Verb}
+use Rattle.cmd_parse.specs.declared.command.Verb.TheVariants.{Ping, Quit, Hset}
 use Rattle.ft_base.specs.Hash.{Hash, get_field, set_field}
 use Rattle.ft_base.specs.Reply.{spelling}
 use Rattle.ft_base.specs.Space.{doc_of, write}
@@ -7,10 +13,10 @@ use Rattle.ft_base.specs.declared.definition.IndexDef.{IndexDef}
 use Rattle.ft_base.specs.declared.doc.Doc.{Doc}
 use Rattle.ft_base.specs.declared.reply.Reply.{Reply}
 use Rattle.ft_base.specs.declared.reply.Reply.TheVariants.{Line, Fault, Number, Bulk, Array}
-use Rattle.ft_engine.specs.Commands.{Asked, Ping, Say, Quit, SetField, CreateText, SearchWord, NotBuilt, Unknown, asked}
 use Rattle.ft_engine.specs.Definitions.{text_index, index_of}
 use Rattle.ft_meaning.specs.Meaning.{found}
 use Rattle.ft_engine.specs.Machine.{State, at_moment}
+use Rattle.token_text.specs.Tokens.{lowered}
 
 -- a reply, and the state after it
 pub record Outcome : Type 0 where
@@ -60,33 +66,45 @@ searched (Some index) word docs = found_reply (found index word docs)
 abbrev pub answered : Reply → State → Outcome
 answered reply state = record { reply = reply; after = state }
 
--- What a command gives that asks this.
-abbrev pub outcome : Asked → ℕ → State → Outcome
-outcome Unknown number state = answered (Fault (codes "ERR unknown command")) state
-outcome NotBuilt number state = answered (Fault (codes "ERR not built")) state
-outcome Ping number state = answered (Line (codes "PONG")) state
-outcome (Say message) number state = answered (Bulk message) state
-outcome Quit number state = answered (Line (codes "OK")) state
-outcome (SetField key field value) number state = let hash = hash_of state key in record {
+-- the text for a form that is not built
+abbrev pub not_built : List ℕ
+not_built = codes "ERR not built"
+
+-- HSET of one field
+abbrev pub field_set : List ℕ → List ℕ → List ℕ → ℕ → State → Outcome
+field_set key field value number state = let hash = hash_of state key in record {
   reply = fresh_fields (is_some (get_field hash field));
   after = record state { space = write state.space key (set_field hash field value) number };
 }
+
+-- What a plain command gives.
+abbrev pub plain : Verb → List (List ℕ) → ℕ → State → Outcome
+plain Ping [] number state = answered (Line (codes "PONG")) state
+plain Ping (message ∷ _) number state = answered (Bulk message) state
+plain Quit args number state = answered (Line (codes "OK")) state
+plain Hset (key ∷ field ∷ value ∷ []) number state = field_set key field value number state
+plain _ args number state = answered (Fault not_built) state
+
+-- What a command gives that asks this.
+abbrev pub outcome : Asked → ℕ → State → Outcome
+outcome (Plain verb args) number state = plain verb args number state
 outcome (CreateText index field) number state = let result = created (text_index index field number) state.definitions in record {
   reply = result.0;
   after = record state { definitions = result.1 };
 }
-outcome (SearchWord index word) number state = answered (searched (index_of state.definitions index) word state.space) state
+outcome (SearchWord index word) number state = answered (searched (index_of state.definitions index) (lowered word) state.space) state
 
--- Whether a command may be answered that memory is wanting. A refusal by the words alone takes none.
+-- Whether a plain command takes memory.
+abbrev pub PlainMayWant : Verb → List (List ℕ) → Type 0
+PlainMayWant Ping (message ∷ _) = Unit {0}
+PlainMayWant Hset (key ∷ field ∷ value ∷ []) = Unit {0}
+PlainMayWant _ args = ⊥
+
+-- Whether a command may be answered that memory is wanting.
 abbrev pub MayWant : Asked → Type 0
-MayWant (SetField key field value) = Unit {0}
+MayWant (Plain verb args) = PlainMayWant verb args
 MayWant (CreateText index field) = Unit {0}
 MayWant (SearchWord index word) = Unit {0}
-MayWant (Say message) = Unit {0}
-MayWant Ping = ⊥
-MayWant Quit = ⊥
-MayWant NotBuilt = ⊥
-MayWant Unknown = ⊥
 
 -- What was asked was done: the reply and the next state are the machine's; or memory was wanting, and nothing changed.
 abbrev pub Does : Asked → ℕ → State → List ℕ → State → Type 0
@@ -94,6 +112,21 @@ Does asks number old reply new =
     ((reply ≡ spelling (outcome asks number old).reply) × (new ≡ (outcome asks number old).after))
     ⊎ (MayWant asks × (reply ≡ spelling out_of_memory) × (new ≡ old))
 
+-- the text for a command of this name whose words ask nothing
+abbrev pub refusal : List ℕ → CmdFault → List ℕ
+refusal name Unknown = codes "ERR unknown command"
+refusal name Arity = codes "ERR wrong number of arguments for '" ++ lowered name ++ codes "' command"
+refusal name (Syntax at) = codes "ERR syntax error at word " ++ decimal at
+refusal name NotInteger = codes "ERR value is not an integer or out of range"
+refusal name BadDb = codes "ERR DB index is out of range"
+refusal name NotBuilt = not_built
+
+-- What the words of this name ask is done, or the words are refused and nothing changed. A refusal by the words alone
+-- takes no memory.
+abbrev pub Takes : List ℕ → Result Asked CmdFault → ℕ → State → List ℕ → State → Type 0
+Takes name (Ok asks) number old reply new = Does asks number old reply new
+Takes name (Err fault) number old reply new = (reply ≡ spelling (Fault (refusal name fault))) × (new ≡ old)
+
 -- One command. Its moment counts first, whatever its reply.
 abbrev pub Answers : List (List ℕ) → ℕ → ℕ → State → List ℕ → State → Type 0
-Answers words number moment old reply new = Does (asked words) number (at_moment moment old) reply new
+Answers words number moment old reply new = Takes (slice_index_or words 0 []) (read words) number (at_moment moment old) reply new

@@ -1,17 +1,19 @@
 //! The engine: a state of the machine, and the step that a command makes it take.
-ghost use Rattle.std.specs.Prelude.{◌≡◌, ◌<◌, ◌≤◌, ◌+◌, ◌^◌, ℕ, [], length, vec_capacity, IfOk};
+ghost use Rattle.std.specs.Prelude.{◌≡◌, ◌<◌, ◌≤◌, ◌+◌, ◌^◌, ℕ, [], length, vec_capacity, Err, IfOk};
 ghost use Rattle.ft_base.specs.Words.{KeepsLimits};
 ghost use Rattle.ft_engine.specs.Machine.{empty_state};
-ghost use Rattle.ft_engine.specs.Asks.{ValuesOf, asked_of};
+ghost use Rattle.cmd_parse.specs.Read.{asked_of, command_of};
+ghost use Rattle.cmd_parse.specs.declared.command.CmdFault.TheVariants.{Arity};
+ghost use Rattle.ft_engine.specs.Asking.{IsAsked};
 ghost use Rattle.ft_engine.specs.Stands.{InStep, IsIndexed, Stands, state_of};
-ghost use Rattle.ft_engine.specs.Step.{Answers, Does};
+ghost use Rattle.ft_engine.specs.Step.{Answers, Does, Takes};
 
-use crate::command::{Command, read_command};
 use crate::definitions::answer_create;
-use crate::ping::answer_say;
+use crate::plain::do_plain;
+use crate::refusals::put_refusal;
 use crate::search::answer_search;
-use crate::short_reply::{SHORT_REPLY, put_fault, put_short};
-use crate::writes::answer_set_field;
+use crate::short_reply::SHORT_REPLY;
+use cmd_parse::{CmdFault, Command, read_command};
 use ft_base::{NoMemory, Words};
 use ft_index::FtIndex;
 use hash_store::HashStore;
@@ -78,22 +80,53 @@ impl Engine {
         ensures indexed { IsIndexed self.new }
         ensures room { 64 ≤ vec_capacity out.new }
     {
-        let command = read_command(&words);
+        let name = words.word(0);
+        let asked = read_command(words);
         self.latest = self.latest.max(now);
         do_step(
             &mut self.store,
             &mut self.indexes,
             self.alloc,
             self.next,
-            command,
+            name,
+            asked,
             out,
         );
         self.next += 1;
     }
 }
 
-/// Does what a command asks in an event with this number, and writes the reply.
+/// Does what the words of this name ask in an event with this number, or refuses them, and writes the
+/// reply.
 fn do_step(
+    store: &mut HashStore,
+    indexes: &mut Vec<FtIndex>,
+    alloc: Global,
+    number: u64,
+    name: &[u8],
+    asked: Result<Command<'_>, CmdFault>,
+    out: &mut Vec<u8>,
+)
+    requires kept { InStep store.old indexes.old.items number }
+    requires number { number < 2 ^ 62 }
+    requires asked { IfOk asked (λ command. IsAsked (command_of command)) }
+    requires name { asked_of asked ≡ Err Arity → length name.now ≤ 12 }
+    requires empty { out.old.items ≡ [] }
+    requires room { SHORT_REPLY ≤ vec_capacity out.old }
+    ensures taken { (latest : ℕ) → Takes name.now (asked_of asked.entry) number
+        (state_of store.old indexes.old.items latest) out.new.items
+        (state_of store.new indexes.new.items latest) }
+    ensures kept { InStep store.new indexes.new.items (number + 1) }
+    ensures room { SHORT_REPLY ≤ vec_capacity out.new }
+{
+    match asked {
+        Ok(command) => do_command(store, indexes, alloc, number, command, out),
+        Err(fault) => put_refusal(name, fault, out),
+    }
+}
+
+/// Does what is asked, and writes the reply.
+fn do_command(
     store: &mut HashStore,
     indexes: &mut Vec<FtIndex>,
     alloc: Global,
@@ -103,36 +136,32 @@ fn do_step(
 )
     requires kept { InStep store.old indexes.old.items number }
     requires number { number < 2 ^ 62 }
-    requires values { ValuesOf (asked_of command) }
+    requires asked { IsAsked (command_of command) }
     requires empty { out.old.items ≡ [] }
     requires room { SHORT_REPLY ≤ vec_capacity out.old }
-    ensures done { (latest : ℕ) → Does (asked_of command.entry) number
+    ensures done { (latest : ℕ) → Does (command_of command.entry) number
         (state_of store.old indexes.old.items latest) out.new.items
         (state_of store.new indexes.new.items latest) }
     ensures kept { InStep store.new indexes.new.items (number + 1) }
     ensures room { SHORT_REPLY ≤ vec_capacity out.new }
 {
     match command {
-        Command::Ping => put_short(out, b"+PONG\r\n"),
-        Command::Say { message } => answer_say(alloc, message, out),
-        Command::Quit => put_short(out, b"+OK\r\n"),
-        Command::SetField { key, field, value } => answer_set_field(
-            store,
-            indexes.as_mut_slice(),
-            alloc,
-            number,
-            key,
-            field,
-            value,
-            out,
-        ),
+        Command::Plain { verb, args } => {
+            do_plain(
+                store,
+                indexes.as_mut_slice(),
+                alloc,
+                number,
+                verb,
+                args,
+                out,
+            )
+        }
         Command::CreateText { index, field } => {
             answer_create(store, indexes, alloc, number, index, field, out)
         }
         Command::SearchWord { index, word } => {
             answer_search(indexes.as_slice(), alloc, index, word, out)
         }
-        Command::NotBuilt => put_fault(out, b"ERR not built"),
-        Command::Unknown => put_fault(out, b"ERR unknown command"),
     }
 }

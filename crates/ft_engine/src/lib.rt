@@ -1,16 +1,17 @@
 //! The whole state of the server, and what a command does to it.
 //!
-//! The machine is defined in `specs/`, over plain lists: what it holds (`Machine.antt`), the table of
-//! commands (`Commands.antt`), one step (`Step.antt`) and legal histories (`History.antt`). `Engine`
-//! stands for a state of the machine, and `exec` takes its step. Read `specs/` first, then `engine.rt`.
+//! The machine is defined in `specs/`, over plain lists: what it holds (`Machine.antt`), one step
+//! (`Step.antt`) and legal histories (`History.antt`). `Engine` stands for a state of the machine, and
+//! `exec` takes its step. Read `specs/` first, then `engine.rt`.
 #![tactic(auto)]
 
-mod command;
 mod definitions;
 mod engine;
 mod filling;
 mod indexes;
 mod ping;
+mod plain;
+mod refusals;
 mod search;
 mod short_reply;
 #[cfg(test)]

@@ -144,23 +144,34 @@ fn finds_a_document_written_three_times_once(rt: HostRuntime) -> Result<(), Fail
 fn refuses_by_the_words_alone(rt: HostRuntime) -> Result<(), Fail> {
     let not_built = "-ERR not built\r\n";
     let unknown = "-ERR unknown command\r\n";
+    let integer = "-ERR value is not an integer or out of range\r\n";
     for (line, want) in [
-        ("HSET|k|f", not_built),
-        ("HSET|k|f|v|g", not_built),
-        ("HSET|k|f|v|g|w", not_built),
-        ("PING|a|b", not_built),
+        (
+            "HSET|k|f",
+            "-ERR wrong number of arguments for 'hset' command\r\n",
+        ),
+        (
+            "hSet|k|f|v|g",
+            "-ERR wrong number of arguments for 'hset' command\r\n",
+        ),
+        (
+            "FlushAll|now|then",
+            "-ERR wrong number of arguments for 'flushall' command\r\n",
+        ),
+        (
+            "PING|a|b",
+            "-ERR wrong number of arguments for 'ping' command\r\n",
+        ),
+        ("FLUSHALL|now", "-ERR syntax error at word 1\r\n"),
+        ("SELECT|one", integer),
+        ("HINCRBY|k|f|+1", integer),
+        ("SELECT|1", "-ERR DB index is out of range\r\n"),
         ("QUITE", unknown),
         ("FT._LIST", not_built),
         ("FT.CREATE|ix|SCHEMA|t", not_built),
-        ("FT.CREATE|ix|ON|t|TEXT", not_built),
         ("FT.CREATE|ix|SCHEMA|t|TAG", not_built),
-        ("FT.CREATE|ix|SCHEMA|t|TEXT|SORTABLE", not_built),
-        ("ft.search|ix|hello", not_built),
         ("FT.SEARCH|ix|hello|WITHSCORES", not_built),
-        ("FT.SEARCH|ix|hello|NOCONTENT|VERBATIM", not_built),
-        ("FT.SEARCH|ix|hello world|NOCONTENT", not_built),
         ("FT.SEARCH|ix|hello-world|NOCONTENT", not_built),
-        ("FT.SEARCH|ix||NOCONTENT", not_built),
         ("NOPE", unknown),
         ("HSETX|k|f|v", unknown),
         ("", unknown),

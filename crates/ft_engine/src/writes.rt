@@ -1,18 +1,21 @@
 //! Writes of documents: a new version is made, room is made for it everywhere, and then it takes the
 //! old one's place in the store and in each index at once, which wants no memory.
-ghost use Rattle.std.specs.Prelude.{◌≡◌, ◌<◌, ◌≤◌, ◌+◌, List, [], length, is_none, vec_capacity, IfOk, OnOk, OnErr};
+ghost use Rattle.std.specs.Prelude.{◌≡◌, ◌<◌, ◌≤◌, ◌+◌, ℕ, List, [], length, is_none, vec_capacity, IfOk, OnOk, OnErr};
 ghost use Rattle.ft_base.specs.Hash.{get_field, set_field};
 ghost use Rattle.ft_base.specs.Space.{doc_of, write};
 ghost use Rattle.ft_base.specs.declared.doc.Doc.{Doc};
 ghost use Rattle.ft_base.specs.declared.limits.TheConstants.{MAX_WORD_BYTES};
+ghost use Rattle.cmd_parse.specs.Read.{Plain};
+ghost use Rattle.cmd_parse.specs.declared.command.Verb.TheVariants.{Hset};
+ghost use Rattle.ft_engine.specs.Asking.{AreWords};
 ghost use Rattle.ft_engine.specs.Changes.{SetsField};
-ghost use Rattle.ft_engine.specs.Stands.{InStep, definitions_of};
-ghost use Rattle.ft_engine.specs.Step.{hash_in};
+ghost use Rattle.ft_engine.specs.Stands.{InStep, definitions_of, state_of};
+ghost use Rattle.ft_engine.specs.Step.{Does, hash_in};
 ghost use Rattle.ft_meaning.specs.Meaning.{ValuesFit};
 
 use crate::indexes::{commit_all, prepare_all};
-use crate::short_reply::{SHORT_REPLY, put_no_memory, put_short};
-use ft_base::{Bytes, Doc, HashRec, NoMemory};
+use crate::short_reply::{SHORT_REPLY, put_fault, put_no_memory, put_short};
+use ft_base::{Bytes, Doc, HashRec, NoMemory, Words};
 use ft_index::FtIndex;
 use hash_store::HashStore;
 use inverted_list::Markers;
@@ -127,4 +130,38 @@ pub fn answer_set_field(
         Ok(false) => put_short(out, b":0\r\n"),
         Err(_) => put_no_memory(out),
     }
+}
+
+/// Does HSET, of which one field is built, and writes the reply.
+pub fn answer_hset(
+    store: &mut HashStore,
+    indexes: &mut [FtIndex],
+    alloc: Global,
+    id: u64,
+    args: &Words<'_>,
+    out: &mut Vec<u8>,
+)
+    requires words { AreWords args.now }
+    requires kept { InStep store.old indexes.old id }
+    requires empty { out.old.items ≡ [] }
+    requires room { SHORT_REPLY ≤ vec_capacity out.old }
+    ensures done { (latest : ℕ) → Does (Plain Hset args.now) id
+        (state_of store.old indexes.old latest) out.new.items
+        (state_of store.new indexes.new latest) }
+    ensures kept { InStep store.new indexes.new (id + 1) }
+    ensures room { SHORT_REPLY ≤ vec_capacity out.new }
+{
+    if args.len() != 3 {
+        return put_fault(out, b"ERR not built");
+    }
+    answer_set_field(
+        store,
+        indexes,
+        alloc,
+        id,
+        args.word(0),
+        args.word(1),
+        args.word(2),
+        out,
+    );
 }

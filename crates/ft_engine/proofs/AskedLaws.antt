@@ -1,0 +1,69 @@
+-- What is asked by words that keep the limits, and how long a command's name is.
+use Rattle.std.proofs.Common.{◌≡◌, ◌≤◌, ℕ, suc, List, [], ◌∷◌, length, map, true, Option, Some, None, Err, inl, inr, sym, ap, ◌∙◌, subst, arith, rules}
+use Rattle.std.specs.Prelude.{max, Result, IfSome, drop, slice_index_or}
+use Rattle.std.specs.Char.{to_ascii_lowercase}
+use Rattle.std.proofs.lemmas.Bool.{cases_Bool}
+use Rattle.std.proofs.lemmas.List.{length-map}
+use Rattle.std.proofs.lemmas.Slice.Eq.{bytes_eq-Decides}
+use Rattle.std.proofs.lemmas.List.Elements.{All-tail}
+use Rattle.cmd_parse.specs.Commands.{commands, form_of, form_in, is_name}
+use Rattle.cmd_parse.specs.Lawful.{IsLawful}
+use Rattle.cmd_parse.specs.Read.{Asked, Plain, CreateText, SearchWord, read, read_as}
+use Rattle.cmd_parse.specs.declared.command.CmdFault.{CmdFault}
+use Rattle.cmd_parse.specs.declared.command.CmdFault.TheVariants.{Arity}
+use Rattle.cmd_parse.specs.declared.table.Form.{Form}
+use Rattle.ft_base.specs.declared.limits.TheConstants.{MAX_WORD_BYTES}
+use Rattle.ft_engine.specs.Asking.{AreWords, IsAsked}
+use Rattle.ft_engine.specs.Machine.{State, at_moment}
+use Rattle.ft_engine.specs.Step.{Answers, Takes}
+
+args-words : (words : List (List ℕ)) → AreWords words → AreWords (drop 1 words)
+args-words [] each = each
+args-words (name ∷ args) each = All-tail (λ word. length word ≤ MAX_WORD_BYTES) name args each
+
+-- what lawful words ask that keep the limits
+pub lawful-asked : (words : List (List ℕ)) (asked : Asked) → AreWords words → IsLawful words asked → IsAsked asked
+lawful-asked words (Plain verb args) each lawful = (lawful.1, subst AreWords (sym lawful.0) (args-words words each))
+lawful-asked words (CreateText index field) each lawful = tt
+lawful-asked words (SearchWord index word) each lawful = tt
+
+abbrev EachShort : List (List ℕ × Form) → Type 0
+EachShort [] = Unit {0}
+EachShort (row ∷ rows) = (length row.0 ≤ 12) × EachShort rows
+
+each_short : EachShort commands
+each_short = search rules depth 80
+
+-- a word that is a name is as long as the name
+name-length : (word name : List ℕ) → is_name word name ≡ true → length word ≡ length name
+name-length word name same =
+    let lowered : map to_ascii_lowercase word ≡ map to_ascii_lowercase name = (bytes_eq-Decides (map to_ascii_lowercase word) (map to_ascii_lowercase name)).0 same in
+    sym (length-map word to_ascii_lowercase) ∙ (ap length lowered ∙ length-map name to_ascii_lowercase)
+
+-- a word that names a row is short
+named-short : (word : List ℕ) (rows : List (List ℕ × Form)) → EachShort rows → IfSome (form_in rows word) (λ form. length word ≤ 12)
+named-short word [] each = tt
+named-short word (row ∷ rows) each = elim (cases_Bool (is_name word row.0)) [
+  | inl y ↦ rw y (omega (arith, name-length word row.0 y, each.0))
+  | inr n ↦ rw n (named-short word rows each.1)
+]
+
+short-arity : (name : List ℕ) (count : ℕ) (args : List (List ℕ)) (form : Option Form) → IfSome form (λ form. length name ≤ 12) → read_as form count args ≡ Err Arity → length name ≤ 12
+short-arity name count args None short wrong = cc
+short-arity name count args (Some form) short wrong = short
+
+-- the name of a command whose number of words is wrong
+pub arity-short : (words : List (List ℕ)) → read words ≡ Err Arity → length (slice_index_or words 0 []) ≤ 12
+arity-short [] wrong = cc
+arity-short (name ∷ args) wrong = short-arity name (suc (length args)) args (form_of name) (named-short name commands each_short) wrong
+
+-- The words of a command were read, and what they ask was done at its moment.
+pub answers-taken : (words : List (List ℕ)) (name : List ℕ) (asked : Result Asked CmdFault) (number moment latest : ℕ) (seen old new : State) (written : List ℕ)
+    → name ≡ slice_index_or words 0 [] → asked ≡ read words → latest ≡ max seen.latest moment → seen ≡ old → Takes name asked number (record seen { latest = latest }) written new
+    → Answers words number moment old written new
+answers-taken words name asked number moment latest seen old new written named is at same taken =
+    let turned : latest ≡ max moment seen.latest = omega (arith, at) in
+    let here : record seen { latest = latest } ≡ at_moment moment old = ap (λ n. record seen { latest = n }) turned ∙ ap (λ (s : State). at_moment moment s) same in
+    subst (λ (s : State). Takes (slice_index_or words 0 []) (read words) number s written new) here
+    (subst (λ (a : Result Asked CmdFault). Takes (slice_index_or words 0 []) a number (record seen { latest = latest }) written new) is
+    (subst (λ (n : List ℕ). Takes n asked number (record seen { latest = latest }) written new) named taken))

@@ -1,0 +1,26 @@
+-- What is asked, and which limits it keeps.
+use Rattle.std.specs.Prelude.{◌≤◌, ℕ, List, [], length, slice_index_or}
+use Rattle.std.specs.List.{All}
+use Rattle.ft_base.specs.declared.limits.TheConstants.{MAX_WORD_BYTES}
+use Rattle.cmd_parse.specs.Lawful.{Lawful}
+use Rattle.cmd_parse.specs.Read.{Asked, Plain, CreateText, SearchWord}
+
+-- the first argument of a command, the second and the third
+abbrev pub first : List (List ℕ) → List ℕ
+first args = slice_index_or args 0 []
+
+abbrev pub second : List (List ℕ) → List ℕ
+second args = slice_index_or args 1 []
+
+abbrev pub third : List (List ℕ) → List ℕ
+third args = slice_index_or args 2 []
+
+-- no argument is longer than a word may be
+abbrev pub AreWords : List (List ℕ) → Type 0
+AreWords args = All (λ arg. length arg ≤ MAX_WORD_BYTES) args
+
+-- What the words of a command on the wire ask: a plain command has lawful arguments.
+abbrev pub IsAsked : Asked → Type 0
+IsAsked (Plain verb args) = Lawful verb args × AreWords args
+IsAsked (CreateText index field) = Unit {0}
+IsAsked (SearchWord index word) = Unit {0}

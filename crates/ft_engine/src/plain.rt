@@ -1,0 +1,64 @@
+//! The plain commands: of the connection, of hashes and of keys.
+ghost use Rattle.std.specs.Prelude.{◌≤◌, ◌+◌, ◌<◌, ◌^◌, ℕ, ◌≡◌, [], vec_capacity};
+ghost use Rattle.cmd_parse.specs.Lawful.{Lawful};
+ghost use Rattle.cmd_parse.specs.Read.{Plain};
+ghost use Rattle.ft_engine.specs.Asking.{AreWords};
+ghost use Rattle.ft_engine.specs.Stands.{InStep, state_of};
+ghost use Rattle.ft_engine.specs.Step.{Does};
+
+use crate::ping::answer_say;
+use crate::short_reply::{SHORT_REPLY, put_fault, put_short};
+use crate::writes::answer_hset;
+use cmd_parse::Verb;
+use ft_base::Words;
+use ft_index::FtIndex;
+use hash_store::HashStore;
+use std::alloc::Global;
+
+/// Does a plain command in an event with this number, and writes the reply.
+pub fn do_plain(
+    store: &mut HashStore,
+    indexes: &mut [FtIndex],
+    alloc: Global,
+    number: u64,
+    verb: Verb,
+    args: Words<'_>,
+    out: &mut Vec<u8>,
+)
+    requires kept { InStep store.old indexes.old number }
+    requires number { number < 2 ^ 62 }
+    requires lawful { Lawful verb args }
+    requires words { AreWords args }
+    requires empty { out.old.items ≡ [] }
+    requires room { SHORT_REPLY ≤ vec_capacity out.old }
+    ensures done { (latest : ℕ) → Does (Plain verb args.entry) number
+        (state_of store.old indexes.old latest) out.new.items
+        (state_of store.new indexes.new latest) }
+    ensures kept { InStep store.new indexes.new (number + 1) }
+    ensures room { SHORT_REPLY ≤ vec_capacity out.new }
+{
+    match verb {
+        Verb::Ping if args.len() == 0 => put_short(out, b"+PONG\r\n"),
+        Verb::Ping => answer_say(alloc, args.word(0), out),
+        Verb::Quit => put_short(out, b"+OK\r\n"),
+        Verb::Hset => answer_hset(store, indexes, alloc, number, &args, out),
+        Verb::Echo
+        | Verb::Select
+        | Verb::Hsetnx
+        | Verb::Hget
+        | Verb::Hmget
+        | Verb::Hgetall
+        | Verb::Hdel
+        | Verb::Hlen
+        | Verb::Hexists
+        | Verb::Hincrby
+        | Verb::Hkeys
+        | Verb::Hvals
+        | Verb::Del
+        | Verb::Exists
+        | Verb::TypeOf
+        | Verb::Dbsize
+        | Verb::Rename
+        | Verb::Flushall => put_fault(out, b"ERR not built"),
+    }
+}
