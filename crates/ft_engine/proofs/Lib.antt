@@ -6,6 +6,7 @@ pub mod HistoryLaws
 pub mod IndexingLaws
 pub mod PlainLaws
 pub mod ReadingLaws
+pub mod ReadsLaws
 pub mod SearchLaws
 pub mod Spellings
 pub mod Stepping

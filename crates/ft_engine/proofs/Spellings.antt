@@ -1,9 +1,11 @@
 -- How replies are spelled, one layer at a time.
-use Rattle.std.proofs.Common.{◌≡◌, ℕ, List, [], ◌∷◌, ◌++◌, sym, ap, ◌∙◌, append_assoc}
-use Rattle.std.specs.Prelude.{ℤ, codes}
+use Rattle.std.proofs.Common.{◌≡◌, ℕ, List, [], ◌∷◌, ◌++◌, sym, ap, ◌∙◌, append_assoc, Bool, true, false, Option, Some, None}
+use Rattle.std.specs.Prelude.{ℤ, pos, codes, is_some, if◌then◌else◌}
 use denote.Hole.Carrier.{out}
-use Rattle.std.specs.Fmt.{signed_decimal}
+use Rattle.std.specs.Fmt.{decimal, signed_decimal}
 use Rattle.ft_base.specs.Reply.{line, spelling, spelling_step}
+use Rattle.ft_base.specs.declared.doc.Doc.{Doc}
+use Rattle.ft_engine.specs.Reads.{kind_of, one_if}
 use Rattle.ft_base.specs.declared.reply.Reply.TheFolds.{fold_out-Reply}
 use Rattle.ft_base.specs.declared.reply.Reply.TheVariants.{Line, Fault, Number}
 use Rattle.ft_base.specs.declared.reply.Reply.TheViews.{out-Reply}
@@ -48,3 +50,19 @@ pub fault_of_three : (old first second third front middle text : List ℕ) → o
 fault_of_three old first second third front middle text e f g h =
     h ∙ (ap (λ (t : List ℕ). t ++ (text ++ 13 ∷ 10 ∷ [])) (g ∙ ap (λ (t : List ℕ). t ++ middle) (f ∙ ap (λ (t : List ℕ). t ++ 45 ∷ front) e))
     ∙ (sym (append_assoc (45 ∷ front ++ middle) text (13 ∷ 10 ∷ [])) ∙ sym (spelling-Fault (front ++ middle ++ text))))
+
+-- a number in three pieces, to an empty buffer
+pub number_written : (old first second third : List ℕ) (n : ℕ) → old ≡ [] → first ≡ old ++ 58 ∷ [] → second ≡ first ++ decimal n → third ≡ second ++ 13 ∷ 10 ∷ [] → third ≡ spelling (Number (pos n))
+number_written old first second third n e f g h =
+    h ∙ (ap (λ (t : List ℕ). t ++ 13 ∷ 10 ∷ []) (g ∙ ap (λ (t : List ℕ). t ++ decimal n) (f ∙ ap (λ (t : List ℕ). t ++ 58 ∷ []) e)) ∙ sym (spelling-Number (pos n)))
+
+-- the type of a key's value, written to an empty buffer
+pub kind_written : (old new : List ℕ) (said : Bool) (doc : Option Doc) → old ≡ [] → said ≡ is_some doc
+    → new ≡ old ++ ((43 ∷ (if said then codes "hash" else codes "none")) ++ 13 ∷ 10 ∷ []) → new ≡ spelling (Line (kind_of doc))
+kind_written old new said None e is f = f ∙ (ap (λ (t : List ℕ). t ++ ((43 ∷ (if said then codes "hash" else codes "none")) ++ 13 ∷ 10 ∷ [])) e ∙ rw is (sym (spelling-Line (codes "none"))))
+kind_written old new said (Some doc) e is f = f ∙ (ap (λ (t : List ℕ). t ++ ((43 ∷ (if said then codes "hash" else codes "none")) ++ 13 ∷ 10 ∷ [])) e ∙ rw is (sym (spelling-Line (codes "hash"))))
+
+-- a flag as a number
+pub flag_written : (so : Bool) (n : ℕ) (new : List ℕ) → n ≡ (if so then 1 else 0) → new ≡ spelling (Number (pos n)) → new ≡ spelling (one_if so)
+flag_written true n new is said = said ∙ ap (λ (k : ℕ). spelling (Number (pos k))) is
+flag_written false n new is said = said ∙ ap (λ (k : ℕ). spelling (Number (pos k))) is

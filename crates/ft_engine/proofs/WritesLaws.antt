@@ -228,6 +228,10 @@ in_step-same old new indexes id space last step = record {
   stand = subst (λ (docs : List Doc). All (IndexStands docs id (markers_at id)) indexes) (sym space) step.stand;
 }
 
+-- a command that reads
+pub in_step-read : (old new : Store) (indexes : List Index) (id : ℕ) → new.space ≡ old.space → new.last ≡ old.last → InStep old indexes id → InStep new indexes (id + 1)
+in_step-read old new indexes id space last step = in_step-later new indexes id (in_step-same old new indexes id space last step)
+
 -- an index more that stands for the documents
 pub in_step-more : (store : Store) (indexes : List Index) (index : Index) (id : ℕ) (markers : Markers) → InStep store indexes id → markers.event ≡ id → IndexStands store.space markers.event markers index
     → InStep store (indexes ++ index ∷ []) (id + 1)

@@ -6,5 +6,6 @@ pub mod History
 pub mod Indexing
 pub mod Machine
 pub mod Pages
+pub mod Reads
 pub mod Stands
 pub mod Step

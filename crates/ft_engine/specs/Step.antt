@@ -1,11 +1,11 @@
 -- One step of the machine: a command at an event's number and a moment gives a reply and the next state.
-use Rattle.std.specs.Prelude.{◌≡◌, ◌⊎◌, ℕ, pos, List, [], ◌∷◌, ◌++◌, length, take, map, slice_index_or, Option, Some, None, is_some, Result, Ok, Err, Bool, nat_le, if◌then◌else◌, codes}
+use Rattle.std.specs.Prelude.{◌≡◌, ◌⊎◌, ℕ, pos, List, [], ◌∷◌, ◌++◌, length, take, drop, map, slice_index_or, Option, Some, None, is_some, Result, Ok, Err, Bool, nat_le, if◌then◌else◌, codes}
 use Rattle.std.specs.Fmt.{decimal}
 use Rattle.cmd_parse.specs.Read.{Asked, Plain, CreateText, SearchWord, read}
 use Rattle.cmd_parse.specs.declared.command.CmdFault.{CmdFault}
 use Rattle.cmd_parse.specs.declared.command.CmdFault.TheVariants.{Unknown, Arity, Syntax, NotInteger, BadDb, NotBuilt}
 use Rattle.cmd_parse.specs.declared.command.Verb.{Verb}
-use Rattle.cmd_parse.specs.declared.command.Verb.TheVariants.{Ping, Quit, Hset}
+use Rattle.cmd_parse.specs.declared.command.Verb.TheVariants.{Ping, Echo, Select, Quit, Hset, Hget, Hmget, Hgetall, Hlen, Hexists, Hkeys, Hvals, Exists, TypeOf, Dbsize}
 use Rattle.ft_base.specs.Hash.{Hash, get_field, set_field}
 use Rattle.ft_base.specs.Reply.{spelling}
 use Rattle.ft_base.specs.Space.{doc_of, write}
@@ -13,6 +13,8 @@ use Rattle.ft_base.specs.declared.definition.IndexDef.{IndexDef}
 use Rattle.ft_base.specs.declared.doc.Doc.{Doc}
 use Rattle.ft_base.specs.declared.reply.Reply.{Reply}
 use Rattle.ft_base.specs.declared.reply.Reply.TheVariants.{Line, Fault, Number, Bulk, Array}
+use Rattle.ft_engine.specs.Asking.{first, second}
+use Rattle.ft_engine.specs.Reads.{in_turn, kind_of, names, one_if, present, value_reply, values}
 use Rattle.ft_engine.specs.Definitions.{text_index, index_of}
 use Rattle.ft_meaning.specs.Meaning.{found}
 use Rattle.ft_engine.specs.Machine.{State, at_moment}
@@ -70,6 +72,11 @@ answered reply state = record { reply = reply; after = state }
 abbrev pub not_built : List ℕ
 not_built = codes "ERR not built"
 
+-- What was made is written, or memory was wanting.
+abbrev pub Told : {E : Type 0} → Result Reply E → List ℕ → Type 0
+Told (Ok reply) written = (written ≡ spelling reply) ⊎ (written ≡ spelling out_of_memory)
+Told (Err e) written = written ≡ spelling out_of_memory
+
 -- HSET of one field
 abbrev pub field_set : List ℕ → List ℕ → List ℕ → ℕ → State → Outcome
 field_set key field value number state = let hash = hash_of state key in record {
@@ -82,6 +89,18 @@ abbrev pub plain : Verb → List (List ℕ) → ℕ → State → Outcome
 plain Ping [] number state = answered (Line (codes "PONG")) state
 plain Ping (message ∷ _) number state = answered (Bulk message) state
 plain Quit args number state = answered (Line (codes "OK")) state
+plain Echo args number state = answered (Bulk (first args)) state
+plain Select args number state = answered (Line (codes "OK")) state
+plain Hget args number state = answered (value_reply (get_field (hash_of state (first args)) (second args))) state
+plain Hmget args number state = answered (Array (map (λ field. value_reply (get_field (hash_of state (first args)) field)) (drop 1 args))) state
+plain Hgetall args number state = answered (Array (in_turn (hash_of state (first args)))) state
+plain Hkeys args number state = answered (Array (names (hash_of state (first args)))) state
+plain Hvals args number state = answered (Array (values (hash_of state (first args)))) state
+plain Hlen args number state = answered (Number (pos (length (hash_of state (first args))))) state
+plain Hexists args number state = answered (one_if (is_some (get_field (hash_of state (first args)) (second args)))) state
+plain Exists args number state = answered (Number (pos (present state.space args))) state
+plain TypeOf args number state = answered (Line (kind_of (doc_of state.space (first args)))) state
+plain Dbsize args number state = answered (Number (pos (length state.space))) state
 plain Hset (key ∷ field ∷ value ∷ []) number state = field_set key field value number state
 plain _ args number state = answered (Fault not_built) state
 
@@ -97,6 +116,12 @@ outcome (SearchWord index word) number state = answered (searched (index_of stat
 -- Whether a plain command takes memory.
 abbrev pub PlainMayWant : Verb → List (List ℕ) → Type 0
 PlainMayWant Ping (message ∷ _) = Unit {0}
+PlainMayWant Echo args = Unit {0}
+PlainMayWant Hget args = Unit {0}
+PlainMayWant Hmget args = Unit {0}
+PlainMayWant Hgetall args = Unit {0}
+PlainMayWant Hkeys args = Unit {0}
+PlainMayWant Hvals args = Unit {0}
 PlainMayWant Hset (key ∷ field ∷ value ∷ []) = Unit {0}
 PlainMayWant _ args = ⊥
 

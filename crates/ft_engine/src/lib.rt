@@ -11,6 +11,7 @@ mod filling;
 mod indexes;
 mod ping;
 mod plain;
+mod reads;
 mod refusals;
 mod search;
 mod short_reply;

@@ -7,6 +7,10 @@ ghost use Rattle.ft_engine.specs.Stands.{InStep, state_of};
 ghost use Rattle.ft_engine.specs.Step.{Does};
 
 use crate::ping::answer_say;
+use crate::reads::{
+    hexists, hget, hgetall, hkeys, hlen, hmget, hvals, is_there, present, put_flag, put_kind,
+    put_made, put_number,
+};
 use crate::short_reply::{SHORT_REPLY, put_fault, put_short};
 use crate::writes::answer_hset;
 use cmd_parse::Verb;
@@ -40,25 +44,21 @@ pub fn do_plain(
     match verb {
         Verb::Ping if args.len() == 0 => put_short(out, b"+PONG\r\n"),
         Verb::Ping => answer_say(alloc, args.word(0), out),
+        Verb::Echo => answer_say(alloc, args.word(0), out),
+        Verb::Select => put_short(out, b"+OK\r\n"),
         Verb::Quit => put_short(out, b"+OK\r\n"),
         Verb::Hset => answer_hset(store, indexes, alloc, number, &args, out),
-        Verb::Echo
-        | Verb::Select
-        | Verb::Hsetnx
-        | Verb::Hget
-        | Verb::Hmget
-        | Verb::Hgetall
-        | Verb::Hdel
-        | Verb::Hlen
-        | Verb::Hexists
-        | Verb::Hincrby
-        | Verb::Hkeys
-        | Verb::Hvals
-        | Verb::Del
-        | Verb::Exists
-        | Verb::TypeOf
-        | Verb::Dbsize
-        | Verb::Rename
-        | Verb::Flushall => put_fault(out, b"ERR not built"),
+        Verb::Hget => put_made(hget(store, alloc, args.word(0), args.word(1)), out),
+        Verb::Hmget => put_made(hmget(store, alloc, &args), out),
+        Verb::Hgetall => put_made(hgetall(store, alloc, args.word(0)), out),
+        Verb::Hkeys => put_made(hkeys(store, alloc, args.word(0)), out),
+        Verb::Hvals => put_made(hvals(store, alloc, args.word(0)), out),
+        Verb::Hlen => put_number(hlen(store, args.word(0)), out),
+        Verb::Hexists => put_flag(hexists(store, args.word(0), args.word(1)), out),
+        Verb::Exists => put_number(present(store, &args), out),
+        Verb::TypeOf => put_kind(is_there(store, args.word(0)), out),
+        Verb::Dbsize => put_number(store.len(), out),
+        Verb::Hsetnx | Verb::Hdel | Verb::Hincrby | Verb::Del | Verb::Rename | Verb::Flushall =>
+            put_fault(out, b"ERR not built"),
     }
 }

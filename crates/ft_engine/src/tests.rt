@@ -141,6 +141,47 @@ fn finds_a_document_written_three_times_once(rt: HostRuntime) -> Result<(), Fail
 }
 
 #[test]
+fn reads_hashes(rt: HostRuntime) -> Result<(), Fail> {
+    let mut session = begin(rt.alloc())?;
+    for (line, want) in [
+        ("ECHO|hi", "$2\r\nhi\r\n"),
+        ("select|0", "+OK\r\n"),
+        ("DBSIZE", ":0\r\n"),
+        ("HGETALL|h", "*0\r\n"),
+        ("HMGET|h|a|b", "*2\r\n$-1\r\n$-1\r\n"),
+        ("HSET|h|a|1", ":1\r\n"),
+        ("HSET|h|b|", ":1\r\n"),
+        ("HSET|g|a|2", ":1\r\n"),
+        ("HGET|h|a", "$1\r\n1\r\n"),
+        ("HGET|h|b", "$0\r\n\r\n"),
+        ("HGET|h|A", "$-1\r\n"),
+        ("HGET|i|a", "$-1\r\n"),
+        ("HMGET|h|b|z|a", "*3\r\n$0\r\n\r\n$-1\r\n$1\r\n1\r\n"),
+        (
+            "HGETALL|h",
+            "*4\r\n$1\r\na\r\n$1\r\n1\r\n$1\r\nb\r\n$0\r\n\r\n",
+        ),
+        ("HKEYS|h", "*2\r\n$1\r\na\r\n$1\r\nb\r\n"),
+        ("HVALS|h", "*2\r\n$1\r\n1\r\n$0\r\n\r\n"),
+        ("HKEYS|i", "*0\r\n"),
+        ("HVALS|i", "*0\r\n"),
+        ("HLEN|h", ":2\r\n"),
+        ("HLEN|i", ":0\r\n"),
+        ("HEXISTS|h|b", ":1\r\n"),
+        ("HEXISTS|h|c", ":0\r\n"),
+        ("HEXISTS|i|b", ":0\r\n"),
+        ("EXISTS|h|i|h|g", ":3\r\n"),
+        ("TYPE|h", "+hash\r\n"),
+        ("TYPE|i", "+none\r\n"),
+        ("DBSIZE", ":2\r\n"),
+    ] {
+        let reply = ask(rt.alloc(), &mut session, line.as_bytes())?;
+        assert_eq!(rt; reply.as_slice(), want.as_bytes(), "at {line}");
+    }
+    Ok(())
+}
+
+#[test]
 fn refuses_by_the_words_alone(rt: HostRuntime) -> Result<(), Fail> {
     let not_built = "-ERR not built\r\n";
     let unknown = "-ERR unknown command\r\n";

@@ -1,15 +1,11 @@
-use Rattle.std.proofs.Common.{◌≡◌, [], List, ◌∷◌, arith, refl}
+use Rattle.std.proofs.Common.{arith, refl}
 use Rattle.std.specs.Prelude.{codes}
-use Rattle.cmd_parse.specs.Read.{Plain}
-use Rattle.cmd_parse.specs.declared.command.Verb.{Verb}
-use Rattle.cmd_parse.specs.declared.command.Verb.TheVariants.{Quit, Echo, Select, Hsetnx, Hget, Hmget, Hgetall, Hdel, Hlen, Hexists, Hincrby, Hkeys, Hvals, Del, Exists, TypeOf, Dbsize, Rename, Flushall}
-use Rattle.ft_base.specs.declared.reply.Reply.TheVariants.{Fault, Line}
+use Rattle.cmd_parse.specs.declared.command.Verb.TheVariants.{Quit}
+use Rattle.ft_base.specs.declared.reply.Reply.TheVariants.{Line}
 use Rattle.ft_engine.specs.Stands.{state_of}
-use Rattle.ft_engine.specs.Step.{answered, not_built, plain}
-use Rattle.ft_engine.proofs.Stepping.{stays}
 use Rattle.ft_engine.proofs.Spellings.{ok_written, pong_written}
-use Rattle.ft_engine.proofs.PlainLaws.{of_one, ping-alone, stays-plain}
-use Rattle.ft_engine.proofs.WritesLaws.{in_step-later}
+use Rattle.ft_engine.proofs.PlainLaws.{ping-alone, stays-plain}
+use Rattle.ft_engine.proofs.WritesLaws.{in_step-later, in_step-read}
 use Rattle.ft_engine.proofs.plain.do_plain.Goals as goal
 
 pub returns-in-Ping-clause-done : goal.returns-in-Ping-clause-done
@@ -31,16 +27,41 @@ returns-in-Quit-clause-done c latest =
 pub returns-in-Quit-clause-kept : goal.returns-in-Quit-clause-kept
 returns-in-Quit-clause-kept c = in_step-later c.args.store.now c.args.indexes.now c.args.number c.requires.kept
 
--- the verbs that are not built
-abbrev later : List Verb
-later = Echo ∷ Select ∷ Hsetnx ∷ Hget ∷ Hmget ∷ Hgetall ∷ Hdel ∷ Hlen ∷ Hexists ∷ Hincrby ∷ Hkeys ∷ Hvals ∷ Del ∷ Exists ∷ TypeOf ∷ Dbsize ∷ Rename ∷ Flushall ∷ []
-
-pub returns-in-Echo-clause-done : goal.returns-in-Echo-clause-done
-returns-in-Echo-clause-done c latest =
-    let state = state_of c.args.store.now c.args.indexes.now latest in
-    stays (Plain c.args.verb c.args.args) c.args.number state _ (Fault not_built)
-    (of_one (λ (verb : Verb). plain verb c.args.args c.args.number state ≡ answered (Fault not_built) state) later c.args.verb (refl, (refl, (refl, (refl, (refl, (refl, (refl, (refl, (refl, (refl, (refl, (refl, (refl, (refl, (refl, (refl, (refl, refl))))))))))))))))) c.in-Echo.is)
-    c.put_fault.ensures.fault
-
 pub returns-in-Echo-clause-kept : goal.returns-in-Echo-clause-kept
 returns-in-Echo-clause-kept c = in_step-later c.args.store.now c.args.indexes.now c.args.number c.requires.kept
+
+pub returns-in-Select-clause-kept : goal.returns-in-Select-clause-kept
+returns-in-Select-clause-kept c = in_step-later c.args.store.now c.args.indexes.now c.args.number c.requires.kept
+
+pub returns-in-Hget-clause-kept : goal.returns-in-Hget-clause-kept
+returns-in-Hget-clause-kept c = in_step-read c.args.store.now c.hget.new.store c.args.indexes.now c.args.number c.hget.ensures.space c.hget.ensures.last c.requires.kept
+
+pub returns-in-Hmget-clause-kept : goal.returns-in-Hmget-clause-kept
+returns-in-Hmget-clause-kept c = in_step-read c.args.store.now c.hmget.new.store c.args.indexes.now c.args.number c.hmget.ensures.space c.hmget.ensures.last c.requires.kept
+
+pub returns-in-Hgetall-clause-kept : goal.returns-in-Hgetall-clause-kept
+returns-in-Hgetall-clause-kept c = in_step-read c.args.store.now c.hgetall.new.store c.args.indexes.now c.args.number c.hgetall.ensures.space c.hgetall.ensures.last c.requires.kept
+
+pub returns-in-Hkeys-clause-kept : goal.returns-in-Hkeys-clause-kept
+returns-in-Hkeys-clause-kept c = in_step-read c.args.store.now c.hkeys.new.store c.args.indexes.now c.args.number c.hkeys.ensures.space c.hkeys.ensures.last c.requires.kept
+
+pub returns-in-Hvals-clause-kept : goal.returns-in-Hvals-clause-kept
+returns-in-Hvals-clause-kept c = in_step-read c.args.store.now c.hvals.new.store c.args.indexes.now c.args.number c.hvals.ensures.space c.hvals.ensures.last c.requires.kept
+
+pub returns-in-Hlen-clause-kept : goal.returns-in-Hlen-clause-kept
+returns-in-Hlen-clause-kept c = in_step-read c.args.store.now c.hlen.new.store c.args.indexes.now c.args.number c.hlen.ensures.space c.hlen.ensures.last c.requires.kept
+
+pub returns-in-Hexists-clause-kept : goal.returns-in-Hexists-clause-kept
+returns-in-Hexists-clause-kept c = in_step-read c.args.store.now c.hexists.new.store c.args.indexes.now c.args.number c.hexists.ensures.space c.hexists.ensures.last c.requires.kept
+
+pub returns-in-Exists-clause-kept : goal.returns-in-Exists-clause-kept
+returns-in-Exists-clause-kept c = in_step-later c.args.store.now c.args.indexes.now c.args.number c.requires.kept
+
+pub returns-in-TypeOf-clause-kept : goal.returns-in-TypeOf-clause-kept
+returns-in-TypeOf-clause-kept c = in_step-later c.args.store.now c.args.indexes.now c.args.number c.requires.kept
+
+pub returns-in-Dbsize-clause-kept : goal.returns-in-Dbsize-clause-kept
+returns-in-Dbsize-clause-kept c = in_step-later c.args.store.now c.args.indexes.now c.args.number c.requires.kept
+
+pub returns-in-Hsetnx-clause-kept : goal.returns-in-Hsetnx-clause-kept
+returns-in-Hsetnx-clause-kept c = in_step-later c.args.store.now c.args.indexes.now c.args.number c.requires.kept
