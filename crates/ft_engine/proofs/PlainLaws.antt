@@ -3,7 +3,7 @@ use Rattle.std.proofs.Common.{◌≡◌, ◌⊎◌, ℕ, List, [], ◌∷◌, le
 use Rattle.std.specs.Prelude.{codes}
 use Rattle.cmd_parse.specs.Read.{Plain}
 use Rattle.cmd_parse.specs.declared.command.Verb.{Verb}
-use Rattle.cmd_parse.specs.declared.command.Verb.TheVariants.{Ping, Hset}
+use Rattle.cmd_parse.specs.declared.command.Verb.TheVariants.{Ping, Hset, Flushall}
 use Rattle.ft_base.specs.Reply.{spelling}
 use Rattle.ft_base.specs.declared.reply.Reply.{Reply}
 use Rattle.ft_base.specs.declared.reply.Reply.TheVariants.{Line, Fault}
@@ -11,6 +11,9 @@ use Rattle.ft_base.specs.declared.doc.Doc.{Doc}
 use Rattle.ft_engine.specs.Asking.{first, second, third}
 use Rattle.ft_engine.specs.Changes.{SetsField}
 use Rattle.ft_engine.specs.Machine.{State}
+use Rattle.ft_engine.specs.Stands.{definitions_of, state_of}
+use Rattle.ft_index.specs.Index.{Index}
+use Rattle.hash_store.specs.Store.{Store}
 use Rattle.ft_engine.specs.Step.{Does, answered, not_built, plain}
 use Rattle.ft_engine.proofs.Stepping.{stays}
 
@@ -66,3 +69,14 @@ of_one P (known ∷ other ∷ more) verb each one = elim one [
   | inl is ↦ subst P (sym is) each.0
   | inr later ↦ of_one P (other ∷ more) verb each.1 later
 ]
+
+-- FLUSHALL
+pub flushed : (verb : Verb) (args : List (List ℕ)) (number latest : ℕ) (old new : Store) (before after : List Index) (written : List ℕ) → verb ≡ Flushall → new.space ≡ [] → after ≡ [] → written ≡ spelling (Line (codes "OK"))
+    → Does (Plain verb args) number (state_of old before latest) written (state_of new after latest)
+flushed verb args number latest old new before after written is none nothing said =
+    subst (λ (v : Verb). Does (Plain v args) number (state_of old before latest) written (state_of new after latest)) (sym is)
+    (inl (
+      said,
+      ap (λ (space : List Doc). record { space = space; definitions = definitions_of after; latest = latest }) none
+          ∙ ap (λ (indexes : List Index). record { space = []; definitions = definitions_of indexes; latest = latest }) nothing,
+    ))

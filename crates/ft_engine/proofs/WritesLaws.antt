@@ -13,7 +13,7 @@ use Rattle.ft_base.specs.Space.{doc_of, erase, write}
 use Rattle.ft_base.specs.declared.doc.Doc.{Doc}
 use Rattle.ft_base.specs.declared.limits.TheConstants.{MAX_WORD_BYTES}
 use Rattle.ft_engine.specs.Step.{hash_in}
-use Rattle.ft_engine.specs.Indexing.{Awaits, settled}
+use Rattle.ft_engine.specs.Indexing.{Awaits, killed, settled}
 use Rattle.ft_engine.specs.Stands.{AreWritten, IndexStands, InStep, definitions_of, markers_at}
 use Rattle.ft_index.proofs.IndexLaws.{gone, index-committed, index-gone, last-push, last-removed, rises-push, rises-removed}
 use Rattle.ft_index.proofs.LiveLaws.{above-no, below-no, last_id-low, row_of, rows-without, same-yes, without-below}
@@ -244,3 +244,51 @@ in_step-more store indexes index id markers step event stands =
       documents = later.documents;
       stand = All-append P indexes (index ∷ []) later.stand (All-cons P index [] here (All-nil P));
     }
+
+-- nothing is left
+pub in_step-empty : (store : Store) (indexes : List Index) (next : ℕ) → store.space ≡ [] → indexes ≡ [] → store.last < next → 0 < next → InStep store indexes next
+in_step-empty store indexes next none nothing last some = record {
+  last = last;
+  documents = subst (λ (docs : List Doc). AreWritten docs next) (sym none) (record { rise = tt; earlier = some; fit = All-nil (λ (doc : Doc). ValuesFit doc.hash) });
+  stand = subst (λ (indexes : List Index). All (IndexStands store.space next (markers_at next)) indexes) (sym nothing) (All-nil (IndexStands store.space next (markers_at next)));
+}
+
+-- an index that a document is taken out of
+index-killed : (docs : List Doc) (id next : ℕ) (markers : Markers) (index : Index) → IndexStands docs next markers index → IndexStands (kept (Some id) docs) next markers (killed (Some id) index)
+index-killed docs id next markers index stands = record {
+  documents = gone index (killed (Some id) index) id docs refl refl refl stands.sound stands.documents;
+  sound = index-gone index.def index.table index.terms id stands.sound;
+  earlier = stands.earlier;
+  before = stands.before;
+}
+
+pub space-kept : (replaced : Option ℕ) (docs : List Doc) (next : ℕ) → AreWritten docs next → AreWritten (kept replaced docs) next
+space-kept replaced docs next written = record {
+  rise = subst (RisesAbove 0) (sym (rows-kept replaced docs written.rise)) (kept_rows-rise replaced (map row_of docs) written.rise);
+  earlier = subst (λ (rows : List (ℕ × List ℕ)). last_id 0 rows < next) (sym (rows-kept replaced docs written.rise)) (omega (arith, kept_rows-end replaced (map row_of docs) written.rise, written.earlier));
+  fit = kept-fit replaced docs written.fit;
+}
+
+-- a document was taken out of the store and of each index
+pub in_step-erased : (old new : Store) (key : List ℕ) (id : ℕ) (indexes : List Index) (next : ℕ) → new.space ≡ erase old.space key → new.last ≡ old.last → Some id ≡ id_of old.space key
+    → InStep old indexes next → InStep new (map (killed (Some id)) indexes) next
+in_step-erased old new key id indexes next space last was step =
+    let whole : new.space ≡ kept (Some id) old.space = space ∙ (erase-kept 0 old.space key step.documents.rise ∙ ap (λ (r : Option ℕ). kept r old.space) (sym was)) in
+    record {
+      last = subst (λ n. n < next) (sym last) step.last;
+      documents = subst (λ (docs : List Doc). AreWritten docs next) (sym whole) (space-kept (Some id) old.space next step.documents);
+      stand = subst (λ (docs : List Doc). All (IndexStands docs next (markers_at next)) (map (killed (Some id)) indexes)) (sym whole)
+          (All-map (IndexStands (kept (Some id) old.space) next (markers_at next)) (killed (Some id)) indexes
+          (λ k d short. index-killed old.space id next (markers_at next) (slice_index_or indexes k d) (step.stand k d short)));
+    }
+
+-- no document has the key
+pub in_step-absent : (old new : Store) (key : List ℕ) (indexes : List Index) (next : ℕ) → new.space ≡ erase old.space key → new.last ≡ old.last → None ≡ id_of old.space key
+    → InStep old indexes next → InStep new indexes next
+in_step-absent old new key indexes next space last was step =
+    let same : new.space ≡ old.space = space ∙ (erase-kept 0 old.space key step.documents.rise ∙ ap (λ (r : Option ℕ). kept r old.space) (sym was)) in
+    in_step-same old new indexes next same last step
+
+pub definitions-killed : (id : ℕ) (indexes : List Index) → definitions_of (map (killed (Some id)) indexes) ≡ definitions_of indexes
+definitions-killed id [] = refl
+definitions-killed id (index ∷ indexes) = ap (λ rest. index.def ∷ rest) (definitions-killed id indexes)

@@ -1,11 +1,11 @@
 -- One step of the machine: a command at an event's number and a moment gives a reply and the next state.
-use Rattle.std.specs.Prelude.{◌≡◌, ◌⊎◌, ℕ, pos, List, [], ◌∷◌, ◌++◌, length, take, drop, map, slice_index_or, Option, Some, None, is_some, Result, Ok, Err, Bool, nat_le, if◌then◌else◌, codes}
+use Rattle.std.specs.Prelude.{◌≡◌, ◌⊎◌, ℕ, pos, List, [], ◌∷◌, ◌++◌, length, take, drop, map, slice_index_or, Option, Some, None, is_some, Result, Ok, Err, Bool, true, false, nat_le, if◌then◌else◌, codes}
 use Rattle.std.specs.Fmt.{decimal}
 use Rattle.cmd_parse.specs.Read.{Asked, Plain, CreateText, SearchWord, read}
 use Rattle.cmd_parse.specs.declared.command.CmdFault.{CmdFault}
 use Rattle.cmd_parse.specs.declared.command.CmdFault.TheVariants.{Unknown, Arity, Syntax, NotInteger, BadDb, NotBuilt}
 use Rattle.cmd_parse.specs.declared.command.Verb.{Verb}
-use Rattle.cmd_parse.specs.declared.command.Verb.TheVariants.{Ping, Echo, Select, Quit, Hset, Hget, Hmget, Hgetall, Hlen, Hexists, Hkeys, Hvals, Exists, TypeOf, Dbsize}
+use Rattle.cmd_parse.specs.declared.command.Verb.TheVariants.{Ping, Echo, Select, Quit, Hset, Hsetnx, Flushall, Hget, Hmget, Hgetall, Hlen, Hexists, Hkeys, Hvals, Exists, TypeOf, Dbsize}
 use Rattle.ft_base.specs.Hash.{Hash, get_field, set_field}
 use Rattle.ft_base.specs.Reply.{spelling}
 use Rattle.ft_base.specs.Space.{doc_of, write}
@@ -13,7 +13,7 @@ use Rattle.ft_base.specs.declared.definition.IndexDef.{IndexDef}
 use Rattle.ft_base.specs.declared.doc.Doc.{Doc}
 use Rattle.ft_base.specs.declared.reply.Reply.{Reply}
 use Rattle.ft_base.specs.declared.reply.Reply.TheVariants.{Line, Fault, Number, Bulk, Array}
-use Rattle.ft_engine.specs.Asking.{first, second}
+use Rattle.ft_engine.specs.Asking.{first, second, third}
 use Rattle.ft_engine.specs.Reads.{in_turn, kind_of, names, one_if, present, value_reply, values}
 use Rattle.ft_engine.specs.Definitions.{text_index, index_of}
 use Rattle.ft_meaning.specs.Meaning.{found}
@@ -84,6 +84,14 @@ field_set key field value number state = let hash = hash_of state key in record 
   after = record state { space = write state.space key (set_field hash field value) number };
 }
 
+-- HSETNX, where the field is there or not
+abbrev pub field_set_if : Bool → List ℕ → List ℕ → List ℕ → ℕ → State → Outcome
+field_set_if true key field value number state = answered (one_if false) state
+field_set_if false key field value number state = record {
+  reply = one_if true;
+  after = record state { space = write state.space key (set_field (hash_of state key) field value) number };
+}
+
 -- What a plain command gives.
 abbrev pub plain : Verb → List (List ℕ) → ℕ → State → Outcome
 plain Ping [] number state = answered (Line (codes "PONG")) state
@@ -101,6 +109,9 @@ plain Hexists args number state = answered (one_if (is_some (get_field (hash_of 
 plain Exists args number state = answered (Number (pos (present state.space args))) state
 plain TypeOf args number state = answered (Line (kind_of (doc_of state.space (first args)))) state
 plain Dbsize args number state = answered (Number (pos (length state.space))) state
+plain Hsetnx args number state =
+    field_set_if (is_some (get_field (hash_of state (first args)) (second args))) (first args) (second args) (third args) number state
+plain Flushall args number state = record { reply = Line (codes "OK"); after = record state { space = []; definitions = [] } }
 plain Hset (key ∷ field ∷ value ∷ []) number state = field_set key field value number state
 plain _ args number state = answered (Fault not_built) state
 
@@ -122,6 +133,7 @@ PlainMayWant Hmget args = Unit {0}
 PlainMayWant Hgetall args = Unit {0}
 PlainMayWant Hkeys args = Unit {0}
 PlainMayWant Hvals args = Unit {0}
+PlainMayWant Hsetnx args = Unit {0}
 PlainMayWant Hset (key ∷ field ∷ value ∷ []) = Unit {0}
 PlainMayWant _ args = ⊥
 

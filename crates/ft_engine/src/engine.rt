@@ -147,15 +147,7 @@ fn do_command(
 {
     match command {
         Command::Plain { verb, args } => {
-            do_plain(
-                store,
-                indexes.as_mut_slice(),
-                alloc,
-                number,
-                verb,
-                args,
-                out,
-            )
+            do_plain(store, indexes, alloc, number, verb, args, out)
         }
         Command::CreateText { index, field } => {
             answer_create(store, indexes, alloc, number, index, field, out)

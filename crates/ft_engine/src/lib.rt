@@ -13,6 +13,7 @@ mod ping;
 mod plain;
 mod reads;
 mod refusals;
+mod removals;
 mod search;
 mod short_reply;
 #[cfg(test)]

@@ -11,8 +11,9 @@ use crate::reads::{
     hexists, hget, hgetall, hkeys, hlen, hmget, hvals, is_there, present, put_flag, put_kind,
     put_made, put_number,
 };
+use crate::removals::flush;
 use crate::short_reply::{SHORT_REPLY, put_fault, put_short};
-use crate::writes::answer_hset;
+use crate::writes::{answer_hset, answer_hsetnx};
 use cmd_parse::Verb;
 use ft_base::Words;
 use ft_index::FtIndex;
@@ -22,23 +23,23 @@ use std::alloc::Global;
 /// Does a plain command in an event with this number, and writes the reply.
 pub fn do_plain(
     store: &mut HashStore,
-    indexes: &mut [FtIndex],
+    indexes: &mut Vec<FtIndex>,
     alloc: Global,
     number: u64,
     verb: Verb,
     args: Words<'_>,
     out: &mut Vec<u8>,
 )
-    requires kept { InStep store.old indexes.old number }
+    requires kept { InStep store.old indexes.old.items number }
     requires number { number < 2 ^ 62 }
     requires lawful { Lawful verb args }
     requires words { AreWords args }
     requires empty { out.old.items ≡ [] }
     requires room { SHORT_REPLY ≤ vec_capacity out.old }
     ensures done { (latest : ℕ) → Does (Plain verb args.entry) number
-        (state_of store.old indexes.old latest) out.new.items
-        (state_of store.new indexes.new latest) }
-    ensures kept { InStep store.new indexes.new (number + 1) }
+        (state_of store.old indexes.old.items latest) out.new.items
+        (state_of store.new indexes.new.items latest) }
+    ensures kept { InStep store.new indexes.new.items (number + 1) }
     ensures room { SHORT_REPLY ≤ vec_capacity out.new }
 {
     match verb {
@@ -47,7 +48,7 @@ pub fn do_plain(
         Verb::Echo => answer_say(alloc, args.word(0), out),
         Verb::Select => put_short(out, b"+OK\r\n"),
         Verb::Quit => put_short(out, b"+OK\r\n"),
-        Verb::Hset => answer_hset(store, indexes, alloc, number, &args, out),
+        Verb::Hset => answer_hset(store, indexes.as_mut_slice(), alloc, number, &args, out),
         Verb::Hget => put_made(hget(store, alloc, args.word(0), args.word(1)), out),
         Verb::Hmget => put_made(hmget(store, alloc, &args), out),
         Verb::Hgetall => put_made(hgetall(store, alloc, args.word(0)), out),
@@ -58,7 +59,10 @@ pub fn do_plain(
         Verb::Exists => put_number(present(store, &args), out),
         Verb::TypeOf => put_kind(is_there(store, args.word(0)), out),
         Verb::Dbsize => put_number(store.len(), out),
-        Verb::Hsetnx | Verb::Hdel | Verb::Hincrby | Verb::Del | Verb::Rename | Verb::Flushall =>
-            put_fault(out, b"ERR not built"),
+        Verb::Hsetnx => {
+            answer_hsetnx(store, indexes.as_mut_slice(), alloc, number, &args, out);
+        }
+        Verb::Flushall => flush(store, indexes, out),
+        Verb::Hdel | Verb::Hincrby | Verb::Del | Verb::Rename => put_fault(out, b"ERR not built"),
     }
 }

@@ -182,6 +182,25 @@ fn reads_hashes(rt: HostRuntime) -> Result<(), Fail> {
 }
 
 #[test]
+fn writes_hashes(rt: HostRuntime) -> Result<(), Fail> {
+    let mut session = begin(rt.alloc())?;
+    for (line, want) in [
+        ("FT.CREATE|ix|SCHEMA|t|TEXT", "+OK\r\n"),
+        ("HSETNX|h|t|hello", ":1\r\n"),
+        ("HSETNX|h|t|bye", ":0\r\n"),
+        ("HGET|h|t", "$5\r\nhello\r\n"),
+        ("FT.SEARCH|ix|hello|NOCONTENT", "*2\r\n:1\r\n$1\r\nh\r\n"),
+        ("FLUSHALL|async", "+OK\r\n"),
+        ("DBSIZE", ":0\r\n"),
+        ("FT.SEARCH|ix|hello|NOCONTENT", "-Unknown index name\r\n"),
+    ] {
+        let reply = ask(rt.alloc(), &mut session, line.as_bytes())?;
+        assert_eq!(rt; reply.as_slice(), want.as_bytes(), "at {line}");
+    }
+    Ok(())
+}
+
+#[test]
 fn refuses_by_the_words_alone(rt: HostRuntime) -> Result<(), Fail> {
     let not_built = "-ERR not built\r\n";
     let unknown = "-ERR unknown command\r\n";

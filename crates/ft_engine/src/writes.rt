@@ -6,7 +6,7 @@ ghost use Rattle.ft_base.specs.Space.{doc_of, write};
 ghost use Rattle.ft_base.specs.declared.doc.Doc.{Doc};
 ghost use Rattle.ft_base.specs.declared.limits.TheConstants.{MAX_WORD_BYTES};
 ghost use Rattle.cmd_parse.specs.Read.{Plain};
-ghost use Rattle.cmd_parse.specs.declared.command.Verb.TheVariants.{Hset};
+ghost use Rattle.cmd_parse.specs.declared.command.Verb.TheVariants.{Hset, Hsetnx};
 ghost use Rattle.ft_engine.specs.Asking.{AreWords};
 ghost use Rattle.ft_engine.specs.Changes.{SetsField};
 ghost use Rattle.ft_engine.specs.Stands.{InStep, definitions_of, state_of};
@@ -14,6 +14,7 @@ ghost use Rattle.ft_engine.specs.Step.{Does, hash_in};
 ghost use Rattle.ft_meaning.specs.Meaning.{ValuesFit};
 
 use crate::indexes::{commit_all, prepare_all};
+use crate::reads::{hexists, put_flag};
 use crate::short_reply::{SHORT_REPLY, put_fault, put_no_memory, put_short};
 use ft_base::{Bytes, Doc, HashRec, NoMemory, Words};
 use ft_index::FtIndex;
@@ -164,4 +165,34 @@ pub fn answer_hset(
         args.word(2),
         out,
     );
+}
+
+/// Does HSETNX, and writes the reply.
+pub fn answer_hsetnx(
+    store: &mut HashStore,
+    indexes: &mut [FtIndex],
+    alloc: Global,
+    id: u64,
+    args: &Words<'_>,
+    out: &mut Vec<u8>,
+)
+    requires number { length args.now ≡ 3 }
+    requires words { AreWords args.now }
+    requires kept { InStep store.old indexes.old id }
+    requires empty { out.old.items ≡ [] }
+    requires room { SHORT_REPLY ≤ vec_capacity out.old }
+    ensures done { (latest : ℕ) → Does (Plain Hsetnx args.now) id
+        (state_of store.old indexes.old latest) out.new.items
+        (state_of store.new indexes.new latest) }
+    ensures kept { InStep store.new indexes.new (id + 1) }
+    ensures room { SHORT_REPLY ≤ vec_capacity out.new }
+{
+    let (key, field) = (args.word(0), args.word(1));
+    if hexists(store, key, field) {
+        return put_flag(false, out);
+    }
+    match set_field(store, indexes, alloc, id, key, field, args.word(2)) {
+        Ok(_) => put_flag(true, out),
+        Err(_) => put_no_memory(out),
+    }
 }

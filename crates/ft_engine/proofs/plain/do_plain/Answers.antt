@@ -1,67 +1,75 @@
-use Rattle.std.proofs.Common.{arith, refl}
+use Rattle.std.proofs.Common.{◌+◌, arith, refl}
 use Rattle.std.specs.Prelude.{codes}
 use Rattle.cmd_parse.specs.declared.command.Verb.TheVariants.{Quit}
 use Rattle.ft_base.specs.declared.reply.Reply.TheVariants.{Line}
 use Rattle.ft_engine.specs.Stands.{state_of}
 use Rattle.ft_engine.proofs.Spellings.{ok_written, pong_written}
-use Rattle.ft_engine.proofs.PlainLaws.{ping-alone, stays-plain}
-use Rattle.ft_engine.proofs.WritesLaws.{in_step-later, in_step-read}
+use Rattle.ft_engine.proofs.PlainLaws.{flushed, ping-alone, stays-plain}
+use Rattle.ft_engine.proofs.WritesLaws.{in_step-empty, in_step-later, in_step-read}
 use Rattle.ft_engine.proofs.plain.do_plain.Goals as goal
 
 pub returns-in-Ping-clause-done : goal.returns-in-Ping-clause-done
 returns-in-Ping-clause-done c latest =
-    ping-alone c.args.verb c.args.args c.args.number (state_of c.args.store.now c.args.indexes.now latest) _ c.in-Ping.is (omega (arith, c.len.ensures, c.if-len-eq0.true))
+    ping-alone c.args.verb c.args.args c.args.number (state_of c.args.store.now c.args.indexes.now.items latest) _ c.in-Ping.is (omega (arith, c.len.ensures, c.if-len-eq0.true))
     (pong_written _ _ c.requires.empty c.put_short.ensures.text)
 
 pub returns-in-Ping-clause-kept : goal.returns-in-Ping-clause-kept
-returns-in-Ping-clause-kept c = in_step-later c.args.store.now c.args.indexes.now c.args.number c.requires.kept
+returns-in-Ping-clause-kept c = in_step-later c.args.store.now c.args.indexes.now.items c.args.number c.requires.kept
 
 pub returns-in-Ping-2-clause-kept : goal.returns-in-Ping-2-clause-kept
-returns-in-Ping-2-clause-kept c = in_step-later c.args.store.now c.args.indexes.now c.args.number c.requires.kept
+returns-in-Ping-2-clause-kept c = in_step-later c.args.store.now c.args.indexes.now.items c.args.number c.requires.kept
 
 pub returns-in-Quit-clause-done : goal.returns-in-Quit-clause-done
 returns-in-Quit-clause-done c latest =
-    stays-plain c.args.verb Quit c.args.args c.args.number (state_of c.args.store.now c.args.indexes.now latest) _ (Line (codes "OK")) c.in-Quit.is refl
+    stays-plain c.args.verb Quit c.args.args c.args.number (state_of c.args.store.now c.args.indexes.now.items latest) _ (Line (codes "OK")) c.in-Quit.is refl
     (ok_written _ _ c.requires.empty c.put_short-in-Quit.ensures.text)
 
 pub returns-in-Quit-clause-kept : goal.returns-in-Quit-clause-kept
-returns-in-Quit-clause-kept c = in_step-later c.args.store.now c.args.indexes.now c.args.number c.requires.kept
+returns-in-Quit-clause-kept c = in_step-later c.args.store.now c.args.indexes.now.items c.args.number c.requires.kept
 
 pub returns-in-Echo-clause-kept : goal.returns-in-Echo-clause-kept
-returns-in-Echo-clause-kept c = in_step-later c.args.store.now c.args.indexes.now c.args.number c.requires.kept
+returns-in-Echo-clause-kept c = in_step-later c.args.store.now c.args.indexes.now.items c.args.number c.requires.kept
 
 pub returns-in-Select-clause-kept : goal.returns-in-Select-clause-kept
-returns-in-Select-clause-kept c = in_step-later c.args.store.now c.args.indexes.now c.args.number c.requires.kept
+returns-in-Select-clause-kept c = in_step-later c.args.store.now c.args.indexes.now.items c.args.number c.requires.kept
 
 pub returns-in-Hget-clause-kept : goal.returns-in-Hget-clause-kept
-returns-in-Hget-clause-kept c = in_step-read c.args.store.now c.hget.new.store c.args.indexes.now c.args.number c.hget.ensures.space c.hget.ensures.last c.requires.kept
+returns-in-Hget-clause-kept c = in_step-read c.args.store.now c.hget.new.store c.args.indexes.now.items c.args.number c.hget.ensures.space c.hget.ensures.last c.requires.kept
 
 pub returns-in-Hmget-clause-kept : goal.returns-in-Hmget-clause-kept
-returns-in-Hmget-clause-kept c = in_step-read c.args.store.now c.hmget.new.store c.args.indexes.now c.args.number c.hmget.ensures.space c.hmget.ensures.last c.requires.kept
+returns-in-Hmget-clause-kept c = in_step-read c.args.store.now c.hmget.new.store c.args.indexes.now.items c.args.number c.hmget.ensures.space c.hmget.ensures.last c.requires.kept
 
 pub returns-in-Hgetall-clause-kept : goal.returns-in-Hgetall-clause-kept
-returns-in-Hgetall-clause-kept c = in_step-read c.args.store.now c.hgetall.new.store c.args.indexes.now c.args.number c.hgetall.ensures.space c.hgetall.ensures.last c.requires.kept
+returns-in-Hgetall-clause-kept c = in_step-read c.args.store.now c.hgetall.new.store c.args.indexes.now.items c.args.number c.hgetall.ensures.space c.hgetall.ensures.last c.requires.kept
 
 pub returns-in-Hkeys-clause-kept : goal.returns-in-Hkeys-clause-kept
-returns-in-Hkeys-clause-kept c = in_step-read c.args.store.now c.hkeys.new.store c.args.indexes.now c.args.number c.hkeys.ensures.space c.hkeys.ensures.last c.requires.kept
+returns-in-Hkeys-clause-kept c = in_step-read c.args.store.now c.hkeys.new.store c.args.indexes.now.items c.args.number c.hkeys.ensures.space c.hkeys.ensures.last c.requires.kept
 
 pub returns-in-Hvals-clause-kept : goal.returns-in-Hvals-clause-kept
-returns-in-Hvals-clause-kept c = in_step-read c.args.store.now c.hvals.new.store c.args.indexes.now c.args.number c.hvals.ensures.space c.hvals.ensures.last c.requires.kept
+returns-in-Hvals-clause-kept c = in_step-read c.args.store.now c.hvals.new.store c.args.indexes.now.items c.args.number c.hvals.ensures.space c.hvals.ensures.last c.requires.kept
 
 pub returns-in-Hlen-clause-kept : goal.returns-in-Hlen-clause-kept
-returns-in-Hlen-clause-kept c = in_step-read c.args.store.now c.hlen.new.store c.args.indexes.now c.args.number c.hlen.ensures.space c.hlen.ensures.last c.requires.kept
+returns-in-Hlen-clause-kept c = in_step-read c.args.store.now c.hlen.new.store c.args.indexes.now.items c.args.number c.hlen.ensures.space c.hlen.ensures.last c.requires.kept
 
 pub returns-in-Hexists-clause-kept : goal.returns-in-Hexists-clause-kept
-returns-in-Hexists-clause-kept c = in_step-read c.args.store.now c.hexists.new.store c.args.indexes.now c.args.number c.hexists.ensures.space c.hexists.ensures.last c.requires.kept
+returns-in-Hexists-clause-kept c = in_step-read c.args.store.now c.hexists.new.store c.args.indexes.now.items c.args.number c.hexists.ensures.space c.hexists.ensures.last c.requires.kept
 
 pub returns-in-Exists-clause-kept : goal.returns-in-Exists-clause-kept
-returns-in-Exists-clause-kept c = in_step-later c.args.store.now c.args.indexes.now c.args.number c.requires.kept
+returns-in-Exists-clause-kept c = in_step-later c.args.store.now c.args.indexes.now.items c.args.number c.requires.kept
 
 pub returns-in-TypeOf-clause-kept : goal.returns-in-TypeOf-clause-kept
-returns-in-TypeOf-clause-kept c = in_step-later c.args.store.now c.args.indexes.now c.args.number c.requires.kept
+returns-in-TypeOf-clause-kept c = in_step-later c.args.store.now c.args.indexes.now.items c.args.number c.requires.kept
 
 pub returns-in-Dbsize-clause-kept : goal.returns-in-Dbsize-clause-kept
-returns-in-Dbsize-clause-kept c = in_step-later c.args.store.now c.args.indexes.now c.args.number c.requires.kept
+returns-in-Dbsize-clause-kept c = in_step-later c.args.store.now c.args.indexes.now.items c.args.number c.requires.kept
 
-pub returns-in-Hsetnx-clause-kept : goal.returns-in-Hsetnx-clause-kept
-returns-in-Hsetnx-clause-kept c = in_step-later c.args.store.now c.args.indexes.now c.args.number c.requires.kept
+pub returns-in-Hdel-clause-kept : goal.returns-in-Hdel-clause-kept
+returns-in-Hdel-clause-kept c = in_step-later c.args.store.now c.args.indexes.now.items c.args.number c.requires.kept
+
+pub returns-in-Flushall-clause-done : goal.returns-in-Flushall-clause-done
+returns-in-Flushall-clause-done c latest =
+    flushed c.args.verb c.args.args c.args.number latest c.args.store.now c.flush.new.store c.args.indexes.now.items c.flush.new.indexes.items _ c.in-Flushall.is c.flush.ensures.space c.flush.ensures.indexes c.flush.ensures.reply
+
+pub returns-in-Flushall-clause-kept : goal.returns-in-Flushall-clause-kept
+returns-in-Flushall-clause-kept c =
+    in_step-empty c.flush.new.store c.flush.new.indexes.items (c.args.number + 1) c.flush.ensures.space c.flush.ensures.indexes (omega (arith, c.flush.ensures.last, c.requires.kept.last)) (omega arith)
