@@ -11,4 +11,3 @@ pub mod SearchLaws
 pub mod Spellings
 pub mod Stepping
 pub mod WritesLaws
-pub mod Writing

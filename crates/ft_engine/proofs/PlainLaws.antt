@@ -1,20 +1,22 @@
 -- Steps of plain commands that change nothing.
-use Rattle.std.proofs.Common.{◌≡◌, ◌⊎◌, ℕ, List, [], ◌∷◌, length, refl, subst, sym, ap, ◌∙◌, arith, inl, inr}
-use Rattle.std.specs.Prelude.{codes}
-use Rattle.cmd_parse.specs.Read.{Plain}
+use Rattle.std.proofs.Common.{◌≡◌, ℕ, List, [], ◌∷◌, ◌++◌, take, drop, length, refl, subst, sym, ap, ◌∙◌, arith, inl, inr}
+use Rattle.std.specs.Prelude.{codes, is_some, Bool, false}
+use Rattle.ft_base.specs.Hash.{get_field}
+use Rattle.ft_base.specs.Space.{doc_of}
+use Rattle.ft_engine.specs.Asking.{first, second}
+use Rattle.std.proofs.lemmas.List.{take_at}
+use Rattle.cmd_parse.specs.Read.{Asked, Plain}
 use Rattle.cmd_parse.specs.declared.command.Verb.{Verb}
-use Rattle.cmd_parse.specs.declared.command.Verb.TheVariants.{Ping, Hset, Flushall}
+use Rattle.cmd_parse.specs.declared.command.Verb.TheVariants.{Ping, Hset, Hsetnx, Flushall}
 use Rattle.ft_base.specs.Reply.{spelling}
 use Rattle.ft_base.specs.declared.reply.Reply.{Reply}
-use Rattle.ft_base.specs.declared.reply.Reply.TheVariants.{Line, Fault}
+use Rattle.ft_base.specs.declared.reply.Reply.TheVariants.{Line}
 use Rattle.ft_base.specs.declared.doc.Doc.{Doc}
-use Rattle.ft_engine.specs.Asking.{first, second, third}
-use Rattle.ft_engine.specs.Changes.{SetsField}
 use Rattle.ft_engine.specs.Machine.{State}
 use Rattle.ft_engine.specs.Stands.{definitions_of, state_of}
 use Rattle.ft_index.specs.Index.{Index}
 use Rattle.hash_store.specs.Store.{Store}
-use Rattle.ft_engine.specs.Step.{Does, answered, not_built, plain}
+use Rattle.ft_engine.specs.Step.{Does, Outcome, answered, hash_in, hset_unless, plain}
 use Rattle.ft_engine.proofs.Stepping.{stays}
 
 -- a command of this verb that changes nothing
@@ -29,47 +31,6 @@ pub ping-alone : (verb : Verb) (args : List (List ℕ)) (number : ℕ) (state : 
 ping-alone verb [] number state written is none said = stays-plain verb Ping [] number state written (Line (codes "PONG")) is refl said
 ping-alone verb (arg ∷ args) number state written is none said = absurd (omega (arith, none))
 
--- HSET of other than one field
-pub hset-other : (args : List (List ℕ)) (number : ℕ) (state : State) (written : List ℕ) → (length args ≡ 3 → ⊥) → written ≡ spelling (Fault not_built)
-    → Does (Plain Hset args) number state written state
-hset-other [] number state written other said = stays (Plain Hset []) number state written (Fault not_built) refl said
-hset-other (a ∷ []) number state written other said = stays (Plain Hset (a ∷ [])) number state written (Fault not_built) refl said
-hset-other (a ∷ b ∷ []) number state written other said = stays (Plain Hset (a ∷ b ∷ [])) number state written (Fault not_built) refl said
-hset-other (a ∷ b ∷ c ∷ []) number state written other said = absurd (other refl)
-hset-other (a ∷ b ∷ c ∷ d ∷ args) number state written other said = stays (Plain Hset (a ∷ b ∷ c ∷ d ∷ args)) number state written (Fault not_built) refl said
-
--- HSET of one field
-pub hset-one : (args : List (List ℕ)) (number : ℕ) (old new : State) (written : List ℕ) → length args ≡ 3 → new ≡ record old { space = new.space }
-    → SetsField old.space new.space number (first args) (second args) (third args) written → Does (Plain Hset args) number old written new
-hset-one [] number old new written three frame sets = absurd (omega (arith, three))
-hset-one (a ∷ []) number old new written three frame sets = absurd (omega (arith, three))
-hset-one (a ∷ b ∷ []) number old new written three frame sets = absurd (omega (arith, three))
-hset-one (a ∷ b ∷ c ∷ d ∷ args) number old new written three frame sets = absurd (omega (arith, three))
-hset-one (key ∷ field ∷ value ∷ []) number old new written three frame sets = elim sets [
-  | inl done ↦ inl (done.0, frame ∙ ap (λ (space : List Doc). record old { space = space }) done.1)
-  | inr wanting ↦ inr (tt, wanting.0, frame ∙ ap (λ (space : List Doc). record old { space = space }) wanting.1)
-]
-
--- A verb is one of some.
-abbrev pub IsOneOf : List Verb → Verb → Type 0
-IsOneOf [] verb = ⊥
-IsOneOf (one ∷ []) verb = verb ≡ one
-IsOneOf (one ∷ other ∷ more) verb = (verb ≡ one) ⊎ IsOneOf (other ∷ more) verb
-
-abbrev pub EachOf : (Verb → Type 0) → List Verb → Type 0
-EachOf P [] = Unit {0}
-EachOf P (one ∷ []) = P one
-EachOf P (one ∷ other ∷ more) = P one × EachOf P (other ∷ more)
-
--- what holds of each holds of the one
-pub of_one : (P : Verb → Type 0) (verbs : List Verb) (verb : Verb) → EachOf P verbs → IsOneOf verbs verb → P verb
-of_one P [] verb each one = absurd one
-of_one P (known ∷ []) verb each one = subst P (sym one) each
-of_one P (known ∷ other ∷ more) verb each one = elim one [
-  | inl is ↦ subst P (sym is) each.0
-  | inr later ↦ of_one P (other ∷ more) verb each.1 later
-]
-
 -- FLUSHALL
 pub flushed : (verb : Verb) (args : List (List ℕ)) (number latest : ℕ) (old new : Store) (before after : List Index) (written : List ℕ) → verb ≡ Flushall → new.space ≡ [] → after ≡ [] → written ≡ spelling (Line (codes "OK"))
     → Does (Plain verb args) number (state_of old before latest) written (state_of new after latest)
@@ -80,3 +41,29 @@ flushed verb args number latest old new before after written is none nothing sai
       ap (λ (space : List Doc). record { space = space; definitions = definitions_of after; latest = latest }) none
           ∙ ap (λ (indexes : List Index). record { space = []; definitions = definitions_of indexes; latest = latest }) nothing,
     ))
+
+-- HSETNX of a field that is not there is HSET
+pub hsetnx-new : (args : List (List ℕ)) (number latest : ℕ) (old read : Store) (indexes : List Index) (new : State) (written : List ℕ) → read.space ≡ old.space
+    → is_some (get_field (hash_in (doc_of old.space (first args))) (second args)) ≡ false → Does (Plain Hset args) number (state_of read indexes latest) written new
+    → Does (Plain Hsetnx args) number (state_of old indexes latest) written new
+hsetnx-new args number latest old read indexes new written same absent does =
+    let here : state_of read indexes latest ≡ state_of old indexes latest = ap (λ (space : List Doc). record { space = space; definitions = definitions_of indexes; latest = latest }) same in
+    let done : Does (Plain Hset args) number (state_of old indexes latest) written new = subst (λ (s : State). Does (Plain Hset args) number s written new) here does in
+    let unless : plain Hset args number (state_of old indexes latest) ≡ plain Hsetnx args number (state_of old indexes latest) =
+    sym (ap (λ (there : Bool). hset_unless there args number (state_of old indexes latest)) absent) in
+    elim done [
+      | inl took ↦ inl (took.0 ∙ ap (λ (o : Outcome). spelling o.reply) unless, took.1 ∙ ap (λ (o : Outcome). o.after) unless)
+      | inr want ↦ inr want
+    ]
+
+-- a step of a verb that is this one
+pub of_verb : (verb known : Verb) (args : List (List ℕ)) (number : ℕ) (old new : State) (written : List ℕ) → verb ≡ known → Does (Plain known args) number old written new → Does (Plain verb args) number old written new
+of_verb verb known args number old new written is does = subst (λ (v : Verb). Does (Plain v args) number old written new) (sym is) does
+
+-- a step that was taken over all items of a vector
+pub over_all : (asks : Asked) (number latest len : ℕ) (old new : Store) (lent items now : List Index) (written : List ℕ) → lent ≡ items → length now ≡ len
+    → Does asks number (state_of old lent latest) written (state_of new now latest)
+    → Does asks number (state_of old items latest) written (state_of new (take len (now ++ drop (length now) items)) latest)
+over_all asks number latest len old new lent items now written same whole does =
+    subst (λ (is : List Index). Does asks number (state_of old items latest) written (state_of new is latest)) (sym (take_at now (drop (length now) items) len whole))
+    (subst (λ (is : List Index). Does asks number (state_of old is latest) written (state_of new now latest)) same does)

@@ -1,6 +1,6 @@
 -- A document that is written: the space, and what each index stands for.
-use Rattle.std.specs.Prelude.{◌≡◌, ◌<◌, ◌≤◌, ◌+◌, ℕ, Bool, true, false, cond, not, List, [], ◌∷◌, ◌++◌, zero, suc, Option, None, Some, IfSome, length, map, nat_eq, slice_index_or, refl}
-use Rattle.std.proofs.Common.{sym, ap, ◌∙◌, subst, inl, inr, arith}
+use Rattle.std.specs.Prelude.{◌≡◌, ◌<◌, ◌≤◌, ◌+◌, ◌*◌, ◌/◌, ℕ, Bool, true, false, cond, not, List, [], ◌∷◌, ◌++◌, zero, suc, Option, None, Some, IfSome, length, drop, map, nat_eq, slice_index_or, refl}
+use Rattle.std.proofs.Common.{sym, ap, ◌∙◌, subst, inl, inr, arith, length-drop}
 use Rattle.std.specs.List.{All}
 use Rattle.std.specs.Map.{remove_entry}
 use Rattle.std.specs.Option.{option_map}
@@ -12,7 +12,8 @@ use Rattle.ft_base.specs.Hash.{Hash, set_field}
 use Rattle.ft_base.specs.Space.{doc_of, erase, write}
 use Rattle.ft_base.specs.declared.doc.Doc.{Doc}
 use Rattle.ft_base.specs.declared.limits.TheConstants.{MAX_WORD_BYTES}
-use Rattle.ft_engine.specs.Step.{hash_in}
+use Rattle.ft_engine.specs.Step.{hash_in, set_pairs}
+use Rattle.ft_engine.specs.Asking.{AreWords}
 use Rattle.ft_engine.specs.Indexing.{Awaits, killed, settled}
 use Rattle.ft_engine.specs.Stands.{AreWritten, IndexStands, InStep, definitions_of, markers_at}
 use Rattle.ft_index.proofs.IndexLaws.{gone, index-committed, index-gone, last-push, last-removed, rises-push, rises-removed}
@@ -292,3 +293,58 @@ in_step-absent old new key indexes next space last was step =
 pub definitions-killed : (id : ℕ) (indexes : List Index) → definitions_of (map (killed (Some id)) indexes) ≡ definitions_of indexes
 definitions-killed id [] = refl
 definitions-killed id (index ∷ indexes) = ap (λ rest. index.def ∷ rest) (definitions-killed id indexes)
+
+set-longer : (hash : Hash) (field value : List ℕ) → length hash ≤ length (set_field hash field value)
+set-longer [] field value = omega arith
+set-longer (pair ∷ hash) field value = elim (cases_Bool (bytes_eq field pair.0)) [
+  | inl y ↦ rw y (omega arith)
+  | inr n ↦ rw n (omega (arith, set-longer hash field value))
+]
+
+-- a hash with pairs set has no fewer fields
+pub pairs-longer : (hash : Hash) (pairs : List (List ℕ)) → length hash ≤ length (set_pairs hash pairs)
+pairs-longer hash [] = omega arith
+pairs-longer hash (field ∷ []) = omega arith
+pairs-longer hash (field ∷ value ∷ pairs) = omega (arith, set-longer hash field value, pairs-longer (set_field hash field value) pairs)
+
+-- and some, where a pair is set
+pub pairs-filled : (hash : Hash) (pairs : List (List ℕ)) → 2 ≤ length pairs → 0 < length (set_pairs hash pairs)
+pairs-filled hash [] some = absurd (omega (arith, some))
+pairs-filled hash (field ∷ []) some = absurd (omega (arith, some))
+pairs-filled hash (field ∷ value ∷ pairs) some = omega (arith, set-filled hash field value, pairs-longer (set_field hash field value) pairs)
+
+-- and its values fit where the words do
+pub pairs-fit : (hash : Hash) (pairs : List (List ℕ)) → ValuesFit hash → AreWords pairs → ValuesFit (set_pairs hash pairs)
+pairs-fit hash [] fit words = fit
+pairs-fit hash (field ∷ []) fit words = fit
+pairs-fit hash (field ∷ value ∷ pairs) fit words =
+    let rest = All-tail (λ word. length word ≤ MAX_WORD_BYTES) field (value ∷ pairs) words in
+    pairs-fit (set_field hash field value) pairs (set-fits hash field value fit (All-head (λ word. length word ≤ MAX_WORD_BYTES) value pairs rest)) (All-tail (λ word. length word ≤ MAX_WORD_BYTES) value pairs rest)
+
+pairs-at : (hash : Hash) (pairs : List (List ℕ)) (k : ℕ) → suc k < length pairs
+    → set_pairs hash (drop k pairs) ≡ set_pairs (set_field hash (slice_index_or pairs k []) (slice_index_or pairs (suc k) [])) (drop (suc (suc k)) pairs)
+pairs-at hash [] k within = absurd (omega (arith, within))
+pairs-at hash (field ∷ []) k within = absurd (omega (arith, within))
+pairs-at hash (field ∷ value ∷ pairs) zero within = refl
+pairs-at hash (word ∷ other ∷ pairs) (suc k) within = pairs-at hash (other ∷ pairs) k (omega (arith, within))
+
+-- the pair at a place is set before those behind it
+pub pairs-step : (hash now : Hash) (pairs : List (List ℕ)) (i : ℕ) (field value : List ℕ) → 2 * i + 1 < length pairs → field ≡ slice_index_or pairs (2 * i) [] → value ≡ slice_index_or pairs (2 * i + 1) []
+    → now ≡ set_field hash field value → set_pairs now (drop (2 * (i + 1)) pairs) ≡ set_pairs hash (drop (2 * i) pairs)
+pairs-step hash now pairs i field value within f v is =
+    let one : 2 * i + 1 ≡ suc (2 * i) = omega arith in
+    let two : 2 * (i + 1) ≡ suc (suc (2 * i)) = omega arith in
+    let set : now ≡ set_field hash (slice_index_or pairs (2 * i) []) (slice_index_or pairs (suc (2 * i)) []) =
+    is ∙ (ap (λ (w : List ℕ). set_field hash w value) f ∙ ap (λ (w : List ℕ). set_field hash (slice_index_or pairs (2 * i) []) w) (v ∙ ap (λ (n : ℕ). slice_index_or pairs n []) one)) in
+    ap (λ (n : ℕ). set_pairs now (drop n pairs)) two
+    ∙ (ap (λ (h : Hash). set_pairs h (drop (suc (suc (2 * i))) pairs)) set ∙ sym (pairs-at hash pairs (2 * i) (omega (arith, within))))
+
+-- less than a pair is left
+pub pairs-end : (hash : Hash) (pairs : List (List ℕ)) → length pairs ≤ 1 → set_pairs hash pairs ≡ hash
+pairs-end hash [] few = refl
+pairs-end hash (field ∷ []) few = refl
+pairs-end hash (field ∷ value ∷ pairs) few = absurd (omega (arith, few))
+
+-- all pairs were set
+pub pairs-done : (hash now : Hash) (pairs : List (List ℕ)) (i : ℕ) → length pairs / 2 ≤ i → set_pairs now (drop (2 * i) pairs) ≡ set_pairs hash pairs → now ≡ set_pairs hash pairs
+pairs-done hash now pairs i most whole = sym (pairs-end now (drop (2 * i) pairs) (omega (arith, length-drop (2 * i) pairs, most))) ∙ whole

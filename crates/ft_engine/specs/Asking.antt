@@ -5,15 +5,12 @@ use Rattle.ft_base.specs.declared.limits.TheConstants.{MAX_WORD_BYTES}
 use Rattle.cmd_parse.specs.Lawful.{Lawful}
 use Rattle.cmd_parse.specs.Read.{Asked, Plain, CreateText, SearchWord}
 
--- the first argument of a command, the second and the third
+-- the first argument of a command, and the second
 abbrev pub first : List (List ℕ) → List ℕ
 first args = slice_index_or args 0 []
 
 abbrev pub second : List (List ℕ) → List ℕ
 second args = slice_index_or args 1 []
-
-abbrev pub third : List (List ℕ) → List ℕ
-third args = slice_index_or args 2 []
 
 -- no argument is longer than a word may be
 abbrev pub AreWords : List (List ℕ) → Type 0

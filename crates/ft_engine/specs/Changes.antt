@@ -1,19 +1,11 @@
 -- What a command changes in the lists that the engine holds, and what is answered.
-use Rattle.std.specs.Prelude.{◌≡◌, ◌⊎◌, ℕ, List, is_some}
-use Rattle.ft_base.specs.Hash.{get_field, set_field}
+use Rattle.std.specs.Prelude.{◌≡◌, ◌⊎◌, ℕ, List}
 use Rattle.ft_base.specs.Reply.{spelling}
-use Rattle.ft_base.specs.Space.{doc_of, write}
 use Rattle.ft_base.specs.declared.definition.IndexDef.{IndexDef}
 use Rattle.ft_base.specs.declared.doc.Doc.{Doc}
 use Rattle.ft_engine.specs.Definitions.{text_index, index_of}
-use Rattle.ft_engine.specs.Step.{hash_in, fresh_fields, created, searched, out_of_memory}
+use Rattle.ft_engine.specs.Step.{created, searched, out_of_memory}
 use Rattle.token_text.specs.Tokens.{lowered}
-
--- A field was set and the number of new fields answered; or memory was wanting, and nothing changed.
-abbrev pub SetsField : List Doc → List Doc → ℕ → List ℕ → List ℕ → List ℕ → List ℕ → Type 0
-SetsField old new id key field value reply = let hash = hash_in (doc_of old key) in
-    ((reply ≡ spelling (fresh_fields (is_some (get_field hash field)))) × (new ≡ write old key (set_field hash field value) id))
-    ⊎ ((reply ≡ spelling out_of_memory) × (new ≡ old))
 
 -- An index was created or refused as the machine does it; or memory was wanting, and nothing changed.
 abbrev pub CreatesText : List IndexDef → List IndexDef → ℕ → List ℕ → List ℕ → List ℕ → Type 0

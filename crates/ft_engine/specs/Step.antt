@@ -1,5 +1,5 @@
 -- One step of the machine: a command at an event's number and a moment gives a reply and the next state.
-use Rattle.std.specs.Prelude.{◌≡◌, ◌⊎◌, ℕ, pos, List, [], ◌∷◌, ◌++◌, length, take, drop, map, slice_index_or, Option, Some, None, is_some, Result, Ok, Err, Bool, true, false, nat_le, if◌then◌else◌, codes}
+use Rattle.std.specs.Prelude.{◌≡◌, ◌⊎◌, ℕ, pos, List, [], ◌∷◌, ◌++◌, ◌-◌, length, take, drop, map, slice_index_or, Option, Some, None, is_some, Result, Ok, Err, Bool, true, false, nat_le, if◌then◌else◌, codes}
 use Rattle.std.specs.Fmt.{decimal}
 use Rattle.cmd_parse.specs.Read.{Asked, Plain, CreateText, SearchWord, read}
 use Rattle.cmd_parse.specs.declared.command.CmdFault.{CmdFault}
@@ -13,7 +13,7 @@ use Rattle.ft_base.specs.declared.definition.IndexDef.{IndexDef}
 use Rattle.ft_base.specs.declared.doc.Doc.{Doc}
 use Rattle.ft_base.specs.declared.reply.Reply.{Reply}
 use Rattle.ft_base.specs.declared.reply.Reply.TheVariants.{Line, Fault, Number, Bulk, Array}
-use Rattle.ft_engine.specs.Asking.{first, second, third}
+use Rattle.ft_engine.specs.Asking.{first, second}
 use Rattle.ft_engine.specs.Reads.{in_turn, kind_of, names, one_if, present, value_reply, values}
 use Rattle.ft_engine.specs.Definitions.{text_index, index_of}
 use Rattle.ft_meaning.specs.Meaning.{found}
@@ -35,10 +35,6 @@ hash_in (Some doc) = doc.hash
 -- the hash of a key, without fields where there is none
 abbrev pub hash_of : State → List ℕ → Hash
 hash_of state key = hash_in (doc_of state.space key)
-
--- how many fields are new where one is set
-abbrev pub fresh_fields : Bool → Reply
-fresh_fields present = Number (if present then pos 0 else pos 1)
 
 -- the most indexes that there may be
 abbrev pub most_indexes : ℕ
@@ -77,20 +73,23 @@ abbrev pub Told : {E : Type 0} → Result Reply E → List ℕ → Type 0
 Told (Ok reply) written = (written ≡ spelling reply) ⊎ (written ≡ spelling out_of_memory)
 Told (Err e) written = written ≡ spelling out_of_memory
 
--- HSET of one field
-abbrev pub field_set : List ℕ → List ℕ → List ℕ → ℕ → State → Outcome
-field_set key field value number state = let hash = hash_of state key in record {
-  reply = fresh_fields (is_some (get_field hash field));
-  after = record state { space = write state.space key (set_field hash field value) number };
+-- a hash with pairs of fields and values set from the left
+abbrev pub set_pairs : Hash → List (List ℕ) → Hash
+set_pairs hash [] = hash
+set_pairs hash (field ∷ []) = hash
+set_pairs hash (field ∷ value ∷ pairs) = set_pairs (set_field hash field value) pairs
+
+-- HSET: the number of new fields
+abbrev pub hset : List (List ℕ) → ℕ → State → Outcome
+hset args number state = let old = hash_of state (first args) in let new = set_pairs old (drop 1 args) in record {
+  reply = Number (pos (length new - length old));
+  after = record state { space = write state.space (first args) new number };
 }
 
 -- HSETNX, where the field is there or not
-abbrev pub field_set_if : Bool → List ℕ → List ℕ → List ℕ → ℕ → State → Outcome
-field_set_if true key field value number state = answered (one_if false) state
-field_set_if false key field value number state = record {
-  reply = one_if true;
-  after = record state { space = write state.space key (set_field (hash_of state key) field value) number };
-}
+abbrev pub hset_unless : Bool → List (List ℕ) → ℕ → State → Outcome
+hset_unless true args number state = answered (Number (pos 0)) state
+hset_unless false args number state = hset args number state
 
 -- What a plain command gives.
 abbrev pub plain : Verb → List (List ℕ) → ℕ → State → Outcome
@@ -109,10 +108,9 @@ plain Hexists args number state = answered (one_if (is_some (get_field (hash_of 
 plain Exists args number state = answered (Number (pos (present state.space args))) state
 plain TypeOf args number state = answered (Line (kind_of (doc_of state.space (first args)))) state
 plain Dbsize args number state = answered (Number (pos (length state.space))) state
-plain Hsetnx args number state =
-    field_set_if (is_some (get_field (hash_of state (first args)) (second args))) (first args) (second args) (third args) number state
+plain Hset args number state = hset args number state
+plain Hsetnx args number state = hset_unless (is_some (get_field (hash_of state (first args)) (second args))) args number state
 plain Flushall args number state = record { reply = Line (codes "OK"); after = record state { space = []; definitions = [] } }
-plain Hset (key ∷ field ∷ value ∷ []) number state = field_set key field value number state
 plain _ args number state = answered (Fault not_built) state
 
 -- What a command gives that asks this.
@@ -134,7 +132,7 @@ PlainMayWant Hgetall args = Unit {0}
 PlainMayWant Hkeys args = Unit {0}
 PlainMayWant Hvals args = Unit {0}
 PlainMayWant Hsetnx args = Unit {0}
-PlainMayWant Hset (key ∷ field ∷ value ∷ []) = Unit {0}
+PlainMayWant Hset args = Unit {0}
 PlainMayWant _ args = ⊥
 
 -- Whether a command may be answered that memory is wanting.

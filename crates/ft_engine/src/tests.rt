@@ -190,6 +190,13 @@ fn writes_hashes(rt: HostRuntime) -> Result<(), Fail> {
         ("HSETNX|h|t|bye", ":0\r\n"),
         ("HGET|h|t", "$5\r\nhello\r\n"),
         ("FT.SEARCH|ix|hello|NOCONTENT", "*2\r\n:1\r\n$1\r\nh\r\n"),
+        ("HSET|h|t|a|u|1|t|b|v|2|v|3", ":2\r\n"),
+        (
+            "HGETALL|h",
+            "*6\r\n$1\r\nt\r\n$1\r\nb\r\n$1\r\nu\r\n$1\r\n1\r\n$1\r\nv\r\n$1\r\n3\r\n",
+        ),
+        ("FT.SEARCH|ix|hello|NOCONTENT", "*1\r\n:0\r\n"),
+        ("FT.SEARCH|ix|b|NOCONTENT", "*2\r\n:1\r\n$1\r\nh\r\n"),
         ("FLUSHALL|async", "+OK\r\n"),
         ("DBSIZE", ":0\r\n"),
         ("FT.SEARCH|ix|hello|NOCONTENT", "-Unknown index name\r\n"),

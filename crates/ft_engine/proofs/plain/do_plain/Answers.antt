@@ -1,10 +1,11 @@
 use Rattle.std.proofs.Common.{◌+◌, arith, refl}
 use Rattle.std.specs.Prelude.{codes}
-use Rattle.cmd_parse.specs.declared.command.Verb.TheVariants.{Quit}
+use Rattle.cmd_parse.specs.declared.command.Verb.TheVariants.{Hset, Quit}
+use Rattle.cmd_parse.specs.Read.{Plain}
 use Rattle.ft_base.specs.declared.reply.Reply.TheVariants.{Line}
 use Rattle.ft_engine.specs.Stands.{state_of}
 use Rattle.ft_engine.proofs.Spellings.{ok_written, pong_written}
-use Rattle.ft_engine.proofs.PlainLaws.{flushed, ping-alone, stays-plain}
+use Rattle.ft_engine.proofs.PlainLaws.{flushed, of_verb, over_all, ping-alone, stays-plain}
 use Rattle.ft_engine.proofs.WritesLaws.{in_step-empty, in_step-later, in_step-read}
 use Rattle.ft_engine.proofs.plain.do_plain.Goals as goal
 
@@ -73,3 +74,8 @@ returns-in-Flushall-clause-done c latest =
 pub returns-in-Flushall-clause-kept : goal.returns-in-Flushall-clause-kept
 returns-in-Flushall-clause-kept c =
     in_step-empty c.flush.new.store c.flush.new.indexes.items (c.args.number + 1) c.flush.ensures.space c.flush.ensures.indexes (omega (arith, c.flush.ensures.last, c.requires.kept.last)) (omega arith)
+
+pub returns-in-Hset-clause-done : goal.returns-in-Hset-clause-done
+returns-in-Hset-clause-done c latest =
+    of_verb _ _ _ _ _ _ _ c.in-Hset.is (over_all (Plain Hset c.args.args) c.args.number latest c.args.indexes.now.len c.args.store.now c.answer_hset.new.store c.as_mut_slice.result.now c.args.indexes.now.items
+    c.answer_hset.new.indexes c.answer_hset.new.out.items c.as_mut_slice.ensures.value (omega (arith, c.answer_hset.auto.indexes, c.as_mut_slice.ensures.len)) (c.answer_hset.ensures.done latest))

@@ -1,4 +1,4 @@
-use Rattle.ft_engine.proofs.writes.set_field.Given as goal
+use Rattle.ft_engine.proofs.writes.set_fields.Given as goal
 
 -- the documents of the store
 abbrev pub ghost-write : goal.ghost-write
