@@ -1,22 +1,23 @@
 -- Steps of plain commands that change nothing.
 use Rattle.std.proofs.Common.{◌≡◌, ℕ, List, [], ◌∷◌, ◌++◌, take, drop, length, refl, subst, sym, ap, ◌∙◌, arith, inl, inr}
-use Rattle.std.specs.Prelude.{codes, is_some, Bool, false}
+use Rattle.std.specs.Prelude.{◌+◌, ◌-◌, pos, codes, is_some, Bool, false}
 use Rattle.ft_base.specs.Hash.{get_field}
 use Rattle.ft_base.specs.Space.{doc_of}
 use Rattle.ft_engine.specs.Asking.{first, second}
 use Rattle.std.proofs.lemmas.List.{take_at}
 use Rattle.cmd_parse.specs.Read.{Asked, Plain}
 use Rattle.cmd_parse.specs.declared.command.Verb.{Verb}
-use Rattle.cmd_parse.specs.declared.command.Verb.TheVariants.{Ping, Hset, Hsetnx, Flushall}
+use Rattle.cmd_parse.specs.declared.command.Verb.TheVariants.{Ping, Hset, Hsetnx, Del, Flushall}
 use Rattle.ft_base.specs.Reply.{spelling}
 use Rattle.ft_base.specs.declared.reply.Reply.{Reply}
-use Rattle.ft_base.specs.declared.reply.Reply.TheVariants.{Line}
+use Rattle.ft_base.specs.declared.reply.Reply.TheVariants.{Line, Number}
+use Rattle.ft_base.specs.declared.definition.IndexDef.{IndexDef}
 use Rattle.ft_base.specs.declared.doc.Doc.{Doc}
 use Rattle.ft_engine.specs.Machine.{State}
 use Rattle.ft_engine.specs.Stands.{definitions_of, state_of}
 use Rattle.ft_index.specs.Index.{Index}
 use Rattle.hash_store.specs.Store.{Store}
-use Rattle.ft_engine.specs.Step.{Does, Outcome, answered, hash_in, hset_unless, plain}
+use Rattle.ft_engine.specs.Step.{Does, Outcome, answered, hash_in, hset_unless, plain, without_keys}
 use Rattle.ft_engine.proofs.Stepping.{stays}
 
 -- a command of this verb that changes nothing
@@ -67,3 +68,14 @@ pub over_all : (asks : Asked) (number latest len : ℕ) (old new : Store) (lent 
 over_all asks number latest len old new lent items now written same whole does =
     subst (λ (is : List Index). Does asks number (state_of old items latest) written (state_of new is latest)) (sym (take_at now (drop (length now) items) len whole))
     (subst (λ (is : List Index). Does asks number (state_of old is latest) written (state_of new now latest)) same does)
+
+-- DEL
+pub deleted : (keys : List (List ℕ)) (number latest removed : ℕ) (old new : Store) (before after : List Index) (written : List ℕ) → new.space ≡ without_keys old.space keys → removed + length new.space ≡ length old.space
+    → definitions_of after ≡ definitions_of before → written ≡ spelling (Number (pos removed)) → Does (Plain Del keys) number (state_of old before latest) written (state_of new after latest)
+deleted keys number latest removed old new before after written space counted same said =
+    let count : removed ≡ length old.space - length (without_keys old.space keys) = omega (arith, counted, ap (λ (docs : List Doc). length docs) space) in
+    inl (
+      said ∙ ap (λ (n : ℕ). spelling (Number (pos n))) count,
+      ap (λ (docs : List Doc). record { space = docs; definitions = definitions_of after; latest = latest }) space
+          ∙ ap (λ (definitions : List IndexDef). record { space = without_keys old.space keys; definitions = definitions; latest = latest }) same,
+    )

@@ -1,18 +1,18 @@
 -- A document that is written: the space, and what each index stands for.
-use Rattle.std.specs.Prelude.{◌≡◌, ◌<◌, ◌≤◌, ◌+◌, ◌*◌, ◌/◌, ℕ, Bool, true, false, cond, not, List, [], ◌∷◌, ◌++◌, zero, suc, Option, None, Some, IfSome, length, drop, map, nat_eq, slice_index_or, refl}
-use Rattle.std.proofs.Common.{sym, ap, ◌∙◌, subst, inl, inr, arith, length-drop}
+use Rattle.std.specs.Prelude.{◌≡◌, ◌<◌, ◌≤◌, ◌+◌, ◌*◌, ◌/◌, ℕ, Bool, true, false, cond, not, List, [], ◌∷◌, ◌++◌, zero, suc, Option, None, Some, IfSome, is_some, length, take, drop, map, nat_eq, slice_index_or, refl}
+use Rattle.std.proofs.Common.{sym, ap, ◌∙◌, subst, inl, inr, arith, length-drop, drop-cons}
 use Rattle.std.specs.List.{All}
 use Rattle.std.specs.Map.{remove_entry}
 use Rattle.std.specs.Option.{option_map}
 use Rattle.std.specs.Str.{bytes_eq}
 use Rattle.std.proofs.lemmas.Bool.{cases_Bool}
-use Rattle.std.proofs.lemmas.List.{map-append}
+use Rattle.std.proofs.lemmas.List.{map-append, nil_from_length, take_at}
 use Rattle.std.proofs.lemmas.List.Elements.{All-map, All-append, All-cons, All-filter, All-head, All-nil, All-tail, filter-append}
 use Rattle.ft_base.specs.Hash.{Hash, set_field}
 use Rattle.ft_base.specs.Space.{doc_of, erase, write}
 use Rattle.ft_base.specs.declared.doc.Doc.{Doc}
 use Rattle.ft_base.specs.declared.limits.TheConstants.{MAX_WORD_BYTES}
-use Rattle.ft_engine.specs.Step.{hash_in, set_pairs}
+use Rattle.ft_engine.specs.Step.{hash_in, set_pairs, without_keys}
 use Rattle.ft_engine.specs.Asking.{AreWords}
 use Rattle.ft_engine.specs.Indexing.{Awaits, killed, settled}
 use Rattle.ft_engine.specs.Stands.{AreWritten, IndexStands, InStep, definitions_of, markers_at}
@@ -348,3 +348,39 @@ pairs-end hash (field ∷ value ∷ pairs) few = absurd (omega (arith, few))
 -- all pairs were set
 pub pairs-done : (hash now : Hash) (pairs : List (List ℕ)) (i : ℕ) → length pairs / 2 ≤ i → set_pairs now (drop (2 * i) pairs) ≡ set_pairs hash pairs → now ≡ set_pairs hash pairs
 pairs-done hash now pairs i most whole = sym (pairs-end now (drop (2 * i) pairs) (omega (arith, length-drop (2 * i) pairs, most))) ∙ whole
+
+-- a key's document is one
+pub erase-there : (docs : List Doc) (key : List ℕ) → is_some (doc_of docs key) ≡ true → 1 + length (erase docs key) ≡ length docs
+erase-there [] key there = cc (there)
+erase-there (doc ∷ docs) key there = elim (cases_Bool (bytes_eq key doc.key)) [
+  | inl y ↦ rw y (omega arith)
+  | inr n ↦ rw n (omega (arith, erase-there docs key (subst (λ (b : Bool). is_some (cond b (Some doc) (doc_of docs key)) ≡ true) n there)))
+]
+
+pub erase-absent : (docs : List Doc) (key : List ℕ) → is_some (doc_of docs key) ≡ false → length (erase docs key) ≡ length docs
+erase-absent [] key absent = refl
+erase-absent (doc ∷ docs) key absent = by_test (bytes_eq key doc.key) absent (erase-absent docs key)
+  where
+    by_test : (here : Bool) → is_some (cond here (Some doc) (doc_of docs key)) ≡ false → (is_some (doc_of docs key) ≡ false → length (erase docs key) ≡ length docs)
+        → length (cond here docs (doc ∷ erase docs key)) ≡ length (doc ∷ docs)
+    by_test true absent others = cc (absent)
+    by_test false absent others = ap (λ (n : ℕ). suc n) (others absent)
+
+-- the next key is taken out
+pub without-next : (docs now : List Doc) (keys : List (List ℕ)) (i : ℕ) (key : List ℕ) → i < length keys → key ≡ slice_index_or keys i [] → now ≡ erase docs key
+    → without_keys now (drop (i + 1) keys) ≡ without_keys docs (drop i keys)
+without-next docs now keys i key within is out =
+    let up : i + 1 ≡ suc i = omega arith in
+    let next : drop i keys ≡ key ∷ drop (suc i) keys = drop-cons keys i [] within ∙ ap (λ (k : List ℕ). k ∷ drop (suc i) keys) (sym is) in
+    ap (λ (n : ℕ). without_keys now (drop n keys)) up ∙ (ap (λ (d : List Doc). without_keys d (drop (suc i) keys)) out ∙ ap (without_keys docs) (sym next))
+
+-- no key is left
+pub without-done : (docs now : List Doc) (keys : List (List ℕ)) (i : ℕ) → length keys ≤ i → without_keys now (drop i keys) ≡ without_keys docs keys → now ≡ without_keys docs keys
+without-done docs now keys i most left = ap (without_keys now) (sym (nil_from_length (drop i keys) (omega (arith, length-drop i keys, most)))) ∙ left
+
+-- the same of all items of a vector
+pub in_step-all : (old new : Store) (len next : ℕ) (lent items now : List Index) → lent ≡ items → length now ≡ len → InStep old items next → (InStep old lent next → InStep new now next)
+    → InStep new (take len (now ++ drop (length now) items)) (next + 1)
+in_step-all old new len next lent items now same whole step kept =
+    subst (λ (is : List Index). InStep new is (next + 1)) (sym (take_at now (drop (length now) items) len whole))
+    (in_step-later new now next (kept (subst (λ (is : List Index). InStep old is next) (sym same) step)))

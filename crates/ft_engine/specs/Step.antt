@@ -5,10 +5,10 @@ use Rattle.cmd_parse.specs.Read.{Asked, Plain, CreateText, SearchWord, read}
 use Rattle.cmd_parse.specs.declared.command.CmdFault.{CmdFault}
 use Rattle.cmd_parse.specs.declared.command.CmdFault.TheVariants.{Unknown, Arity, Syntax, NotInteger, BadDb, NotBuilt}
 use Rattle.cmd_parse.specs.declared.command.Verb.{Verb}
-use Rattle.cmd_parse.specs.declared.command.Verb.TheVariants.{Ping, Echo, Select, Quit, Hset, Hsetnx, Flushall, Hget, Hmget, Hgetall, Hlen, Hexists, Hkeys, Hvals, Exists, TypeOf, Dbsize}
+use Rattle.cmd_parse.specs.declared.command.Verb.TheVariants.{Ping, Echo, Select, Quit, Hset, Hsetnx, Del, Flushall, Hget, Hmget, Hgetall, Hlen, Hexists, Hkeys, Hvals, Exists, TypeOf, Dbsize}
 use Rattle.ft_base.specs.Hash.{Hash, get_field, set_field}
 use Rattle.ft_base.specs.Reply.{spelling}
-use Rattle.ft_base.specs.Space.{doc_of, write}
+use Rattle.ft_base.specs.Space.{doc_of, erase, write}
 use Rattle.ft_base.specs.declared.definition.IndexDef.{IndexDef}
 use Rattle.ft_base.specs.declared.doc.Doc.{Doc}
 use Rattle.ft_base.specs.declared.reply.Reply.{Reply}
@@ -91,6 +91,18 @@ abbrev pub hset_unless : Bool → List (List ℕ) → ℕ → State → Outcome
 hset_unless true args number state = answered (Number (pos 0)) state
 hset_unless false args number state = hset args number state
 
+-- the documents but those of the keys
+abbrev pub without_keys : List Doc → List (List ℕ) → List Doc
+without_keys docs [] = docs
+without_keys docs (key ∷ keys) = without_keys (erase docs key) keys
+
+-- DEL: the number of keys that are gone
+abbrev pub del : List (List ℕ) → State → Outcome
+del keys state = let left = without_keys state.space keys in record {
+  reply = Number (pos (length state.space - length left));
+  after = record state { space = left };
+}
+
 -- What a plain command gives.
 abbrev pub plain : Verb → List (List ℕ) → ℕ → State → Outcome
 plain Ping [] number state = answered (Line (codes "PONG")) state
@@ -110,6 +122,7 @@ plain TypeOf args number state = answered (Line (kind_of (doc_of state.space (fi
 plain Dbsize args number state = answered (Number (pos (length state.space))) state
 plain Hset args number state = hset args number state
 plain Hsetnx args number state = hset_unless (is_some (get_field (hash_of state (first args)) (second args))) args number state
+plain Del keys number state = del keys state
 plain Flushall args number state = record { reply = Line (codes "OK"); after = record state { space = []; definitions = [] } }
 plain _ args number state = answered (Fault not_built) state
 

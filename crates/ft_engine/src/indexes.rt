@@ -4,7 +4,7 @@ ghost use Rattle.std.specs.List.{All, find};
 ghost use Rattle.std.specs.Option.{option_copied, option_map};
 ghost use Rattle.std.specs.Str.{bytes_eq};
 ghost use Rattle.ft_base.specs.declared.doc.Doc.{Doc};
-ghost use Rattle.ft_engine.specs.Indexing.{Awaits, settled};
+ghost use Rattle.ft_engine.specs.Indexing.{Awaits, killed, settled};
 ghost use Rattle.ft_engine.specs.Stands.{IndexStands, definitions_of};
 ghost use Rattle.ft_index.specs.Index.{Index};
 ghost use Rattle.ft_meaning.specs.Meaning.{ValuesFit};
@@ -63,4 +63,19 @@ fn settle(index: &mut FtIndex, id: u64, replaced: Option<u64>)
     if let Some(old) = replaced {
         index.kill(old);
     }
+}
+
+/// Takes a document out of each index. It takes no memory.
+pub fn kill_all(indexes: &mut [FtIndex], id: u64)
+    ensures { indexes.new ≡ map (killed (Some id)) indexes.old }
+{
+    for index in indexes.iter_mut() {
+        kill(index, id);
+    }
+}
+
+fn kill(index: &mut FtIndex, id: u64)
+    ensures { index.new ≡ killed (Some id) index.old }
+{
+    index.kill(id);
 }

@@ -11,7 +11,7 @@ use crate::reads::{
     hexists, hget, hgetall, hkeys, hlen, hmget, hvals, is_there, present, put_flag, put_kind,
     put_made, put_number,
 };
-use crate::removals::flush;
+use crate::removals::{answer_del, flush};
 use crate::short_reply::{SHORT_REPLY, put_fault, put_short};
 use crate::writes::{answer_hset, answer_hsetnx};
 use cmd_parse::Verb;
@@ -62,7 +62,8 @@ pub fn do_plain(
         Verb::Hsetnx => {
             answer_hsetnx(store, indexes.as_mut_slice(), alloc, number, &args, out);
         }
+        Verb::Del => answer_del(store, indexes.as_mut_slice(), &args, out),
         Verb::Flushall => flush(store, indexes, out),
-        Verb::Hdel | Verb::Hincrby | Verb::Del | Verb::Rename => put_fault(out, b"ERR not built"),
+        Verb::Hdel | Verb::Hincrby | Verb::Rename => put_fault(out, b"ERR not built"),
     }
 }

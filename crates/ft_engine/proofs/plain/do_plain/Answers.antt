@@ -1,12 +1,12 @@
 use Rattle.std.proofs.Common.{◌+◌, arith, refl}
 use Rattle.std.specs.Prelude.{codes}
-use Rattle.cmd_parse.specs.declared.command.Verb.TheVariants.{Hset, Quit}
+use Rattle.cmd_parse.specs.declared.command.Verb.TheVariants.{Del, Hset, Quit}
 use Rattle.cmd_parse.specs.Read.{Plain}
 use Rattle.ft_base.specs.declared.reply.Reply.TheVariants.{Line}
 use Rattle.ft_engine.specs.Stands.{state_of}
 use Rattle.ft_engine.proofs.Spellings.{ok_written, pong_written}
 use Rattle.ft_engine.proofs.PlainLaws.{flushed, of_verb, over_all, ping-alone, stays-plain}
-use Rattle.ft_engine.proofs.WritesLaws.{in_step-empty, in_step-later, in_step-read}
+use Rattle.ft_engine.proofs.WritesLaws.{in_step-all, in_step-empty, in_step-later, in_step-read}
 use Rattle.ft_engine.proofs.plain.do_plain.Goals as goal
 
 pub returns-in-Ping-clause-done : goal.returns-in-Ping-clause-done
@@ -79,3 +79,13 @@ pub returns-in-Hset-clause-done : goal.returns-in-Hset-clause-done
 returns-in-Hset-clause-done c latest =
     of_verb _ _ _ _ _ _ _ c.in-Hset.is (over_all (Plain Hset c.args.args) c.args.number latest c.args.indexes.now.len c.args.store.now c.answer_hset.new.store c.as_mut_slice.result.now c.args.indexes.now.items
     c.answer_hset.new.indexes c.answer_hset.new.out.items c.as_mut_slice.ensures.value (omega (arith, c.answer_hset.auto.indexes, c.as_mut_slice.ensures.len)) (c.answer_hset.ensures.done latest))
+
+pub returns-in-Del-clause-done : goal.returns-in-Del-clause-done
+returns-in-Del-clause-done c latest =
+    of_verb _ _ _ _ _ _ _ c.in-Del.is (over_all (Plain Del c.args.args) c.args.number latest c.args.indexes.now.len c.args.store.now c.answer_del.new.store c.as_mut_slice-in-Del.result.now c.args.indexes.now.items
+    c.answer_del.new.indexes c.answer_del.new.out.items c.as_mut_slice-in-Del.ensures.value (omega (arith, c.answer_del.auto.indexes, c.as_mut_slice-in-Del.ensures.len)) (c.answer_del.ensures.done c.args.number latest))
+
+pub returns-in-Del-clause-kept : goal.returns-in-Del-clause-kept
+returns-in-Del-clause-kept c =
+    in_step-all c.args.store.now c.answer_del.new.store c.args.indexes.now.len c.args.number c.as_mut_slice-in-Del.result.now c.args.indexes.now.items c.answer_del.new.indexes
+    c.as_mut_slice-in-Del.ensures.value (omega (arith, c.answer_del.auto.indexes, c.as_mut_slice-in-Del.ensures.len)) c.requires.kept (c.answer_del.ensures.kept c.args.number)
