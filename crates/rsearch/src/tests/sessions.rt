@@ -97,6 +97,44 @@ fn words_of_a_text(rt: HostRuntime) -> Result<(), Fail> {
 }
 
 #[test]
+fn hash_commands(rt: HostRuntime) -> Result<(), Fail> {
+    let arity = "-ERR wrong number of arguments for 'hset' command\r\n";
+    let fields = "*4\r\n$1\r\na\r\n$1\r\nb\r\n$1\r\nc\r\n$1\r\nd\r\n";
+    let values = "*4\r\n$1\r\n1\r\n$1\r\n3\r\n$1\r\nx\r\n$1\r\n3\r\n";
+    let all =
+        "*8\r\n$1\r\na\r\n$1\r\n1\r\n$1\r\nb\r\n$1\r\n3\r\n$1\r\nc\r\n$1\r\nx\r\n$1\r\nd\r\n$1\r\n3\r\n";
+    let rows = [
+        ("HSET|h|a|1|b|2", ":2\r\n"),
+        ("HSET|h|b|3|c|x", ":1\r\n"),
+        ("hsetnx|h|d|3", ":1\r\n"),
+        ("HSETNX|h|b|4", ":0\r\n"),
+        ("HGETALL|h", all),
+        ("HGET|h|z", "$-1\r\n"),
+        ("HMGET|h|b|z", "*2\r\n$1\r\n3\r\n$-1\r\n"),
+        ("HKEYS|h", fields),
+        ("HVALS|h", values),
+        ("HLEN|h", ":4\r\n"),
+        ("HEXISTS|h|a", ":1\r\n"),
+        ("HEXISTS|k|a", ":0\r\n"),
+        ("TYPE|k", "+none\r\n"),
+        ("TYPE|h", "+hash\r\n"),
+        ("EXISTS|h|k|h", ":2\r\n"),
+        ("HSET|h|a", arity),
+        ("DBSIZE", ":1\r\n"),
+        ("HSET|k|a|1", ":1\r\n"),
+        ("DEL|k|z|k", ":1\r\n"),
+        ("SELECT|1", "-ERR DB index is out of range\r\n"),
+        ("FT.CREATE|idx|SCHEMA|a|TEXT", "+OK\r\n"),
+        ("FLUSHALL|async", "+OK\r\n"),
+        ("DBSIZE", ":0\r\n"),
+        ("FT.SEARCH|idx|1|NOCONTENT", "-Unknown index name\r\n"),
+        ("FLUSHALL|now", "-ERR syntax error at word 1\r\n"),
+    ];
+    assert_eq!(rt; are_answered(rt.alloc(), &rows)?, true);
+    Ok(())
+}
+
+#[test]
 fn a_search_gives_the_first_ten(rt: HostRuntime) -> Result<(), Fail> {
     let mut requests = Vec::new(rt.alloc());
     put_request(&mut requests, "FT.CREATE|ix|SCHEMA|t|TEXT")?;

@@ -1,0 +1,4 @@
+pub mod AliasLemmas
+mod Examples
+pub mod LawfulLaws
+pub mod Parts

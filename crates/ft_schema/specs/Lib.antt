@@ -1,0 +1,9 @@
+pub mod AliasKeys
+pub mod FieldAliases
+pub mod Fields
+pub mod Gives
+pub mod Lawful
+pub mod Names
+pub mod Options
+pub mod Reading
+pub mod Schema

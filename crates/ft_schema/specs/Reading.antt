@@ -1,0 +1,75 @@
+-- Reading words from the left. Each reader answers what it read and the words after it, or the fault at which it stops.
+use Rattle.std.specs.Prelude.{ℕ, ℤ, pos, negsuc, zero, suc, ◌+◌, List, [], ◌∷◌, length, take, drop, position, Bool, false, ◌&&◌, ◌==◌, nat_le, Option, Some, None, Result, Ok, Err, if◌then◌else◌}
+use Rattle.std.specs.List.{list_all}
+use Rattle.std.specs.Str.{str_to_ascii_lowercase}
+use Rattle.std.specs.Char.{is_ascii_digit}
+use Rattle.ft_base.specs.Number.{int_of}
+use Rattle.ft_schema.specs.declared.fault.Cause.{Cause}
+use Rattle.ft_schema.specs.declared.fault.Cause.TheVariants.{BadOption, BadNumber}
+use Rattle.ft_schema.specs.declared.fault.Stop.{Stop}
+use Rattle.ft_schema.specs.declared.fault.Stop.TheVariants.{Fault}
+use Rattle.ft_schema.specs.Names.{Word}
+
+-- what was read, and the words after it
+abbrev pub Read : Type 0 → Type 0
+Read A = Result (A × List Word) Stop
+
+infixl 10 ◌>>=◌
+abbrev pub ◌>>=◌ : {A B : Type 0} → Result A Stop → (A → Result B Stop) → Result B Stop
+(Ok x) >>= f = f x
+(Err stop) >>= f = Err stop
+
+-- A fault at the first of these words; where there is none, at the end of all words.
+abbrev pub fault : {A : Type 0} → Cause → List Word → Result A Stop
+fault cause words = Err (Fault cause (length words))
+
+-- the next word
+abbrev pub word_at : List Word → Read Word
+word_at [] = fault BadOption []
+word_at (word ∷ words) = Ok (word, words)
+
+-- a count of words that are there, which is at least so much
+abbrev pub count_with : ℕ → Option ℤ → List Word → List Word → Read ℕ
+count_with least None from words = fault BadNumber from
+count_with least (Some (negsuc _)) from words = fault BadNumber from
+count_with least (Some (pos n)) from words = if nat_le least n && nat_le n (length words) then Ok (n, words) else fault BadNumber from
+
+-- A count of the words that follow it, in its one spelling.
+unfoldable pub count_at : ℕ → List Word → Read ℕ
+count_at least [] = fault BadOption []
+count_at least (word ∷ words) = count_with least (int_of word) (word ∷ words) words
+
+-- a word as it is kept, as it stands or in lower case
+abbrev pub spelled : Bool → Word → Word
+spelled lower word = if lower then str_to_ascii_lowercase word else word
+
+-- at least one digit, and nothing else
+abbrev pub is_digits : Word → Bool
+is_digits [] = false
+is_digits (b ∷ word) = list_all is_ascii_digit (b ∷ word)
+
+abbrev pub is_point : ℕ → Bool
+is_point b = b == 46
+
+abbrev pub is_weight_from : Option ℕ → Word → Bool
+is_weight_from None word = is_digits word
+is_weight_from (Some k) word = is_digits (take k word) && is_digits (drop (k + 1) word)
+
+-- digits, or digits, a point and digits
+abbrev pub is_weight : Word → Bool
+is_weight word = is_weight_from (position is_point word) word
+
+-- a weight, which has no effect; what follows it
+unfoldable pub weight_at : List Word → Result (List Word) Stop
+weight_at [] = fault BadOption []
+weight_at (word ∷ words) = if is_weight word then Ok words else fault BadNumber (word ∷ words)
+
+-- One part after another, until the words say that no part follows. Each takes a word at least, so as many steps as
+-- there are words suffice.
+abbrev pub parts_in : {A : Type 0} → (List Word → Bool) → (A → List Word → Read A) → ℕ → A → List Word → Read A
+parts_in ends part zero before words = Ok (before, words)
+parts_in ends part (suc n) before words =
+    if ends words then Ok (before, words) else (part before words >>= λ read. parts_in ends part n read.0 read.1)
+
+unfoldable pub parts_at : {A : Type 0} → (List Word → Bool) → (A → List Word → Read A) → A → List Word → Read A
+parts_at ends part before words = parts_in ends part (suc (length words)) before words

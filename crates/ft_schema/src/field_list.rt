@@ -1,0 +1,98 @@
+//! The fields that were read so far, with what it takes to admit one more.
+ghost use Rattle.std.specs.Prelude.{◌≡◌, false, [], ◌∷◌, ◌++◌, length, nat_le, IfOk};
+ghost use Rattle.ft_schema.specs.Fields.{has_alias, text_count, is_text};
+ghost use Rattle.ft_schema.specs.FieldAliases.{field_aliases};
+ghost use Rattle.ft_schema.specs.declared.limits.TheConstants.{MAX_FIELDS, MAX_TEXT_FIELDS};
+
+use crate::alias_set::AliasSet;
+use crate::limits::{MAX_FIELDS, MAX_TEXT_FIELDS};
+use ft_base::{Field, FieldKind, ListOf, NoMemory};
+use std::alloc::Global;
+use std::marker::Model;
+
+/// Fields, which a contract sees as a list.
+#[derive(Drop)]
+pub struct FieldList {
+    fields: Vec<Field>,
+    aliases: AliasSet,
+    texts: usize,
+    ghost known: { aliases ≡ field_aliases fields.items },
+    ghost counted: { texts ≡ text_count fields.items },
+}
+
+impl Model for FieldList {
+    ghost use Rattle.std.specs.Prelude.{List};
+    ghost use Rattle.ft_base.specs.declared.definition.Field.{Field};
+
+    ghost Value = { List Field };
+
+    ghost view = { λ l. l.fields.items };
+}
+
+impl FieldList {
+    /// No fields, and no memory taken.
+    pub fn new(alloc: Global) -> FieldList
+        ensures { result ≡ [] }
+    {
+        FieldList {
+            fields: Vec::new(alloc),
+            aliases: AliasSet::new(alloc),
+            texts: 0,
+        }
+    }
+
+    /// Whether a field has this alias.
+    pub fn has(&self, alias: &[u8]) -> bool
+        ensures { result ≡ has_alias self.now alias.now }
+    {
+        self.aliases.has(alias)
+    }
+
+    /// Whether one field more is too many.
+    pub fn is_full(&self) -> bool
+        ensures { result ≡ nat_le MAX_FIELDS (length self.now) }
+    {
+        MAX_FIELDS <= self.fields.len()
+    }
+
+    /// Whether one TEXT field more is too many.
+    pub fn is_full_of_texts(&self) -> bool
+        ensures { result ≡ nat_le MAX_TEXT_FIELDS (text_count self.now) }
+    {
+        MAX_TEXT_FIELDS <= self.texts
+    }
+
+    /// The fields with one more, whose alias is new.
+    pub fn with(self, field: Field) -> Result<FieldList, NoMemory>
+        requires new { has_alias self field.alias ≡ false }
+        ensures { IfOk result (λ list. list ≡ self ++ field ∷ []) }
+    {
+        let FieldList {
+            mut fields,
+            mut aliases,
+            texts,
+        } = self;
+        aliases.add(field.alias.as_slice())?;
+        let texts = texts + usize::from(is_text(field.kind));
+        fields.push(field)?;
+        Ok(FieldList {
+            fields,
+            aliases,
+            texts,
+        })
+    }
+
+    /// The fields alone.
+    pub fn into_list(self) -> ListOf<Field>
+        ensures { result ≡ self }
+    {
+        ListOf::from_vec(self.fields)
+    }
+}
+
+/// Whether a field of this kind is a TEXT field.
+pub fn is_text(kind: FieldKind) -> bool
+    ensures { result ≡ is_text kind }
+{
+    matches!(kind, FieldKind::Text)
+}

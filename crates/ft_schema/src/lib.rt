@@ -1,0 +1,30 @@
+//! The words of FT.CREATE and FT.ALTER: a schema, or the first word at which they are none.
+//!
+//! FT.CREATE reads `name [option ..] SCHEMA field ..`, and a field is `name [AS alias] KIND option ..`.
+//! FT.ALTER reads `name SCHEMA ADD field ..`. Words are read from the left, and the first fault is the
+//! answer. Read first `specs/Schema.antt`, then `specs/Options.antt` and `specs/Fields.antt`, which are
+//! the grammar, then `schema.rt`.
+#![tactic(auto)]
+
+mod alias_set;
+mod extension;
+mod fault;
+mod field_list;
+mod field_options;
+mod fields;
+mod index_options;
+mod limits;
+mod names;
+mod reading;
+mod schema;
+#[cfg(test)]
+mod tests;
+
+/// An index with more fields.
+pub use extension::extend;
+/// Why words are no schema.
+pub use fault::SchemaFault;
+/// What an index takes.
+pub use limits::{MAX_FIELDS, MAX_TEXT_FIELDS};
+/// What the words of the two commands say.
+pub use schema::{read_alter, read_create};
