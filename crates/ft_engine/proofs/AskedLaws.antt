@@ -1,6 +1,6 @@
 -- What is asked by words that keep the limits, and how long a command's name is.
 use Rattle.std.proofs.Common.{◌≡◌, ◌≤◌, ℕ, suc, List, [], ◌∷◌, length, map, true, Option, Some, None, Err, inl, inr, sym, ap, ◌∙◌, subst, arith, rules}
-use Rattle.std.specs.Prelude.{max, Result, IfSome, drop, slice_index_or}
+use Rattle.std.specs.Prelude.{IfSome, drop, slice_index_or}
 use Rattle.std.specs.Char.{to_ascii_lowercase}
 use Rattle.std.proofs.lemmas.Bool.{cases_Bool}
 use Rattle.std.proofs.lemmas.List.{length-map}
@@ -9,13 +9,10 @@ use Rattle.std.proofs.lemmas.List.Elements.{All-tail}
 use Rattle.cmd_parse.specs.Commands.{commands, form_of, form_in, is_name}
 use Rattle.cmd_parse.specs.Lawful.{IsLawful}
 use Rattle.cmd_parse.specs.Read.{Asked, Plain, CreateText, SearchWord, read, read_as}
-use Rattle.cmd_parse.specs.declared.command.CmdFault.{CmdFault}
 use Rattle.cmd_parse.specs.declared.command.CmdFault.TheVariants.{Arity}
 use Rattle.cmd_parse.specs.declared.table.Form.{Form}
 use Rattle.ft_base.specs.declared.limits.TheConstants.{MAX_WORD_BYTES}
 use Rattle.ft_engine.specs.Asking.{AreWords, IsAsked}
-use Rattle.ft_engine.specs.Machine.{State, at_moment}
-use Rattle.ft_engine.specs.Step.{Answers, Takes}
 
 args-words : (words : List (List ℕ)) → AreWords words → AreWords (drop 1 words)
 args-words [] each = each
@@ -56,14 +53,3 @@ short-arity name count args (Some form) short wrong = short
 pub arity-short : (words : List (List ℕ)) → read words ≡ Err Arity → length (slice_index_or words 0 []) ≤ 12
 arity-short [] wrong = cc
 arity-short (name ∷ args) wrong = short-arity name (suc (length args)) args (form_of name) (named-short name commands each_short) wrong
-
--- The words of a command were read, and what they ask was done at its moment.
-pub answers-taken : (words : List (List ℕ)) (name : List ℕ) (asked : Result Asked CmdFault) (number moment latest : ℕ) (seen old new : State) (written : List ℕ)
-    → name ≡ slice_index_or words 0 [] → asked ≡ read words → latest ≡ max seen.latest moment → seen ≡ old → Takes name asked number (record seen { latest = latest }) written new
-    → Answers words number moment old written new
-answers-taken words name asked number moment latest seen old new written named is at same taken =
-    let turned : latest ≡ max moment seen.latest = omega (arith, at) in
-    let here : record seen { latest = latest } ≡ at_moment moment old = ap (λ n. record seen { latest = n }) turned ∙ ap (λ (s : State). at_moment moment s) same in
-    subst (λ (s : State). Takes (slice_index_or words 0 []) (read words) number s written new) here
-    (subst (λ (a : Result Asked CmdFault). Takes (slice_index_or words 0 []) a number (record seen { latest = latest }) written new) is
-    (subst (λ (n : List ℕ). Takes n asked number (record seen { latest = latest }) written new) named taken))

@@ -2,7 +2,8 @@
 use Rattle.std.proofs.Common.{◌≡◌, ℕ, suc, ◌+◌, ◌^◌, ◌≤◌, min, List, [], ◌∷◌, ◌++◌, length, refl, sym, ap, subst, ◌∙◌, arith, append_assoc}
 use Rattle.std.proofs.lemmas.List.{append-nil}
 use Rattle.ft_engine.specs.Machine.{State, empty_state}
-use Rattle.ft_engine.specs.History.{Entry, Exec, Leads, MayFollow, IsLegal, next_number, replies_of, reply_of}
+use Rattle.ft_engine.specs.Step.{next_number}
+use Rattle.ft_engine.specs.History.{Entry, Exec, Leads, MayFollow, IsLegal, replies_of, reply_of}
 
 -- counting n + 1 on from a number is counting n on from the next, where it stops at a top
 counts_on : (first n number top : ℕ) → number ≡ min (first + suc n) top → number ≡ min (min (first + 1) top + n) top

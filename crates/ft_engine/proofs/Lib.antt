@@ -1,13 +1,16 @@
 pub mod AskedLaws
+pub mod CountingLaws
 pub mod Creating
 pub mod Examples
 pub mod FillingLaws
 pub mod HistoryLaws
 pub mod IndexingLaws
 pub mod PlainLaws
+pub mod PreparingLaws
 pub mod ReadingLaws
 pub mod ReadsLaws
 pub mod SearchLaws
 pub mod Spellings
 pub mod Stepping
+pub mod VersionsLaws
 pub mod WritesLaws

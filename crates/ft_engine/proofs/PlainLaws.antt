@@ -1,23 +1,27 @@
--- Steps of plain commands that change nothing.
-use Rattle.std.proofs.Common.{◌≡◌, ℕ, List, [], ◌∷◌, ◌++◌, take, drop, length, refl, subst, sym, ap, ◌∙◌, arith, inl, inr}
-use Rattle.std.specs.Prelude.{◌+◌, ◌-◌, pos, codes, is_some, Bool, false}
+-- Steps of plain commands.
+use Rattle.std.proofs.Common.{◌≡◌, ℕ, List, [], ◌∷◌, length, refl, subst, sym, ap, ◌∙◌, arith, inl, inr, w64, FitsSigned, to_z, of_z, cond}
+use Rattle.std.specs.Prelude.{◌+ℤ◌, ℤ, pos, codes, is_some, Bool, true, false, Option, Some, None}
+use Rattle.std.specs.Str.{bytes_eq}
+use Rattle.std.specs.Fmt.{signed_decimal}
+use Rattle.std.specs.Str.Parse.{signed_digits_value}
+use Rattle.std.proofs.lemmas.Bool.{and_parts, cases_Bool}
+use Rattle.std.proofs.lemmas.Int.{to_z-of_z}
 use Rattle.ft_base.specs.Hash.{get_field}
-use Rattle.ft_base.specs.Space.{doc_of}
-use Rattle.ft_engine.specs.Asking.{first, second}
-use Rattle.std.proofs.lemmas.List.{take_at}
-use Rattle.cmd_parse.specs.Read.{Asked, Plain}
+use Rattle.ft_base.specs.Number.{int_of, is_i64, is_spelling}
+use Rattle.ft_base.specs.Space.{doc_of, erase, write}
+use Rattle.ft_base.proofs.Ints.{fits_from_test}
+use Rattle.ft_engine.specs.Asking.{first, second, third}
+use Rattle.cmd_parse.specs.Read.{Plain}
 use Rattle.cmd_parse.specs.declared.command.Verb.{Verb}
-use Rattle.cmd_parse.specs.declared.command.Verb.TheVariants.{Ping, Hset, Hsetnx, Del, Flushall}
+use Rattle.cmd_parse.specs.declared.command.Verb.TheVariants.{Ping, Hset, Hsetnx, Hincrby, Rename}
 use Rattle.ft_base.specs.Reply.{spelling}
-use Rattle.ft_base.specs.declared.reply.Reply.{Reply}
-use Rattle.ft_base.specs.declared.reply.Reply.TheVariants.{Line, Number}
-use Rattle.ft_base.specs.declared.definition.IndexDef.{IndexDef}
 use Rattle.ft_base.specs.declared.doc.Doc.{Doc}
-use Rattle.ft_engine.specs.Machine.{State}
-use Rattle.ft_engine.specs.Stands.{definitions_of, state_of}
-use Rattle.ft_index.specs.Index.{Index}
-use Rattle.hash_store.specs.Store.{Store}
-use Rattle.ft_engine.specs.Step.{Does, Outcome, answered, hash_in, hset_unless, plain, without_keys}
+use Rattle.ft_base.specs.declared.reply.Reply.{Reply}
+use Rattle.ft_base.specs.declared.reply.Reply.TheVariants.{Fault, Line}
+use Rattle.ft_engine.specs.Machine.{Outcome, State, answered, hash_in, hash_of}
+use Rattle.ft_engine.specs.Preparing.{written}
+use Rattle.ft_engine.specs.Step.{Does, plain}
+use Rattle.ft_engine.specs.Writes.{hincrby, hset_unless, number_in, rename}
 use Rattle.ft_engine.proofs.Stepping.{stays}
 
 -- a command of this verb that changes nothing
@@ -32,27 +36,12 @@ pub ping-alone : (verb : Verb) (args : List (List ℕ)) (number : ℕ) (state : 
 ping-alone verb [] number state written is none said = stays-plain verb Ping [] number state written (Line (codes "PONG")) is refl said
 ping-alone verb (arg ∷ args) number state written is none said = absurd (omega (arith, none))
 
--- FLUSHALL
-pub flushed : (verb : Verb) (args : List (List ℕ)) (number latest : ℕ) (old new : Store) (before after : List Index) (written : List ℕ) → verb ≡ Flushall → new.space ≡ [] → after ≡ [] → written ≡ spelling (Line (codes "OK"))
-    → Does (Plain verb args) number (state_of old before latest) written (state_of new after latest)
-flushed verb args number latest old new before after written is none nothing said =
-    subst (λ (v : Verb). Does (Plain v args) number (state_of old before latest) written (state_of new after latest)) (sym is)
-    (inl (
-      said,
-      ap (λ (space : List Doc). record { space = space; definitions = definitions_of after; latest = latest }) none
-          ∙ ap (λ (indexes : List Index). record { space = []; definitions = definitions_of indexes; latest = latest }) nothing,
-    ))
-
 -- HSETNX of a field that is not there is HSET
-pub hsetnx-new : (args : List (List ℕ)) (number latest : ℕ) (old read : Store) (indexes : List Index) (new : State) (written : List ℕ) → read.space ≡ old.space
-    → is_some (get_field (hash_in (doc_of old.space (first args))) (second args)) ≡ false → Does (Plain Hset args) number (state_of read indexes latest) written new
-    → Does (Plain Hsetnx args) number (state_of old indexes latest) written new
-hsetnx-new args number latest old read indexes new written same absent does =
-    let here : state_of read indexes latest ≡ state_of old indexes latest = ap (λ (space : List Doc). record { space = space; definitions = definitions_of indexes; latest = latest }) same in
-    let done : Does (Plain Hset args) number (state_of old indexes latest) written new = subst (λ (s : State). Does (Plain Hset args) number s written new) here does in
-    let unless : plain Hset args number (state_of old indexes latest) ≡ plain Hsetnx args number (state_of old indexes latest) =
-    sym (ap (λ (there : Bool). hset_unless there args number (state_of old indexes latest)) absent) in
-    elim done [
+pub hsetnx-new : (args : List (List ℕ)) (number : ℕ) (state new : State) (written : List ℕ) → is_some (get_field (hash_of state (first args)) (second args)) ≡ false → Does (Plain Hset args) number state written new
+    → Does (Plain Hsetnx args) number state written new
+hsetnx-new args number state new written absent does =
+    let unless : plain Hset args number state ≡ plain Hsetnx args number state = sym (ap (λ (there : Bool). hset_unless there args number state) absent) in
+    elim does [
       | inl took ↦ inl (took.0 ∙ ap (λ (o : Outcome). spelling o.reply) unless, took.1 ∙ ap (λ (o : Outcome). o.after) unless)
       | inr want ↦ inr want
     ]
@@ -61,21 +50,90 @@ hsetnx-new args number latest old read indexes new written same absent does =
 pub of_verb : (verb known : Verb) (args : List (List ℕ)) (number : ℕ) (old new : State) (written : List ℕ) → verb ≡ known → Does (Plain known args) number old written new → Does (Plain verb args) number old written new
 of_verb verb known args number old new written is does = subst (λ (v : Verb). Does (Plain v args) number old written new) (sym is) does
 
--- a step that was taken over all items of a vector
-pub over_all : (asks : Asked) (number latest len : ℕ) (old new : Store) (lent items now : List Index) (written : List ℕ) → lent ≡ items → length now ≡ len
-    → Does asks number (state_of old lent latest) written (state_of new now latest)
-    → Does asks number (state_of old items latest) written (state_of new (take len (now ++ drop (length now) items)) latest)
-over_all asks number latest len old new lent items now written same whole does =
-    subst (λ (is : List Index). Does asks number (state_of old items latest) written (state_of new is latest)) (sym (take_at now (drop (length now) items) len whole))
-    (subst (λ (is : List Index). Does asks number (state_of old is latest) written (state_of new now latest)) same does)
+-- a key's field, by equal names
+pub same-field : (docs : List Doc) (key key' field field' : List ℕ) → key ≡ key' → field ≡ field' → number_in (get_field (hash_in (doc_of docs key)) field) ≡ number_in (get_field (hash_in (doc_of docs key')) field')
+same-field docs key key' field field' k f =
+    ap (λ (word : List ℕ). number_in (get_field (hash_in (doc_of docs word)) field)) k ∙ ap (λ (word : List ℕ). number_in (get_field (hash_in (doc_of docs key')) word)) f
 
--- DEL
-pub deleted : (keys : List (List ℕ)) (number latest removed : ℕ) (old new : Store) (before after : List Index) (written : List ℕ) → new.space ≡ without_keys old.space keys → removed + length new.space ≡ length old.space
-    → definitions_of after ≡ definitions_of before → written ≡ spelling (Number (pos removed)) → Does (Plain Del keys) number (state_of old before latest) written (state_of new after latest)
-deleted keys number latest removed old new before after written space counted same said =
-    let count : removed ≡ length old.space - length (without_keys old.space keys) = omega (arith, counted, ap (λ (docs : List Doc). length docs) space) in
-    inl (
-      said ∙ ap (λ (n : ℕ). spelling (Number (pos n))) count,
-      ap (λ (docs : List Doc). record { space = docs; definitions = definitions_of after; latest = latest }) space
-          ∙ ap (λ (definitions : List IndexDef). record { space = without_keys old.space keys; definitions = definitions; latest = latest }) same,
-    )
+-- HINCRBY of a value that is no number
+pub not-number : (args : List (List ℕ)) (number : ℕ) (state : State) (written : List ℕ) → number_in (get_field (hash_of state (first args)) (second args)) ≡ None → written ≡ spelling (Fault (codes "ERR hash value is not an integer"))
+    → Does (Plain Hincrby args) number state written state
+not-number args number state written none said =
+    stays (Plain Hincrby args) number state written (Fault (codes "ERR hash value is not an integer")) (ap (λ (old : Option ℤ). hincrby old (int_of (third args)) args number state) none) said
+
+overflow : (old by : ℤ) (args : List (List ℕ)) (number : ℕ) (state : State) → is_i64 (old +ℤ by) ≡ false → hincrby (Some old) (Some by) args number state ≡ answered (Fault (codes "ERR increment or decrement would overflow")) state
+overflow old by args number state over = rw over refl
+
+-- HINCRBY whose sum has more than 64 bits
+pub overflows : (args : List (List ℕ)) (number : ℕ) (state : State) (written : List ℕ) (old by : ℤ) → number_in (get_field (hash_of state (first args)) (second args)) ≡ Some old → int_of (third args) ≡ Some by → is_i64 (old +ℤ by) ≡ false
+    → written ≡ spelling (Fault (codes "ERR increment or decrement would overflow")) → Does (Plain Hincrby args) number state written state
+overflows args number state written old by is more over said =
+    stays (Plain Hincrby args) number state written (Fault (codes "ERR increment or decrement would overflow"))
+    (ap (λ (o : Option ℤ). hincrby o (int_of (third args)) args number state) is ∙ (ap (λ (o : Option ℤ). hincrby (Some old) o args number state) more ∙ overflow old by args number state over)) said
+
+-- a number that a text spells has 64 bits
+spelled-fits : (text : List ℕ) (n : ℤ) → int_of text ≡ Some n → is_i64 n ≡ true
+unfolding int_of
+spelled-fits text n is = by_test (is_spelling text (signed_digits_value 10 text)) refl is
+  where
+    by_test : (test : Bool) → is_spelling text (signed_digits_value 10 text) ≡ test → cond test (Some (signed_digits_value 10 text)) None ≡ Some n → is_i64 n ≡ true
+    by_test true spells is =
+        let same : signed_digits_value 10 text ≡ n = cc (is) in
+        subst (λ (m : ℤ). is_i64 m ≡ true) same (and_parts (is_i64 (signed_digits_value 10 text)) (bytes_eq text (signed_decimal (signed_digits_value 10 text))) spells).0
+    by_test false spells is = cc (is)
+
+pub value-fits : (value : Option (List ℕ)) (n : ℤ) → number_in value ≡ Some n → is_i64 n ≡ true
+value-fits None n is = let same : pos 0 ≡ n = cc (is) in subst (λ (m : ℤ). is_i64 m ≡ true) same refl
+value-fits (Some value) n is = spelled-fits value n is
+
+pub increment-fits : (text : List ℕ) (n : ℤ) → int_of text ≡ Some n → is_i64 n ≡ true
+increment-fits text n is = spelled-fits text n is
+
+-- a sum that does not fit has more than 64 bits
+pub too-wide : (old by : ℤ) → is_i64 old ≡ true → is_i64 by ≡ true → (FitsSigned w64 (to_z w64 (of_z w64 old) +ℤ to_z w64 (of_z w64 by)) → ⊥) → is_i64 (old +ℤ by) ≡ false
+too-wide old by a b wide = elim (cases_Bool (is_i64 (old +ℤ by))) [
+  | inl fits ↦
+      let whole : FitsSigned w64 (old +ℤ by) = fits_from_test (old +ℤ by) fits in
+      absurd (wide (subst (λ (n : ℤ). FitsSigned w64 (n +ℤ to_z w64 (of_z w64 by))) (sym (to_z-of_z w64 old (fits_from_test old a)))
+      (subst (λ (n : ℤ). FitsSigned w64 (old +ℤ n)) (sym (to_z-of_z w64 by (fits_from_test by b))) whole)))
+  | inr over ↦ over
+]
+
+-- RENAME of a key onto itself
+pub renamed-same : (args : List (List ℕ)) (number : ℕ) (state : State) (written : List ℕ) → is_some (doc_of state.space (first args)) ≡ true → bytes_eq (first args) (second args) ≡ true → written ≡ spelling (Line (codes "OK"))
+    → Does (Plain Rename args) number state written state
+renamed-same args number state written there same said = stays (Plain Rename args) number state written (Line (codes "OK")) (by_doc (doc_of state.space (first args)) there) said
+  where
+    by_doc : (doc : Option Doc) → is_some doc ≡ true → rename doc (first args) (second args) number state ≡ answered (Line (codes "OK")) state
+    by_doc None there = cc (there)
+    by_doc (Some doc) there = rw same refl
+
+-- RENAME onto another key
+pub renamed : (args : List (List ℕ)) (number : ℕ) (state new : State) (written : List ℕ) → is_some (doc_of state.space (first args)) ≡ true → bytes_eq (first args) (second args) ≡ false → written ≡ spelling (Line (codes "OK"))
+    → new ≡ record state { space = erase (write state.space (second args) (hash_of state (first args)) number) (first args) } → Does (Plain Rename args) number state written new
+renamed args number state new written there apart said is = by_doc (doc_of state.space (first args)) refl there
+  where
+    step : (doc : Doc) → doc_of state.space (first args) ≡ Some doc
+        → rename (Some doc) (first args) (second args) number state ≡ record { reply = Line (codes "OK"); after = record state { space = erase (write state.space (second args) doc.hash number) (first args) } }
+    step doc found = rw apart refl
+
+    by_doc : (doc : Option Doc) → doc_of state.space (first args) ≡ doc → is_some doc ≡ true → Does (Plain Rename args) number state written new
+    by_doc None found there = cc (there)
+    by_doc (Some doc) found there =
+        let given = ap (λ (d : Option Doc). rename d (first args) (second args) number state) found ∙ step doc found in
+        inl (
+          said ∙ ap (λ (o : Outcome). spelling o.reply) (sym given),
+          is ∙ (ap (λ (d : Option Doc). record state { space = erase (write state.space (second args) (hash_in d) number) (first args) }) found ∙ ap (λ (o : Outcome). o.after) (sym given)),
+        )
+
+-- whether two words are one, by equal words
+pub same-words : (a b from to : List ℕ) (said test : Bool) → a ≡ from → b ≡ to → said ≡ bytes_eq a b → said ≡ test → bytes_eq from to ≡ test
+same-words a b from to said test x y is tested = sym (ap (λ (w : List ℕ). bytes_eq w b) x ∙ ap (λ (w : List ℕ). bytes_eq from w) y) ∙ (sym is ∙ tested)
+
+-- the documents once a copy is written under another key and the first is taken out
+pub moved : (ready : Option Doc) (state : State) (a b from to : List ℕ) (id : ℕ) → a ≡ from → b ≡ to → ready ≡ Some (record { id = id; key = b; hash = hash_in (doc_of state.space a) })
+    → record state { space = erase (written ready state.space) a } ≡ record state { space = erase (write state.space to (hash_of state from) id) from }
+moved ready state a b from to id x y is =
+    ap (λ (r : Option Doc). record state { space = erase (written r state.space) a }) is
+    ∙ (ap (λ (w : List ℕ). record state { space = erase (write state.space w (hash_in (doc_of state.space a)) id) a }) y
+    ∙ ap (λ (w : List ℕ). record state { space = erase (write state.space to (hash_in (doc_of state.space w)) id) w }) x)

@@ -6,16 +6,17 @@ use Rattle.std.specs.Option.{option_map}
 use Rattle.std.specs.Str.{bytes_eq}
 use Rattle.std.proofs.lemmas.List.{length-map}
 use Rattle.std.proofs.lemmas.List.Elements.{All-head, All-tail}
+use Rattle.cmd_parse.specs.Read.{SearchWord}
 use Rattle.ft_base.specs.Reply.{spelling}
 use Rattle.ft_base.specs.declared.definition.IndexDef.{IndexDef}
 use Rattle.ft_base.specs.declared.doc.Doc.{Doc}
 use Rattle.ft_base.specs.declared.reply.Reply.{Reply}
 use Rattle.ft_base.specs.declared.reply.Reply.TheVariants.{Array, Bulk, Fault, Number}
-use Rattle.ft_engine.specs.Changes.{Searches}
+use Rattle.ft_engine.specs.Machine.{State}
 use Rattle.ft_engine.specs.Definitions.{index_of}
 use Rattle.ft_engine.specs.Pages.{page_reply}
 use Rattle.ft_engine.specs.Stands.{definitions_of}
-use Rattle.ft_engine.specs.Step.{found_reply, searched, window}
+use Rattle.ft_engine.specs.Step.{Does, found_reply, searched, window}
 use Rattle.ft_engine.proofs.Creating.{index_of-named}
 use Rattle.ft_index.proofs.FoundLaws.{live_keys-found}
 use Rattle.ft_index.specs.Index.{Index, Indexes, IsIndex}
@@ -45,20 +46,25 @@ page-found docs =
     ∙ ap (λ (keys : List Reply). Array (Number (pos (length docs)) ∷ keys)) (first-keys window docs)
 
 -- there is no such index
-pub searches-none : (indexes : List Index) (docs : List Doc) (name word reply : List ℕ) → find (λ (index : Index). bytes_eq name index.def.name) indexes ≡ None
-    → reply ≡ spelling (Fault (codes "Unknown index name")) → Searches (definitions_of indexes) docs name word reply
-searches-none indexes docs name word reply none said =
-    let no : index_of (definitions_of indexes) name ≡ None = index_of-named indexes name ∙ ap (option_map (λ (index : Index). index.def)) none in
-    inl (said ∙ ap (λ (def : Option IndexDef). spelling (searched def (lowered word) docs)) (sym no))
+pub searches-none : (indexes : List Index) (state : State) (number : ℕ) (name word reply : List ℕ) → state.definitions ≡ definitions_of indexes
+    → find (λ (index : Index). bytes_eq name index.def.name) indexes ≡ None → reply ≡ spelling (Fault (codes "Unknown index name")) → Does (SearchWord name word) number state reply state
+searches-none indexes state number name word reply same none said =
+    let no : index_of state.definitions name ≡ None = ap (λ (defs : List IndexDef). index_of defs name) same ∙ (index_of-named indexes name ∙ ap (option_map (λ (index : Index). index.def)) none) in
+    inl (said ∙ ap (λ (def : Option IndexDef). spelling (searched def (lowered word) state.space)) (sym no), refl)
 
 -- the live entries of the word's list were answered
-pub searches-found : (indexes : List Index) (docs : List Doc) (name word old reply : List ℕ) (index : Index) → All (λ (index : Index). Indexes index docs) indexes → IsIndex index
-    → find (λ (index : Index). bytes_eq name index.def.name) indexes ≡ Some index
-    → old ≡ [] → reply ≡ old ++ spelling (page_reply (live_keys index.table.live (entries_of index.terms (lowered word)))) → Searches (definitions_of indexes) docs name word reply
-searches-found indexes docs name word old reply index each sound there empty said =
-    let def : index_of (definitions_of indexes) name ≡ Some index.def = index_of-named indexes name ∙ ap (option_map (λ (index : Index). index.def)) there in
+pub searches-found : (indexes : List Index) (state : State) (number : ℕ) (name word old reply : List ℕ) (index : Index) → state.definitions ≡ definitions_of indexes
+    → All (λ (index : Index). Indexes index state.space) indexes → IsIndex index → find (λ (index : Index). bytes_eq name index.def.name) indexes ≡ Some index
+    → old ≡ [] → reply ≡ old ++ spelling (page_reply (live_keys index.table.live (entries_of index.terms (lowered word)))) → Does (SearchWord name word) number state reply state
+searches-found indexes state number name word old reply index same each sound there empty said =
+    let docs = state.space in
+    let def : index_of state.definitions name ≡ Some index.def =
+    ap (λ (defs : List IndexDef). index_of defs name) same ∙ (index_of-named indexes name ∙ ap (option_map (λ (index : Index). index.def)) there) in
     let keys = live_keys-found index docs (lowered word) (named-has (λ (index : Index). Indexes index docs) indexes name index each there) sound.rise in
     let text = said ∙ ap (λ (front : List ℕ). front ++ spelling (page_reply (live_keys index.table.live (entries_of index.terms (lowered word))))) empty in
-    inl (text ∙ (ap (λ (keys : List (List ℕ)). spelling (page_reply keys)) keys
-    ∙ (ap spelling (page-found (found index.def (lowered word) docs))
-    ∙ ap (λ (def : Option IndexDef). spelling (searched def (lowered word) docs)) (sym def))))
+    inl (
+      text ∙ (ap (λ (keys : List (List ℕ)). spelling (page_reply keys)) keys
+          ∙ (ap spelling (page-found (found index.def (lowered word) docs))
+          ∙ ap (λ (def : Option IndexDef). spelling (searched def (lowered word) docs)) (sym def))),
+      refl,
+    )

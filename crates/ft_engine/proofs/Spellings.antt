@@ -56,6 +56,11 @@ pub number_written : (old first second third : List ℕ) (n : ℕ) → old ≡ [
 number_written old first second third n e f g h =
     h ∙ (ap (λ (t : List ℕ). t ++ 13 ∷ 10 ∷ []) (g ∙ ap (λ (t : List ℕ). t ++ decimal n) (f ∙ ap (λ (t : List ℕ). t ++ 58 ∷ []) e)) ∙ sym (spelling-Number (pos n)))
 
+-- the same of a number that may be below 0
+pub signed_written : (old first second third : List ℕ) (n : ℤ) → old ≡ [] → first ≡ old ++ 58 ∷ [] → second ≡ first ++ signed_decimal n → third ≡ second ++ 13 ∷ 10 ∷ [] → third ≡ spelling (Number n)
+signed_written old first second third n e f g h =
+    h ∙ (ap (λ (t : List ℕ). t ++ 13 ∷ 10 ∷ []) (g ∙ ap (λ (t : List ℕ). t ++ signed_decimal n) (f ∙ ap (λ (t : List ℕ). t ++ 58 ∷ []) e)) ∙ sym (spelling-Number n))
+
 -- the type of a key's value, written to an empty buffer
 pub kind_written : (old new : List ℕ) (said : Bool) (doc : Option Doc) → old ≡ [] → said ≡ is_some doc
     → new ≡ old ++ ((43 ∷ (if said then codes "hash" else codes "none")) ++ 13 ∷ 10 ∷ []) → new ≡ spelling (Line (kind_of doc))

@@ -4,8 +4,8 @@ use Rattle.std.proofs.Common.{sym, ap, ◌∙◌, inl}
 use Rattle.ft_base.specs.Reply.{spelling}
 use Rattle.ft_base.specs.declared.reply.Reply.{Reply}
 use Rattle.cmd_parse.specs.Read.{Asked}
-use Rattle.ft_engine.specs.Machine.{State}
-use Rattle.ft_engine.specs.Step.{Does, Outcome, answered, outcome}
+use Rattle.ft_engine.specs.Machine.{Outcome, State, answered}
+use Rattle.ft_engine.specs.Step.{Does, outcome}
 
 pub stays : (asks : Asked) (number : ℕ) (state : State) (written : List ℕ) (reply : Reply) → outcome asks number state ≡ answered reply state → written ≡ spelling reply
     → Does asks number state written state

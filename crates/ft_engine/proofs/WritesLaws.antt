@@ -1,7 +1,7 @@
 -- A document that is written: the space, and what each index stands for.
 use Rattle.std.specs.Prelude.{◌≡◌, ◌<◌, ◌≤◌, ◌+◌, ◌*◌, ◌/◌, ℕ, Bool, true, false, cond, not, List, [], ◌∷◌, ◌++◌, zero, suc, Option, None, Some, IfSome, is_some, length, take, drop, map, nat_eq, slice_index_or, refl}
 use Rattle.std.proofs.Common.{sym, ap, ◌∙◌, subst, inl, inr, arith, length-drop, drop-cons}
-use Rattle.std.specs.List.{All}
+use Rattle.std.specs.List.{All, list_any}
 use Rattle.std.specs.Map.{remove_entry}
 use Rattle.std.specs.Option.{option_map}
 use Rattle.std.specs.Str.{bytes_eq}
@@ -12,7 +12,8 @@ use Rattle.ft_base.specs.Hash.{Hash, set_field}
 use Rattle.ft_base.specs.Space.{doc_of, erase, write}
 use Rattle.ft_base.specs.declared.doc.Doc.{Doc}
 use Rattle.ft_base.specs.declared.limits.TheConstants.{MAX_WORD_BYTES}
-use Rattle.ft_engine.specs.Step.{hash_in, set_pairs, without_keys}
+use Rattle.ft_engine.specs.Machine.{hash_in}
+use Rattle.ft_engine.specs.Writes.{set_pairs, without_fields, without_keys}
 use Rattle.ft_engine.specs.Asking.{AreWords}
 use Rattle.ft_engine.specs.Indexing.{Awaits, killed, settled}
 use Rattle.ft_engine.specs.Stands.{AreWritten, IndexStands, InStep, definitions_of, markers_at}
@@ -24,7 +25,7 @@ use Rattle.ft_meaning.specs.Meaning.{ValuesFit}
 use Rattle.hash_store.specs.Store.{Store}
 use Rattle.inverted_list.specs.Listing.{RisesAbove, last_id}
 use Rattle.inverted_list.specs.declared.marker.Markers.{Markers}
-use Rattle.ft_engine.proofs.IndexingLaws.{are_before-later, stands-later}
+use Rattle.ft_engine.proofs.IndexingLaws.{stands-later}
 
 -- the documents but that of an id, where there is an id
 abbrev pub kept : Option ℕ → List Doc → List Doc
@@ -78,17 +79,16 @@ kept_rows-end : (replaced : Option ℕ) (rows : List (ℕ × List ℕ)) → Rise
 kept_rows-end None rows rises = omega arith
 kept_rows-end (Some id) rows rises = last-removed 0 id rows rises
 
-kept-fit : (replaced : Option ℕ) (docs : List Doc) → All (λ (doc : Doc). ValuesFit doc.hash) docs → All (λ (doc : Doc). ValuesFit doc.hash) (kept replaced docs)
-kept-fit None docs fit = fit
-kept-fit (Some id) docs fit = All-filter (λ (doc : Doc). not (nat_eq id doc.id)) (λ (doc : Doc). ValuesFit doc.hash) docs fit
+kept-all : (P : Doc → Type 0) (replaced : Option ℕ) (docs : List Doc) → All P docs → All P (kept replaced docs)
+kept-all P None docs each = each
+kept-all P (Some id) docs each = All-filter (λ (doc : Doc). not (nat_eq id doc.id)) P docs each
 
-one-fits : (doc : Doc) → ValuesFit doc.hash → All (λ (doc : Doc). ValuesFit doc.hash) (doc ∷ [])
-one-fits doc fits zero d short = fits
-one-fits doc fits (suc k) d short = absurd (omega (arith, short))
+one-more : (P : Doc → Type 0) (replaced : Option ℕ) (docs : List Doc) (doc : Doc) → All P docs → P doc → All P (kept replaced docs ++ doc ∷ [])
+one-more P replaced docs doc each here = All-append P (kept replaced docs) (doc ∷ []) (kept-all P replaced docs each) (All-cons P doc [] here (All-nil P))
 
 -- the documents once one of them is written
-pub space-written : (docs : List Doc) (doc : Doc) → AreWritten docs doc.id → ValuesFit doc.hash → AreWritten (kept (id_of docs doc.key) docs ++ doc ∷ []) (doc.id + 1)
-space-written docs doc written fits =
+pub space-written : (docs : List Doc) (doc : Doc) → AreWritten docs doc.id → ValuesFit doc.hash → 0 < length doc.hash → AreWritten (kept (id_of docs doc.key) docs ++ doc ∷ []) (doc.id + 1)
+space-written docs doc written fits filled =
     let replaced = id_of docs doc.key in
     let rows : map row_of (kept replaced docs ++ doc ∷ []) ≡ kept_rows replaced (map row_of docs) ++ row_of doc ∷ [] =
     map-append row_of (kept replaced docs) (doc ∷ []) ∙ ap (λ rows. rows ++ row_of doc ∷ []) (rows-kept replaced docs written.rise) in
@@ -96,12 +96,13 @@ space-written docs doc written fits =
     record {
       rise = subst (RisesAbove 0) (sym rows) (rises-push 0 (row_of doc) (kept_rows replaced (map row_of docs)) (kept_rows-rise replaced (map row_of docs) written.rise) end);
       earlier = subst (λ (rows : List (ℕ × List ℕ)). last_id 0 rows < doc.id + 1) (sym rows) (rw (last-push 0 (row_of doc) (kept_rows replaced (map row_of docs))) (omega arith));
-      fit = All-append (λ (doc : Doc). ValuesFit doc.hash) (kept replaced docs) (doc ∷ []) (kept-fit replaced docs written.fit) (one-fits doc fits);
+      fit = one-more (λ (doc : Doc). ValuesFit doc.hash) replaced docs doc written.fit fits;
+      filled = one-more (λ (doc : Doc). 0 < length doc.hash) replaced docs doc written.filled filled;
     }
 
 -- where nothing is written, the documents are still of earlier events
 pub space-later : (docs : List Doc) (next : ℕ) → AreWritten docs next → AreWritten docs (next + 1)
-space-later docs next written = record { rise = written.rise; earlier = omega (arith, written.earlier); fit = written.fit }
+space-later docs next written = record { rise = written.rise; earlier = omega (arith, written.earlier); fit = written.fit; filled = written.filled }
 
 not-later : (replaced : Option ℕ) (docs : List Doc) (doc : Doc) → IfSome replaced (λ id. id < doc.id) → kept replaced (docs ++ doc ∷ []) ≡ kept replaced docs ++ doc ∷ []
 not-later None docs doc earlier = refl
@@ -117,9 +118,9 @@ found-earlier low last (doc ∷ docs) key rises earlier = by_test (bytes_eq key 
     by_test false later = later
 
 -- An index that a document waits in stands for the written space once it is settled.
-pub index-settled : (docs : List Doc) (doc : Doc) (replaced : Option ℕ) (markers : Markers) (index : Index) → IfSome replaced (λ id. id < doc.id) → markers.event ≡ doc.id
-    → IndexStands docs (doc.id + 1) markers index → Awaits docs doc index → IndexStands (kept replaced docs ++ doc ∷ []) (doc.id + 1) (markers_at (doc.id + 1)) (settled replaced index)
-index-settled docs doc replaced markers index earlier event stands awaits = record {
+pub index-settled : (docs : List Doc) (doc : Doc) (replaced : Option ℕ) (index : Index) → IfSome replaced (λ id. id < doc.id)
+    → IndexStands docs (doc.id + 1) (markers_at (doc.id + 1)) index → Awaits docs doc index → IndexStands (kept replaced docs ++ doc ∷ []) (doc.id + 1) (markers_at (doc.id + 1)) (settled replaced index)
+index-settled docs doc replaced index earlier stands awaits = record {
   documents = documents replaced earlier;
   sound = sound replaced;
   earlier = rw (settled-last replaced) stands.earlier;
@@ -146,27 +147,24 @@ index-settled docs doc replaced markers index earlier event stands awaits = reco
     settled-last None = commits-last index.table.ready
     settled-last (Some id) = commits-last index.table.ready
 
-    later : AreBefore (markers_at (doc.id + 1)) index.terms
-    later = are_before-later markers (markers_at (doc.id + 1)) index.terms (inl (omega (arith, event))) stands.before
-
     before : (replaced : Option ℕ) → AreBefore (markers_at (doc.id + 1)) (settled replaced index).terms
-    before None = later
-    before (Some id) = later
+    before None = stands.before
+    before (Some id) = stands.before
 
 -- All of them do.
-pub in_step-written : (store : Store) (docs : List Doc) (doc : Doc) (replaced : Option ℕ) (markers : Markers) (indexes : List Index) → store.space ≡ write docs doc.key doc.hash doc.id → store.last < doc.id + 1
-    → replaced ≡ id_of docs doc.key → AreWritten docs doc.id → ValuesFit doc.hash → markers.event ≡ doc.id → All (IndexStands docs (doc.id + 1) markers) indexes → All (Awaits docs doc) indexes
+pub in_step-written : (store : Store) (docs : List Doc) (doc : Doc) (replaced : Option ℕ) (indexes : List Index) → store.space ≡ write docs doc.key doc.hash doc.id → store.last < doc.id + 1
+    → replaced ≡ id_of docs doc.key → AreWritten docs doc.id → ValuesFit doc.hash → 0 < length doc.hash → All (IndexStands docs (doc.id + 1) (markers_at (doc.id + 1))) indexes → All (Awaits docs doc) indexes
     → InStep store (map (settled replaced) indexes) (doc.id + 1)
-in_step-written store docs doc replaced markers indexes space last same written fits event stand waits =
+in_step-written store docs doc replaced indexes space last same written fits filled stand waits =
     let whole : store.space ≡ kept replaced docs ++ doc ∷ [] = space ∙ (ap (λ rest. rest ++ doc ∷ []) (erase-kept 0 docs doc.key written.rise) ∙ ap (λ (r : Option ℕ). kept r docs ++ doc ∷ []) (sym same)) in
     let earlier : IfSome replaced (λ id. id < doc.id) = subst (λ (r : Option ℕ). IfSome r (λ id. id < doc.id)) (sym same) (found-earlier 0 doc.id docs doc.key written.rise written.earlier) in
-    let documents : AreWritten (kept replaced docs ++ doc ∷ []) (doc.id + 1) = subst (λ (r : Option ℕ). AreWritten (kept r docs ++ doc ∷ []) (doc.id + 1)) (sym same) (space-written docs doc written fits) in
+    let documents : AreWritten (kept replaced docs ++ doc ∷ []) (doc.id + 1) = subst (λ (r : Option ℕ). AreWritten (kept r docs ++ doc ∷ []) (doc.id + 1)) (sym same) (space-written docs doc written fits filled) in
     record {
       last = last;
       documents = subst (λ (space : List Doc). AreWritten space (doc.id + 1)) (sym whole) documents;
       stand = subst (λ (space : List Doc). All (IndexStands space (doc.id + 1) (markers_at (doc.id + 1))) (map (settled replaced) indexes)) (sym whole)
           (All-map (IndexStands (kept replaced docs ++ doc ∷ []) (doc.id + 1) (markers_at (doc.id + 1))) (settled replaced) indexes
-          (λ k d short. index-settled docs doc replaced markers (slice_index_or indexes k d) earlier event (stand k d short) (waits k d short)));
+          (λ k d short. index-settled docs doc replaced (slice_index_or indexes k d) earlier (stand k d short) (waits k d short)));
     }
 
 -- Where nothing is written, each index stands for what it stood for.
@@ -221,6 +219,19 @@ found-fits (doc ∷ docs) key fit = by_test (bytes_eq key doc.key) (found-fits d
     by_test true later = All-head (λ (doc : Doc). ValuesFit doc.hash) doc docs fit
     by_test false later = later
 
+-- a document that is there has fields
+pub found-filled : (docs : List Doc) (key : List ℕ) → is_some (doc_of docs key) ≡ true → All (λ (doc : Doc). 0 < length doc.hash) docs → 0 < length (hash_in (doc_of docs key))
+found-filled [] key there filled = cc (there)
+found-filled (doc ∷ docs) key there filled = by_test (bytes_eq key doc.key) there (λ later. found-filled docs key later (All-tail (λ (doc : Doc). 0 < length doc.hash) doc docs filled))
+  where
+    by_test : (here : Bool) → is_some (cond here (Some doc) (doc_of docs key)) ≡ true → (is_some (doc_of docs key) ≡ true → 0 < length (hash_in (doc_of docs key))) → 0 < length (hash_in (cond here (Some doc) (doc_of docs key)))
+    by_test true there later = All-head (λ (doc : Doc). 0 < length doc.hash) doc docs filled
+    by_test false there later = later there
+
+-- and what is left of a hash fits where the hash does
+pub left-fits : (hash : Hash) (fields : List (List ℕ)) → ValuesFit hash → ValuesFit (without_fields hash fields)
+left-fits hash fields fit = All-filter (λ (field : List ℕ × List ℕ). not (list_any (bytes_eq field.0) fields)) fits_in hash fit
+
 -- a store that holds the same documents is in step too
 pub in_step-same : (old new : Store) (indexes : List Index) (id : ℕ) → new.space ≡ old.space → new.last ≡ old.last → InStep old indexes id → InStep new indexes id
 in_step-same old new indexes id space last step = record {
@@ -233,24 +244,11 @@ in_step-same old new indexes id space last step = record {
 pub in_step-read : (old new : Store) (indexes : List Index) (id : ℕ) → new.space ≡ old.space → new.last ≡ old.last → InStep old indexes id → InStep new indexes (id + 1)
 in_step-read old new indexes id space last step = in_step-later new indexes id (in_step-same old new indexes id space last step)
 
--- an index more that stands for the documents
-pub in_step-more : (store : Store) (indexes : List Index) (index : Index) (id : ℕ) (markers : Markers) → InStep store indexes id → markers.event ≡ id → IndexStands store.space markers.event markers index
-    → InStep store (indexes ++ index ∷ []) (id + 1)
-in_step-more store indexes index id markers step event stands =
-    let P : Index → Type 0 = IndexStands store.space (id + 1) (markers_at (id + 1)) in
-    let later = in_step-later store indexes id step in
-    let here : P index = stands-later store.space markers.event (id + 1) markers (markers_at (id + 1)) index (omega (arith, event)) (inl (omega (arith, event))) stands in
-    record {
-      last = later.last;
-      documents = later.documents;
-      stand = All-append P indexes (index ∷ []) later.stand (All-cons P index [] here (All-nil P));
-    }
-
 -- nothing is left
 pub in_step-empty : (store : Store) (indexes : List Index) (next : ℕ) → store.space ≡ [] → indexes ≡ [] → store.last < next → 0 < next → InStep store indexes next
 in_step-empty store indexes next none nothing last some = record {
   last = last;
-  documents = subst (λ (docs : List Doc). AreWritten docs next) (sym none) (record { rise = tt; earlier = some; fit = All-nil (λ (doc : Doc). ValuesFit doc.hash) });
+  documents = subst (λ (docs : List Doc). AreWritten docs next) (sym none) (record { rise = tt; earlier = some; fit = All-nil (λ (doc : Doc). ValuesFit doc.hash); filled = All-nil (λ (doc : Doc). 0 < length doc.hash) });
   stand = subst (λ (indexes : List Index). All (IndexStands store.space next (markers_at next)) indexes) (sym nothing) (All-nil (IndexStands store.space next (markers_at next)));
 }
 
@@ -267,7 +265,8 @@ pub space-kept : (replaced : Option ℕ) (docs : List Doc) (next : ℕ) → AreW
 space-kept replaced docs next written = record {
   rise = subst (RisesAbove 0) (sym (rows-kept replaced docs written.rise)) (kept_rows-rise replaced (map row_of docs) written.rise);
   earlier = subst (λ (rows : List (ℕ × List ℕ)). last_id 0 rows < next) (sym (rows-kept replaced docs written.rise)) (omega (arith, kept_rows-end replaced (map row_of docs) written.rise, written.earlier));
-  fit = kept-fit replaced docs written.fit;
+  fit = kept-all (λ (doc : Doc). ValuesFit doc.hash) replaced docs written.fit;
+  filled = kept-all (λ (doc : Doc). 0 < length doc.hash) replaced docs written.filled;
 }
 
 -- a document was taken out of the store and of each index

@@ -4,13 +4,18 @@ use Rattle.std.specs.List.{All}
 use Rattle.ft_base.specs.declared.limits.TheConstants.{MAX_WORD_BYTES}
 use Rattle.cmd_parse.specs.Lawful.{Lawful}
 use Rattle.cmd_parse.specs.Read.{Asked, Plain, CreateText, SearchWord}
+use Rattle.cmd_parse.specs.declared.command.Verb.{Verb}
+use Rattle.cmd_parse.specs.declared.command.Verb.TheVariants.{Hset, Hsetnx, Hdel, Hincrby, Del, Rename, Flushall}
 
--- the first argument of a command, and the second
+-- the first argument of a command, the second and the third
 abbrev pub first : List (List ℕ) → List ℕ
 first args = slice_index_or args 0 []
 
 abbrev pub second : List (List ℕ) → List ℕ
 second args = slice_index_or args 1 []
+
+abbrev pub third : List (List ℕ) → List ℕ
+third args = slice_index_or args 2 []
 
 -- no argument is longer than a word may be
 abbrev pub AreWords : List (List ℕ) → Type 0
@@ -21,3 +26,14 @@ abbrev pub IsAsked : Asked → Type 0
 IsAsked (Plain verb args) = Lawful verb args × AreWords args
 IsAsked (CreateText index field) = Unit {0}
 IsAsked (SearchWord index word) = Unit {0}
+
+-- a plain command that changes nothing
+abbrev pub IsRead : Verb → Type 0
+IsRead Hset = ⊥
+IsRead Hsetnx = ⊥
+IsRead Hdel = ⊥
+IsRead Hincrby = ⊥
+IsRead Del = ⊥
+IsRead Rename = ⊥
+IsRead Flushall = ⊥
+IsRead _ = Unit {0}

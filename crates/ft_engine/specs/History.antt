@@ -1,17 +1,13 @@
 -- Histories: what happened, entry by entry, each legal in the state before it.
-use Rattle.std.specs.Prelude.{◌≡◌, ◌<◌, ◌+◌, ◌^◌, ℕ, min, List, [], ◌∷◌, ◌++◌, length}
+use Rattle.std.specs.Prelude.{◌≡◌, ◌<◌, ℕ, List, [], ◌∷◌, ◌++◌, length}
 use Rattle.ft_base.specs.Words.{KeepsLimits}
 use Rattle.ft_engine.specs.Machine.{State, empty_state}
-use Rattle.ft_engine.specs.Step.{Answers}
+use Rattle.ft_engine.specs.Step.{Answers, next_number}
 
 -- What one event left in the history.
 pub data Entry : Type 0 where
   -- a caller's command at a moment, and its reply
   Exec : (caller moment : ℕ) (words : List (List ℕ)) (reply : List ℕ) → Entry
-
--- the number of the event behind this one; it stays at 2^62
-abbrev pub next_number : ℕ → ℕ
-next_number number = min (number + 1) (2 ^ 62)
 
 -- Entries that lead from a state to another, the first with this number, where `May` says which entry may follow.
 abbrev pub Leads : {S E : Type 0} → (ℕ → S → E → S → Type 0) → ℕ → S → List E → S → Type 0

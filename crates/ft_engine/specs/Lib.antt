@@ -1,5 +1,5 @@
 pub mod Asking
-pub mod Changes
+pub mod Counting
 pub mod Definitions
 pub mod Filling
 pub mod History
@@ -9,3 +9,5 @@ pub mod Pages
 pub mod Reads
 pub mod Stands
 pub mod Step
+pub mod Writes
+pub mod Preparing

@@ -1,7 +1,10 @@
 -- The state of the machine: the plain hashes, and what else a reply may depend on.
-use Rattle.std.specs.Prelude.{ℕ, max, List, []}
+use Rattle.std.specs.Prelude.{ℕ, max, List, [], Option, Some, None}
+use Rattle.ft_base.specs.Hash.{Hash}
+use Rattle.ft_base.specs.Space.{doc_of}
 use Rattle.ft_base.specs.declared.definition.IndexDef.{IndexDef}
 use Rattle.ft_base.specs.declared.doc.Doc.{Doc}
+use Rattle.ft_base.specs.declared.reply.Reply.{Reply}
 
 pub record State : Type 0 where
   -- the documents, in order of ids
@@ -17,3 +20,21 @@ empty_state = record { space = []; definitions = []; latest = 0 }
 -- The state at a command's moment, before the command does anything. A moment that is earlier counts as the latest one.
 abbrev pub at_moment : ℕ → State → State
 at_moment moment state = record state { latest = max moment state.latest }
+
+-- the hash of a document, without fields where there is none
+abbrev pub hash_in : Option Doc → Hash
+hash_in None = []
+hash_in (Some doc) = doc.hash
+
+-- the hash of a key
+abbrev pub hash_of : State → List ℕ → Hash
+hash_of state key = hash_in (doc_of state.space key)
+
+-- a reply, and the state after it
+pub record Outcome : Type 0 where
+  pub reply : Reply
+  pub after : State
+
+-- a reply that changes nothing
+abbrev pub answered : Reply → State → Outcome
+answered reply state = record { reply = reply; after = state }

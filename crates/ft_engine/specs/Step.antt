@@ -1,40 +1,26 @@
 -- One step of the machine: a command at an event's number and a moment gives a reply and the next state.
-use Rattle.std.specs.Prelude.{◌≡◌, ◌⊎◌, ℕ, pos, List, [], ◌∷◌, ◌++◌, ◌-◌, length, take, drop, map, slice_index_or, Option, Some, None, is_some, Result, Ok, Err, Bool, true, false, nat_le, if◌then◌else◌, codes}
+use Rattle.std.specs.Prelude.{◌≡◌, ◌<◌, ◌≤◌, ◌⊎◌, ℕ, pos, List, [], ◌∷◌, ◌++◌, ◌+◌, ◌^◌, min, length, take, drop, map, slice_index_or, Option, Some, None, is_some, Result, Ok, Err, nat_le, if◌then◌else◌, codes}
 use Rattle.std.specs.Fmt.{decimal}
 use Rattle.cmd_parse.specs.Read.{Asked, Plain, CreateText, SearchWord, read}
 use Rattle.cmd_parse.specs.declared.command.CmdFault.{CmdFault}
 use Rattle.cmd_parse.specs.declared.command.CmdFault.TheVariants.{Unknown, Arity, Syntax, NotInteger, BadDb, NotBuilt}
 use Rattle.cmd_parse.specs.declared.command.Verb.{Verb}
-use Rattle.cmd_parse.specs.declared.command.Verb.TheVariants.{Ping, Echo, Select, Quit, Hset, Hsetnx, Del, Flushall, Hget, Hmget, Hgetall, Hlen, Hexists, Hkeys, Hvals, Exists, TypeOf, Dbsize}
-use Rattle.ft_base.specs.Hash.{Hash, get_field, set_field}
+use Rattle.cmd_parse.specs.declared.command.Verb.TheVariants.{Ping, Echo, Select, Quit, Hset, Hsetnx, Hget, Hmget, Hgetall, Hdel, Hlen, Hexists, Hincrby, Hkeys, Hvals, Del, Exists, TypeOf, Dbsize, Rename, Flushall}
+use Rattle.ft_base.specs.Hash.{get_field}
+use Rattle.ft_base.specs.Number.{int_of}
 use Rattle.ft_base.specs.Reply.{spelling}
-use Rattle.ft_base.specs.Space.{doc_of, erase, write}
+use Rattle.ft_base.specs.Space.{doc_of}
 use Rattle.ft_base.specs.declared.definition.IndexDef.{IndexDef}
 use Rattle.ft_base.specs.declared.doc.Doc.{Doc}
 use Rattle.ft_base.specs.declared.reply.Reply.{Reply}
 use Rattle.ft_base.specs.declared.reply.Reply.TheVariants.{Line, Fault, Number, Bulk, Array}
-use Rattle.ft_engine.specs.Asking.{first, second}
+use Rattle.ft_engine.specs.Asking.{first, second, third}
 use Rattle.ft_engine.specs.Reads.{in_turn, kind_of, names, one_if, present, value_reply, values}
 use Rattle.ft_engine.specs.Definitions.{text_index, index_of}
 use Rattle.ft_meaning.specs.Meaning.{found}
-use Rattle.ft_engine.specs.Machine.{State, at_moment}
+use Rattle.ft_engine.specs.Machine.{Outcome, State, answered, at_moment, hash_of}
+use Rattle.ft_engine.specs.Writes.{del, hdel, hincrby, hset, hset_unless, number_in, rename}
 use Rattle.token_text.specs.Tokens.{lowered}
-
--- a reply, and the state after it
-pub record Outcome : Type 0 where
-  pub reply : Reply
-  pub after : State
-
-abbrev pub out_of_memory : Reply
-out_of_memory = Fault (codes "OOM out of memory")
-
-abbrev pub hash_in : Option Doc → Hash
-hash_in None = []
-hash_in (Some doc) = doc.hash
-
--- the hash of a key, without fields where there is none
-abbrev pub hash_of : State → List ℕ → Hash
-hash_of state key = hash_in (doc_of state.space key)
 
 -- the most indexes that there may be
 abbrev pub most_indexes : ℕ
@@ -61,47 +47,9 @@ abbrev pub searched : Option IndexDef → List ℕ → List Doc → Reply
 searched None word docs = Fault (codes "Unknown index name")
 searched (Some index) word docs = found_reply (found index word docs)
 
-abbrev pub answered : Reply → State → Outcome
-answered reply state = record { reply = reply; after = state }
-
 -- the text for a form that is not built
 abbrev pub not_built : List ℕ
 not_built = codes "ERR not built"
-
--- What was made is written, or memory was wanting.
-abbrev pub Told : {E : Type 0} → Result Reply E → List ℕ → Type 0
-Told (Ok reply) written = (written ≡ spelling reply) ⊎ (written ≡ spelling out_of_memory)
-Told (Err e) written = written ≡ spelling out_of_memory
-
--- a hash with pairs of fields and values set from the left
-abbrev pub set_pairs : Hash → List (List ℕ) → Hash
-set_pairs hash [] = hash
-set_pairs hash (field ∷ []) = hash
-set_pairs hash (field ∷ value ∷ pairs) = set_pairs (set_field hash field value) pairs
-
--- HSET: the number of new fields
-abbrev pub hset : List (List ℕ) → ℕ → State → Outcome
-hset args number state = let old = hash_of state (first args) in let new = set_pairs old (drop 1 args) in record {
-  reply = Number (pos (length new - length old));
-  after = record state { space = write state.space (first args) new number };
-}
-
--- HSETNX, where the field is there or not
-abbrev pub hset_unless : Bool → List (List ℕ) → ℕ → State → Outcome
-hset_unless true args number state = answered (Number (pos 0)) state
-hset_unless false args number state = hset args number state
-
--- the documents but those of the keys
-abbrev pub without_keys : List Doc → List (List ℕ) → List Doc
-without_keys docs [] = docs
-without_keys docs (key ∷ keys) = without_keys (erase docs key) keys
-
--- DEL: the number of keys that are gone
-abbrev pub del : List (List ℕ) → State → Outcome
-del keys state = let left = without_keys state.space keys in record {
-  reply = Number (pos (length state.space - length left));
-  after = record state { space = left };
-}
 
 -- What a plain command gives.
 abbrev pub plain : Verb → List (List ℕ) → ℕ → State → Outcome
@@ -122,9 +70,12 @@ plain TypeOf args number state = answered (Line (kind_of (doc_of state.space (fi
 plain Dbsize args number state = answered (Number (pos (length state.space))) state
 plain Hset args number state = hset args number state
 plain Hsetnx args number state = hset_unless (is_some (get_field (hash_of state (first args)) (second args))) args number state
+plain Hdel args number state = hdel args number state
+plain Hincrby args number state =
+    hincrby (number_in (get_field (hash_of state (first args)) (second args))) (int_of (third args)) args number state
+plain Rename args number state = rename (doc_of state.space (first args)) (first args) (second args) number state
 plain Del keys number state = del keys state
 plain Flushall args number state = record { reply = Line (codes "OK"); after = record state { space = []; definitions = [] } }
-plain _ args number state = answered (Fault not_built) state
 
 -- What a command gives that asks this.
 abbrev pub outcome : Asked → ℕ → State → Outcome
@@ -135,6 +86,19 @@ outcome (CreateText index field) number state = let result = created (text_index
 }
 outcome (SearchWord index word) number state = answered (searched (index_of state.definitions index) (lowered word) state.space) state
 
+-- the reply where memory is wanting
+abbrev pub out_of_memory : Reply
+out_of_memory = Fault (codes "OOM out of memory")
+
+-- What was made is written, or memory was wanting.
+abbrev pub Told : {E : Type 0} → Result Reply E → List ℕ → Type 0
+Told (Ok reply) written = (written ≡ spelling reply) ⊎ (written ≡ spelling out_of_memory)
+Told (Err e) written = written ≡ spelling out_of_memory
+
+-- how many keys DEL counts without memory
+abbrev pub most_counted : ℕ
+most_counted = 1024
+
 -- Whether a plain command takes memory.
 abbrev pub PlainMayWant : Verb → List (List ℕ) → Type 0
 PlainMayWant Ping (message ∷ _) = Unit {0}
@@ -144,8 +108,12 @@ PlainMayWant Hmget args = Unit {0}
 PlainMayWant Hgetall args = Unit {0}
 PlainMayWant Hkeys args = Unit {0}
 PlainMayWant Hvals args = Unit {0}
-PlainMayWant Hsetnx args = Unit {0}
 PlainMayWant Hset args = Unit {0}
+PlainMayWant Hsetnx args = Unit {0}
+PlainMayWant Hdel args = Unit {0}
+PlainMayWant Hincrby args = Unit {0}
+PlainMayWant Rename args = Unit {0}
+PlainMayWant Del keys = most_counted < length keys
 PlainMayWant _ args = ⊥
 
 -- Whether a command may be answered that memory is wanting.
@@ -175,6 +143,25 @@ abbrev pub Takes : List ℕ → Result Asked CmdFault → ℕ → State → List
 Takes name (Ok asks) number old reply new = Does asks number old reply new
 Takes name (Err fault) number old reply new = (reply ≡ spelling (Fault (refusal name fault))) × (new ≡ old)
 
--- One command. Its moment counts first, whatever its reply.
+-- the last number that an event can have
+abbrev pub last_number : ℕ
+last_number = 2 ^ 62
+
+-- the number of the event behind this one
+abbrev pub next_number : ℕ → ℕ
+next_number number = min (number + 1) last_number
+
+-- the text for every command at the last number
+abbrev pub last_event : List ℕ
+last_event = codes "ERR last event reached"
+
+-- A step is made at a moment, which counts first, whatever the reply. At the last number there is no step: every command
+-- is refused, and nothing changes.
+abbrev pub At : ℕ → ℕ → (State → List ℕ → State → Type 0) → State → List ℕ → State → Type 0
+At number moment Steps old reply new =
+    ((number < last_number) × Steps (at_moment moment old) reply new)
+    ⊎ ((last_number ≤ number) × (reply ≡ spelling (Fault last_event)) × (new ≡ old))
+
+-- one command
 abbrev pub Answers : List (List ℕ) → ℕ → ℕ → State → List ℕ → State → Type 0
-Answers words number moment old reply new = Takes (slice_index_or words 0 []) (read words) number (at_moment moment old) reply new
+Answers words number moment = At number moment (Takes (slice_index_or words 0 []) (read words) number)

@@ -1,11 +1,17 @@
 //! The definitions of indexes, and what FT.CREATE does.
-ghost use Rattle.std.specs.Prelude.{◌≡◌, ◌≤◌, ◌+◌, [], ◌∷◌, ◌++◌, map, vec_capacity, IfOk, OnOk, OnErr};
-ghost use Rattle.ft_engine.specs.Changes.{CreatesText};
+ghost use Rattle.std.specs.Prelude.{◌≡◌, ◌≤◌, ◌+◌, List, Option, [], map, vec_capacity, IfOk};
+ghost use Rattle.cmd_parse.specs.Read.{CreateText};
+ghost use Rattle.ft_base.specs.declared.doc.Doc.{Doc};
 ghost use Rattle.ft_engine.specs.Definitions.{default_stops, text_field, text_index};
-ghost use Rattle.ft_engine.specs.Stands.{InStep, definitions_of};
+ghost use Rattle.ft_engine.specs.Machine.{State};
+ghost use Rattle.ft_engine.specs.Preparing.{IsReady, changed};
+ghost use Rattle.ft_engine.specs.Stands.{AreWritten, InStep, IndexStands, definitions_of, markers_at};
+ghost use Rattle.ft_engine.specs.Step.{Does};
+ghost use Rattle.ft_index.specs.Index.{Index};
 
 use crate::filling::fill;
-use crate::indexes::index_named;
+use crate::indexes::{MOST_INDEXES, index_named};
+use crate::prepared::Change;
 use crate::short_reply::{SHORT_REPLY, put_fault, put_no_memory, put_short};
 use ft_base::{Bytes, Field, FieldKind, IndexDef, ListOf, NoMemory, StopWords};
 use ft_index::FtIndex;
@@ -13,55 +19,58 @@ use hash_store::HashStore;
 use inverted_list::Markers;
 use std::alloc::Global;
 
-/// The most indexes that there may be.
-const MOST_INDEXES: usize = 256;
-
-/// Creates an index of one TEXT field over the documents that are there, and writes the reply.
-pub fn answer_create(
+/// Prepares the creation of an index of one TEXT field over the documents that are there, and writes
+/// the reply.
+pub fn create<'a>(
     store: &mut HashStore,
-    indexes: &mut Vec<FtIndex>,
+    indexes: &[FtIndex],
     alloc: Global,
     serial: u64,
     name: &[u8],
     field: &[u8],
     out: &mut Vec<u8>,
-)
-    requires kept { InStep store.old indexes.old.items serial }
+) -> Change<'a>
+    requires kept { InStep store.old indexes.now serial }
     requires empty { out.old.items ≡ [] }
     requires room { SHORT_REPLY ≤ vec_capacity out.old }
-    ensures outcome { CreatesText (definitions_of indexes.old.items)
-        (definitions_of indexes.new.items) serial name.now field.now out.new.items }
-    ensures kept { InStep store.new indexes.new.items (serial + 1) }
+    ensures does { (state : State) (waits : Option Doc) → state.definitions ≡ definitions_of indexes.now
+        → Does (CreateText name.now field.now) serial state out.new.items (changed result waits state) }
+    ensures ready { (waits : Option Doc) (all : List Index) → all ≡ indexes.now
+        → IsReady result serial store.new.space waits all }
     ensures space { store.new.space ≡ store.old.space }
+    ensures last { store.new.last ≡ store.old.last }
     ensures room { SHORT_REPLY ≤ vec_capacity out.new }
 {
-    if index_named(indexes.as_slice(), name).is_some() {
-        return put_fault(out, b"Index already exists");
+    if index_named(indexes, name).is_some() {
+        put_fault(out, b"Index already exists");
+        return Change::Nothing;
     }
     if MOST_INDEXES <= indexes.len() {
-        return put_fault(out, b"Too many indexes");
+        put_fault(out, b"Too many indexes");
+        return Change::Nothing;
     }
-    match add(store, indexes, alloc, serial, name, field) {
-        Ok(()) => put_short(out, b"+OK\r\n"),
-        Err(_) => put_no_memory(out),
-    }
+    let Ok(index) = filled_index(store, alloc, serial, name, field) else {
+        put_no_memory(out);
+        return Change::Nothing;
+    };
+    put_short(out, b"+OK\r\n");
+    Change::Create(index)
 }
 
-/// A new index goes last.
-fn add(
+/// A new index that stands for the documents.
+fn filled_index(
     store: &mut HashStore,
-    indexes: &mut Vec<FtIndex>,
     alloc: Global,
     serial: u64,
     name: &[u8],
     field: &[u8],
-) -> Result<(), NoMemory>
-    requires kept { InStep store.old indexes.old.items serial }
-    ensures ok { OnOk result (definitions_of indexes.new.items
-        ≡ definitions_of indexes.old.items ++ text_index name.now field.now serial ∷ []) }
-    ensures err { OnErr result (definitions_of indexes.new.items ≡ definitions_of indexes.old.items) }
-    ensures kept { InStep store.new indexes.new.items (serial + 1) }
+) -> Result<FtIndex, NoMemory>
+    requires documents { AreWritten store.old.space serial }
+    ensures def { IfOk result (λ index. index.def ≡ text_index name.now field.now serial) }
+    ensures stands { IfOk result (λ index.
+        IndexStands store.new.space (serial + 1) (markers_at (serial + 1)) index) }
     ensures space { store.new.space ≡ store.old.space }
+    ensures last { store.new.last ≡ store.old.last }
 {
     let def = text_index(alloc, name, field, serial)?;
     let mut markers = Markers {
@@ -70,8 +79,7 @@ fn add(
     };
     let mut index = FtIndex::new(alloc, def, &mut markers)?;
     fill(&mut index, store, &mut markers)?;
-    indexes.push(index)?;
-    Ok(())
+    Ok(index)
 }
 
 /// An index of one TEXT field over all keys, with the default stop words.

@@ -1,18 +1,19 @@
-//! The engine: a state of the machine, and the step that a command makes it take.
-ghost use Rattle.std.specs.Prelude.{◌≡◌, ◌<◌, ◌≤◌, ◌+◌, ◌^◌, ℕ, [], length, vec_capacity, Err, IfOk};
+//! The engine: a state of the machine, and the events that lead from one to the next.
+ghost use Rattle.std.specs.Prelude.{◌≡◌, ◌≢◌, ◌<◌, ◌≤◌, ◌^◌, Err, [], true, false, length, vec_capacity, IfOk, IsTrue};
 ghost use Rattle.ft_base.specs.Words.{KeepsLimits};
-ghost use Rattle.ft_engine.specs.Machine.{empty_state};
-ghost use Rattle.cmd_parse.specs.Read.{asked_of, command_of};
-ghost use Rattle.cmd_parse.specs.declared.command.CmdFault.TheVariants.{Arity};
+ghost use Rattle.cmd_parse.specs.Read.{command_of, read};
 ghost use Rattle.ft_engine.specs.Asking.{IsAsked};
-ghost use Rattle.ft_engine.specs.Stands.{InStep, IsIndexed, Stands, state_of};
-ghost use Rattle.ft_engine.specs.Step.{Answers, Does, Takes};
+ghost use Rattle.ft_engine.specs.Preparing.{IsLast, abandoned, committed, is_change};
+ghost use Rattle.ft_engine.specs.Stands.{IsIndexed, opened};
+ghost use Rattle.ft_engine.specs.Step.{Answers, At, Does, next_number};
 
-use crate::definitions::answer_create;
-use crate::plain::do_plain;
+use crate::changes::make;
+use crate::indexes::MOST_INDEXES;
+use crate::prepared::{Change, Prepared};
 use crate::refusals::put_refusal;
-use crate::search::answer_search;
-use crate::short_reply::SHORT_REPLY;
+use crate::removals::MOST_COUNTED;
+use crate::short_reply::put_fault;
+use crate::step::prepare_command;
 use cmd_parse::{CmdFault, Command, read_command};
 use ft_base::{NoMemory, Words};
 use ft_index::FtIndex;
@@ -20,140 +21,217 @@ use hash_store::HashStore;
 use std::alloc::Global;
 use std::marker::Model;
 
+/// The last number that an event can have.
+const LAST_NUMBER: u64 = 4_611_686_018_427_387_904;
+
 /// The state of the server. A contract sees the state of the machine that it stands for, the number
-/// of the next event, and the indexes.
+/// of the next event, the indexes, and what is prepared.
+///
+/// A command is one event: it is prepared, and then committed or abandoned; or it is refused for its
+/// words. While an event is prepared, no other can begin.
 #[derive(Drop)]
 pub struct Engine {
     alloc: Global,
     store: HashStore,
+    // With room for as many as there may be.
     indexes: Vec<FtIndex>,
+    // Room to count the keys that DEL finds.
+    ids: Vec<u64>,
     latest: u64,
     next: u64,
+    // Whether an event is prepared, and neither committed nor abandoned.
+    pending: bool,
 }
 
 impl Model for Engine {
-    ghost use Rattle.ft_engine.specs.Stands.{InStep, Stands, definitions_of};
+    ghost use Rattle.ft_engine.specs.Stands.{Stands, state_of};
 
     ghost Value = { Stands };
 
     ghost view = { λ e. record {
-      state = record {
-        space = e.store.space;
-        definitions = definitions_of e.indexes.items;
-        latest = e.latest;
-      };
+      state = state_of e.store e.indexes.items e.latest;
       next = e.next;
       indexes = e.indexes.items;
+      waits = e.store.ready;
+      pending = e.pending;
     } };
 
-    ghost invariant = { λ e. InStep e.store e.indexes.items e.next };
+    ghost use Rattle.ft_engine.specs.Stands.{IsEngine};
+    ghost use Rattle.std.specs.Prelude.{vec_capacity};
+
+    ghost invariant = { λ e. IsEngine e.store e.indexes.items (vec_capacity e.indexes) (vec_capacity e.ids) e.pending e.next };
 }
 
 impl Engine {
     /// An engine without documents and indexes, whose first event has the number 1.
     pub fn new(alloc: Global) -> Result<Engine, NoMemory>
-        ensures { IfOk result (λ engine. engine ≡ record { state = empty_state; next = 1; indexes = [] }) }
+        ensures { IfOk result (λ engine. engine ≡ opened 1) }
+    {
+        Engine::open_at(alloc, 1)
+    }
+
+    /// The same, whose first event has this number.
+    pub fn open_at(alloc: Global, first: u64) -> Result<Engine, NoMemory>
+        requires least { 1 ≤ first }
+        requires most { first ≤ 2 ^ 62 }
+        ensures { IfOk result (λ engine. engine ≡ opened first) }
     {
         Ok(Engine {
             alloc,
             store: HashStore::new(alloc),
-            indexes: Vec::new(alloc),
+            indexes: Vec::with_capacity(alloc, MOST_INDEXES)?,
+            ids: Vec::with_capacity(alloc, MOST_COUNTED)?,
             latest: 0,
-            next: 1,
+            next: first,
+            pending: false,
         })
     }
 
-    /// Executes a command at a moment, and writes its reply to `out`, which keeps its room.
+    /// The number of the next event. From 2^62 on it stays.
+    pub fn next(&self) -> u64
+        ensures number { result ≡ self.now.next }
+        ensures most { result ≤ 2 ^ 62 }
+    {
+        self.next
+    }
+
+    /// Executes a command at a moment, in milliseconds, and writes its reply to `out`, which keeps
+    /// its room.
     pub fn exec(&mut self, now: u64, words: Words<'_>, out: &mut Vec<u8>)
         requires some { 0 < length words }
         requires limits { KeepsLimits words }
         requires empty { out.old.items ≡ [] }
         requires room { 64 ≤ vec_capacity out.old }
-        requires events { self.old.next < 2 ^ 62 }
+        requires free { self.old.pending ≡ false }
 
         // One step of the machine, at this event's number.
         ensures answer { Answers words.entry self.old.next now self.old.state
             out.new.items self.new.state }
-        ensures next { self.new.next ≡ self.old.next + 1 }
+        ensures next { self.new.next ≡ next_number self.old.next }
 
         // Each index stands for the documents.
         ensures indexed { IsIndexed self.new }
+        ensures free { self.new.pending ≡ false }
         ensures room { 64 ≤ vec_capacity out.new }
     {
-        let name = words.word(0);
-        let asked = read_command(words);
-        self.latest = self.latest.max(now);
-        do_step(
+        match read_command(words.rest(0)) {
+            Ok(command) => {
+                let prepared = self.prepare(now, &command, out);
+                self.commit(prepared);
+            }
+            Err(fault) => self.refuse(now, words, &fault, out),
+        }
+    }
+
+    /// Prepares what is asked at a moment, and writes the reply. Nothing is seen of it yet.
+    pub fn prepare<'a>(
+        &mut self,
+        now: u64,
+        command: &Command<'a>,
+        out: &mut Vec<u8>,
+    ) -> Prepared<'a>
+        requires asked { IsAsked (command_of command.now) }
+        requires empty { out.old.items ≡ [] }
+        requires room { 64 ≤ vec_capacity out.old }
+        requires free { self.old.pending ≡ false }
+
+        // A commit makes this a step of the machine, at this event's number.
+        ensures answer { At self.old.next now (Does (command_of command.now) self.old.next)
+            self.old.state out.new.items (committed result self.new) }
+        ensures writes { IsTrue (is_change result.change) → committed result self.new ≢ abandoned result self.new }
+        ensures state { self.new.state ≡ self.old.state }
+        ensures next { self.new.next ≡ self.old.next }
+        ensures last { IsLast result self.new }
+        ensures indexed { IsIndexed self.new }
+        ensures room { 64 ≤ vec_capacity out.new }
+    {
+        self.pending = true;
+        if LAST_NUMBER <= self.next {
+            put_fault(out, b"ERR last event reached");
+            return Prepared {
+                latest: self.latest,
+                change: Change::Nothing,
+            };
+        }
+        let change = prepare_command(
             &mut self.store,
-            &mut self.indexes,
+            self.indexes.as_mut_slice(),
+            &mut self.ids,
             self.alloc,
             self.next,
-            name,
-            asked,
+            command,
             out,
         );
-        self.next += 1;
-    }
-}
-
-/// Does what the words of this name ask in an event with this number, or refuses them, and writes the
-/// reply.
-fn do_step(
-    store: &mut HashStore,
-    indexes: &mut Vec<FtIndex>,
-    alloc: Global,
-    number: u64,
-    name: &[u8],
-    asked: Result<Command<'_>, CmdFault>,
-    out: &mut Vec<u8>,
-)
-    requires kept { InStep store.old indexes.old.items number }
-    requires number { number < 2 ^ 62 }
-    requires asked { IfOk asked (λ command. IsAsked (command_of command)) }
-    requires name { asked_of asked ≡ Err Arity → length name.now ≤ 12 }
-    requires empty { out.old.items ≡ [] }
-    requires room { SHORT_REPLY ≤ vec_capacity out.old }
-    ensures taken { (latest : ℕ) → Takes name.now (asked_of asked.entry) number
-        (state_of store.old indexes.old.items latest) out.new.items
-        (state_of store.new indexes.new.items latest) }
-    ensures kept { InStep store.new indexes.new.items (number + 1) }
-    ensures room { SHORT_REPLY ≤ vec_capacity out.new }
-{
-    match asked {
-        Ok(command) => do_command(store, indexes, alloc, number, command, out),
-        Err(fault) => put_refusal(name, fault, out),
-    }
-}
-
-/// Does what is asked, and writes the reply.
-fn do_command(
-    store: &mut HashStore,
-    indexes: &mut Vec<FtIndex>,
-    alloc: Global,
-    number: u64,
-    command: Command<'_>,
-    out: &mut Vec<u8>,
-)
-    requires kept { InStep store.old indexes.old.items number }
-    requires number { number < 2 ^ 62 }
-    requires asked { IsAsked (command_of command) }
-    requires empty { out.old.items ≡ [] }
-    requires room { SHORT_REPLY ≤ vec_capacity out.old }
-    ensures done { (latest : ℕ) → Does (command_of command.entry) number
-        (state_of store.old indexes.old.items latest) out.new.items
-        (state_of store.new indexes.new.items latest) }
-    ensures kept { InStep store.new indexes.new.items (number + 1) }
-    ensures room { SHORT_REPLY ≤ vec_capacity out.new }
-{
-    match command {
-        Command::Plain { verb, args } => {
-            do_plain(store, indexes, alloc, number, verb, args, out)
+        Prepared {
+            latest: self.latest.max(now),
+            change,
         }
-        Command::CreateText { index, field } => {
-            answer_create(store, indexes, alloc, number, index, field, out)
+    }
+
+    /// Makes what was prepared last, and ends its event. It takes no memory.
+    pub fn commit(&mut self, prepared: Prepared<'_>)
+        requires last { IsLast prepared self.old }
+        ensures state { self.new.state ≡ committed prepared.entry self.old }
+        ensures next { self.new.next ≡ next_number self.old.next }
+        ensures indexed { IsIndexed self.new }
+        ensures free { self.new.pending ≡ false }
+    {
+        make(
+            &mut self.store,
+            &mut self.indexes,
+            self.next,
+            prepared.change,
+        );
+        self.end(prepared.latest);
+    }
+
+    /// Ends the event of what was prepared last without it. It takes no memory.
+    pub fn abandon(&mut self, prepared: Prepared<'_>)
+        requires last { IsLast prepared self.old }
+        ensures state { self.new.state ≡ abandoned prepared.entry self.old }
+        ensures next { self.new.next ≡ next_number self.old.next }
+        ensures indexed { IsIndexed self.new }
+        ensures free { self.new.pending ≡ false }
+    {
+        self.end(prepared.latest);
+    }
+
+    /// Refuses a command for its words, in an event of its own, and writes why. It takes no memory.
+    pub fn refuse(&mut self, now: u64, words: Words<'_>, fault: &CmdFault, out: &mut Vec<u8>)
+        requires some { 0 < length words }
+        requires fault { read words ≡ Err fault.now }
+        requires empty { out.old.items ≡ [] }
+        requires room { 64 ≤ vec_capacity out.old }
+        requires free { self.old.pending ≡ false }
+        ensures answer { Answers words.entry self.old.next now self.old.state
+            out.new.items self.new.state }
+        ensures next { self.new.next ≡ next_number self.old.next }
+        ensures indexed { IsIndexed self.new }
+        ensures free { self.new.pending ≡ false }
+        ensures room { 64 ≤ vec_capacity out.new }
+    {
+        if LAST_NUMBER <= self.next {
+            return put_fault(out, b"ERR last event reached");
         }
-        Command::SearchWord { index, word } => {
-            answer_search(indexes.as_slice(), alloc, index, word, out)
+        put_refusal(words.word(0), *fault, out);
+        self.pending = true;
+        self.end(self.latest.max(now));
+    }
+
+    // Ends an event that is prepared.
+    fn end(&mut self, latest: u64)
+        requires pending { self.old.pending ≡ true }
+        ensures ended { self.new ≡ record self.old {
+          state = record self.old.state { latest = latest };
+          next = next_number self.old.next;
+          pending = false;
+        } }
+        ensures indexed { IsIndexed self.new }
+    {
+        self.latest = latest;
+        self.pending = false;
+        if self.next < LAST_NUMBER {
+            self.next += 1;
         }
     }
 }

@@ -1,5 +1,5 @@
 //! What a write does to every index: postings first, liveness last.
-ghost use Rattle.std.specs.Prelude.{◌≡◌, ◌+◌, ℕ, List, Some, map, OnOk};
+ghost use Rattle.std.specs.Prelude.{◌≡◌, ◌<◌, ◌≤◌, ◌+◌, ◌++◌, ◌∷◌, ℕ, List, [], Some, length, map, vec_capacity, OnOk};
 ghost use Rattle.std.specs.List.{All, find};
 ghost use Rattle.std.specs.Option.{option_copied, option_map};
 ghost use Rattle.std.specs.Str.{bytes_eq};
@@ -12,6 +12,20 @@ ghost use Rattle.ft_meaning.specs.Meaning.{ValuesFit};
 use ft_base::{Doc, NoMemory};
 use ft_index::{FtIndex, Ready};
 use inverted_list::Markers;
+
+/// The most indexes that there may be.
+pub const MOST_INDEXES: usize = 256;
+
+/// A new index goes last, for which there is room.
+pub fn push_index(indexes: &mut Vec<FtIndex>, index: FtIndex)
+    requires { length indexes.old.items < vec_capacity indexes.old }
+    ensures items { indexes.new.items ≡ indexes.old.items ++ index ∷ [] }
+    ensures capacity { vec_capacity indexes.old ≤ vec_capacity indexes.new }
+{
+    let Ok(()) = indexes.push(index) else {
+        unreachable!()
+    };
+}
 
 /// The index of a name.
 pub fn index_named<'a>(indexes: &'a [FtIndex], name: &[u8]) -> Option<&'a FtIndex>

@@ -5,20 +5,30 @@
 //! `exec` takes its step. Read `specs/` first, then `engine.rt`.
 #![tactic(auto)]
 
+mod changes;
 mod definitions;
 mod engine;
 mod filling;
+mod hdel;
+mod hincrby;
+mod hset;
 mod indexes;
 mod ping;
 mod plain;
+mod prepared;
 mod reads;
 mod refusals;
 mod removals;
+mod rename;
 mod search;
 mod short_reply;
+mod step;
 #[cfg(test)]
 mod tests;
+mod versions;
 mod writes;
 
-/// The state of the server, and one command executed.
+/// The state of the server, and its events.
 pub use engine::Engine;
+/// A command that is prepared.
+pub use prepared::Prepared;

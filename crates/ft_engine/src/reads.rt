@@ -8,7 +8,8 @@ ghost use Rattle.ft_base.specs.declared.doc.Doc.{Doc};
 ghost use Rattle.ft_base.specs.declared.reply.Reply.TheVariants.{Array, Line, Number};
 ghost use Rattle.ft_engine.specs.Asking.{first};
 ghost use Rattle.ft_engine.specs.Reads.{in_turn, kind_of, names, one_if, present, value_reply, values};
-ghost use Rattle.ft_engine.specs.Step.{Told, hash_in, out_of_memory};
+ghost use Rattle.ft_engine.specs.Machine.{hash_in};
+ghost use Rattle.ft_engine.specs.Step.{Told, out_of_memory};
 
 use crate::short_reply::{SHORT_REPLY, put_no_memory, put_short};
 use ft_base::{Bytes, HashRec, ListOf, NoMemory, Reply, Words, put_reply};
@@ -48,6 +49,19 @@ pub fn put_number(number: usize, out: &mut Vec<u8>)
     requires empty { out.old.items ≡ [] }
     requires room { SHORT_REPLY ≤ vec_capacity out.old }
     ensures number { out.new.items ≡ spelling (Number (pos number)) }
+    ensures room { SHORT_REPLY ≤ vec_capacity out.new }
+{
+    let mut buffer = Buffer::new();
+    put_short(out, b":");
+    put_short(out, buffer.format(number).as_bytes());
+    put_short(out, b"\r\n");
+}
+
+/// The same of a number that may be below 0.
+pub fn put_signed(number: i64, out: &mut Vec<u8>)
+    requires empty { out.old.items ≡ [] }
+    requires room { SHORT_REPLY ≤ vec_capacity out.old }
+    ensures number { out.new.items ≡ spelling (Number number) }
     ensures room { SHORT_REPLY ≤ vec_capacity out.new }
 {
     let mut buffer = Buffer::new();

@@ -1,82 +1,129 @@
-//! Removals of documents. They take no memory.
-ghost use Rattle.std.specs.Prelude.{◌≡◌, ◌≤◌, ◌+◌, ℕ, [], codes, is_some, length, vec_capacity};
+//! Removals of documents: prepared without memory but where DEL has very many keys, and made without.
+ghost use Rattle.std.specs.Prelude.{◌≡◌, ◌<◌, ◌≤◌, ◌+◌, ◌⊎◌, ℕ, List, Option, [], codes, is_some, length, vec_capacity, IfOk, IsErr, OnErr, OnOk};
 ghost use Rattle.ft_base.specs.Reply.{spelling};
-ghost use Rattle.cmd_parse.specs.Read.{Plain};
-ghost use Rattle.cmd_parse.specs.declared.command.Verb.TheVariants.{Del};
 ghost use Rattle.ft_base.specs.Space.{doc_of, erase};
+ghost use Rattle.ft_base.specs.declared.doc.Doc.{Doc};
 ghost use Rattle.ft_base.specs.declared.reply.Reply.TheVariants.{Line};
-ghost use Rattle.ft_engine.specs.Stands.{InStep, definitions_of, state_of};
-ghost use Rattle.ft_engine.specs.Step.{Does, without_keys};
+ghost use Rattle.cmd_parse.specs.Read.{Plain};
+ghost use Rattle.cmd_parse.specs.declared.command.Verb.TheVariants.{Del, Flushall};
+ghost use Rattle.ft_engine.specs.Counting.{ids_of};
+ghost use Rattle.ft_engine.specs.Machine.{State};
+ghost use Rattle.ft_engine.specs.Preparing.{IsReady, changed};
+ghost use Rattle.ft_engine.specs.Stands.{InStep, definitions_of};
+ghost use Rattle.ft_engine.specs.Step.{Does};
+ghost use Rattle.ft_engine.specs.Writes.{without_keys};
+ghost use Rattle.ft_index.specs.Index.{Index};
 
 use crate::indexes::kill_all;
+use crate::prepared::Change;
 use crate::reads::put_number;
-use crate::short_reply::{SHORT_REPLY, put_short};
-use ft_base::Words;
+use crate::short_reply::{SHORT_REPLY, put_no_memory, put_short};
+use ft_base::{NoMemory, Words};
 use ft_index::FtIndex;
 use hash_store::HashStore;
 
-/// Takes all documents and indexes out, and writes the reply.
-pub fn flush(store: &mut HashStore, indexes: &mut Vec<FtIndex>, out: &mut Vec<u8>)
+/// How many keys DEL counts without memory.
+pub const MOST_COUNTED: usize = 1_024;
+
+/// Prepares FLUSHALL, and writes the reply.
+pub fn flush<'a>(store: &HashStore, indexes: &[FtIndex], out: &mut Vec<u8>) -> Change<'a>
     requires empty { out.old.items ≡ [] }
     requires room { SHORT_REPLY ≤ vec_capacity out.old }
-    ensures reply { out.new.items ≡ spelling (Line (codes "OK")) }
-    ensures space { store.new.space ≡ [] }
-    ensures last { store.new.last ≡ store.old.last }
-    ensures indexes { indexes.new.items ≡ [] }
+    ensures does { (args : List (List ℕ)) (number : ℕ) (state : State) (waits : Option Doc)
+        → state.space ≡ store.now.space → state.definitions ≡ definitions_of indexes.now
+        → Does (Plain Flushall args) number state out.new.items (changed result waits state) }
+    ensures ready { (number : ℕ) (waits : Option Doc) (all : List Index) → all ≡ indexes.now
+        → IsReady result number store.now.space waits all }
     ensures room { SHORT_REPLY ≤ vec_capacity out.new }
 {
-    store.clear();
-    indexes.clear();
     put_short(out, b"+OK\r\n");
+    if store.len() == 0 && indexes.is_empty() {
+        return Change::Nothing;
+    }
+    Change::Flush
 }
 
-/// Does DEL, and writes the reply.
-pub fn answer_del(
-    store: &mut HashStore,
-    indexes: &mut [FtIndex],
-    keys: &Words<'_>,
+/// Prepares DEL, and writes the reply.
+pub fn del<'a>(
+    store: &HashStore,
+    ids: &mut Vec<u64>,
+    keys: &Words<'a>,
     out: &mut Vec<u8>,
-)
+) -> Change<'a>
+    requires ids { MOST_COUNTED ≤ vec_capacity ids.old }
     requires empty { out.old.items ≡ [] }
     requires room { SHORT_REPLY ≤ vec_capacity out.old }
-    ensures done { (number latest : ℕ) → Does (Plain Del keys.now) number
-        (state_of store.old indexes.old latest) out.new.items
-        (state_of store.new indexes.new latest) }
-    ensures kept { (next : ℕ) → InStep store.old indexes.old next → InStep store.new indexes.new next }
+    ensures does { (number : ℕ) (state : State) (waits : Option Doc) → state.space ≡ store.now.space
+        → Does (Plain Del keys.now) number state out.new.items (changed result waits state) }
+    ensures ready { (number : ℕ) (waits : Option Doc) (all : List Index)
+        → IsReady result number store.now.space waits all }
+    ensures ids { MOST_COUNTED ≤ vec_capacity ids.new }
     ensures room { SHORT_REPLY ≤ vec_capacity out.new }
 {
-    let removed = remove_all(store, indexes, keys);
-    put_number(removed, out);
+    let Ok(count) = count_found(store, ids, keys) else {
+        put_no_memory(out);
+        return Change::Nothing;
+    };
+    put_number(count, out);
+    if count == 0 {
+        return Change::Nothing;
+    }
+    Change::EraseKeys(keys.rest(0))
 }
 
-/// Takes the documents of the keys out, and answers how many there were.
-fn remove_all(store: &mut HashStore, indexes: &mut [FtIndex], keys: &Words<'_>) -> usize
-    ensures count { result + length store.new.space ≡ length store.old.space }
+/// How many documents the keys have, each counted once.
+fn count_found(store: &HashStore, ids: &mut Vec<u64>, keys: &Words<'_>) -> Result<usize, NoMemory>
+    requires ids { MOST_COUNTED ≤ vec_capacity ids.old }
+    ensures count { IfOk result (λ count.
+        count + length (without_keys store.now.space keys.now) ≡ length store.now.space) }
+    ensures none { IfOk result (λ count.
+        count ≡ 0 → without_keys store.now.space keys.now ≡ store.now.space) }
+    ensures many { IsErr result → MOST_COUNTED < length keys.now }
+    ensures ids { MOST_COUNTED ≤ vec_capacity ids.new }
+{
+    if store.len() == 0 {
+        return Ok(0);
+    }
+    note_ids(store, ids, keys)?;
+    ids.sort_unstable();
+    ids.dedup();
+    Ok(ids.len())
+}
+
+/// Notes the id of each key's document, as often as the key is there.
+fn note_ids(store: &HashStore, ids: &mut Vec<u64>, keys: &Words<'_>) -> Result<(), NoMemory>
+    requires ids { MOST_COUNTED ≤ vec_capacity ids.old }
+    ensures ok { OnOk result (ids.new.items ≡ ids_of store.now.space keys.now) }
+    ensures many { OnErr result (MOST_COUNTED < length keys.now) }
+    ensures ids { MOST_COUNTED ≤ vec_capacity ids.new }
+{
+    ids.clear();
+    for i in 0..keys.len() {
+        if let Some(id) = store.has(keys.word(i)) {
+            ids.push(id)?;
+        }
+    }
+    Ok(())
+}
+
+/// Takes the documents of the keys out.
+pub fn remove_all(store: &mut HashStore, indexes: &mut [FtIndex], keys: &Words<'_>)
     ensures space { store.new.space ≡ without_keys store.old.space keys.now }
     ensures kept { (next : ℕ) → InStep store.old indexes.old next → InStep store.new indexes.new next }
     ensures definitions { definitions_of indexes.new ≡ definitions_of indexes.old }
 {
-    let mut count = 0;
     for i in 0..keys.len() {
-        if remove(store, indexes, keys.word(i)) {
-            count += 1;
-        }
+        remove(store, indexes, keys.word(i));
     }
-    count
 }
 
-/// Takes a key's document out of the store and of each index, and answers whether it was there.
-fn remove(store: &mut HashStore, indexes: &mut [FtIndex], key: &[u8]) -> bool
-    ensures there { result ≡ is_some (doc_of store.old.space key.now) }
+/// Takes a key's document out of the store and of each index.
+pub fn remove(store: &mut HashStore, indexes: &mut [FtIndex], key: &[u8])
     ensures space { store.new.space ≡ erase store.old.space key.now }
     ensures kept { (next : ℕ) → InStep store.old indexes.old next → InStep store.new indexes.new next }
     ensures definitions { definitions_of indexes.new ≡ definitions_of indexes.old }
 {
-    match store.erase(key) {
-        Some(id) => {
-            kill_all(indexes, id);
-            true
-        }
-        None => false,
+    if let Some(id) = store.erase(key) {
+        kill_all(indexes, id);
     }
 }

@@ -3,10 +3,11 @@
 ghost use Rattle.std.specs.Prelude.{◌≡◌, ◌<◌, ◌≤◌, ◌+◌, ◌^◌, List, ℕ, [], ◌∷◌, ◌++◌, length, vec_capacity, IfOk, OnOk, OnErr};
 ghost use Rattle.std.specs.List.{All};
 ghost use Rattle.ft_base.specs.Reply.{spelling};
-ghost use Rattle.ft_base.specs.declared.doc.Doc.{Doc};
-ghost use Rattle.ft_engine.specs.Changes.{Searches};
+ghost use Rattle.cmd_parse.specs.Read.{SearchWord};
+ghost use Rattle.ft_engine.specs.Machine.{State};
 ghost use Rattle.ft_engine.specs.Pages.{Shows, page_reply};
 ghost use Rattle.ft_engine.specs.Stands.{definitions_of};
+ghost use Rattle.ft_engine.specs.Step.{Does};
 ghost use Rattle.ft_index.specs.Index.{Index, Indexes, IsIndex};
 ghost use Rattle.ft_index.specs.Live.{live_keys};
 ghost use Rattle.inverted_list.specs.Listing.{RisesAbove, last_id};
@@ -46,8 +47,9 @@ pub fn answer_search(
     requires sound { All (λ (index : Index). IsIndex index × (index.table.last < 2 ^ 62)) indexes.now }
     requires empty { out.old.items ≡ [] }
     requires room { SHORT_REPLY ≤ vec_capacity out.old }
-    ensures outcome { (space : List Doc) → All (λ (index : Index). Indexes index space) indexes.now
-        → Searches (definitions_of indexes.now) space name.now word.now out.new.items }
+    ensures does { (number : ℕ) (state : State) → state.definitions ≡ definitions_of indexes.now
+        → All (λ (index : Index). Indexes index state.space) indexes.now
+        → Does (SearchWord name.now word.now) number state out.new.items state }
     ensures room { SHORT_REPLY ≤ vec_capacity out.new }
 {
     let Some(index) = index_named(indexes, name) else {

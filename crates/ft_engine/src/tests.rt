@@ -1,10 +1,12 @@
 //! Against mistakes that the check would pass: a step, a table of names or a search that is defined
 //! otherwise than clients know it, a call that always finds memory wanting, conditions that nobody
 //! can meet.
-ghost use Rattle.std.specs.Prelude.{◌≡◌, ◌≤◌, ◌+◌, length, IsTrue, ◌↔◌};
-ghost use Rattle.ft_base.specs.Words.{LieIn};
+ghost use Rattle.std.specs.Prelude.{◌≡◌, ◌<◌, ◌≤◌, ◌↔◌, ◌^◌, false, length, IsTrue};
+ghost use Rattle.ft_base.specs.Words.{KeepsLimits, LieIn, words_of};
 
 mod compared;
+mod events;
+mod hashes;
 
 use crate::Engine;
 use ft_base::{NoMemory, Span, Words};
@@ -14,18 +16,23 @@ use std::test::Fail;
 /// The most bytes of a line, and the most words.
 const LINE: usize = 100;
 
-/// An engine, and the number of lines that it was asked.
+/// An engine that no event is prepared in.
 #[derive(Drop)]
 pub struct Session {
     engine: Engine,
-    asked: u32,
-    ghost few: { engine.next ≤ asked + 1 },
+    ghost free: { engine.pending ≡ false },
 }
 
 pub fn begin(alloc: Global) -> Result<Session, NoMemory> {
+    begin_at(alloc, 1)
+}
+
+pub fn begin_at(alloc: Global, first: u64) -> Result<Session, NoMemory>
+    requires least { 1 ≤ first }
+    requires most { first ≤ 2 ^ 62 }
+{
     Ok(Session {
-        engine: Engine::new(alloc)?,
-        asked: 0,
+        engine: Engine::open_at(alloc, first)?,
     })
 }
 
@@ -33,22 +40,15 @@ pub fn begin(alloc: Global) -> Result<Session, NoMemory> {
 pub fn ask(alloc: Global, session: &mut Session, line: &[u8]) -> Result<Vec<u8>, NoMemory> {
     let mut out = Vec::with_capacity(alloc, 64)?;
     let spans = spans_of(alloc, line)?;
-    if lie_in(line, spans.as_slice())
-        && line.len() <= LINE
-        && spans.len() <= LINE
-        && 0 < spans.len()
-        && session.asked < u32::MAX
-    {
-        session.asked += 1;
+    if is_small(line, spans.as_slice()) {
+        let now = session.engine.next();
         let words = Words::new(line, spans.as_slice());
-        session
-            .engine
-            .exec(u64::from(session.asked), words, &mut out);
+        session.engine.exec(now, words, &mut out);
     }
     Ok(out)
 }
 
-fn spans_of(alloc: Global, line: &[u8]) -> Result<Vec<Span>, NoMemory> {
+pub fn spans_of(alloc: Global, line: &[u8]) -> Result<Vec<Span>, NoMemory> {
     let mut spans = Vec::new(alloc);
     let mut from = 0;
     for to in 0..line.len() {
@@ -62,6 +62,24 @@ fn spans_of(alloc: Global, line: &[u8]) -> Result<Vec<Span>, NoMemory> {
         to: line.len(),
     })?;
     Ok(spans)
+}
+
+/// Whether there are words that keep the limits, with much to spare.
+pub fn is_small(line: &[u8], spans: &[Span]) -> bool
+    ensures inside { IsTrue result → LieIn line.now spans.now }
+    ensures some { IsTrue result → 0 < length spans.now }
+    ensures limits { IsTrue result → KeepsLimits (words_of line.now spans.now) }
+{
+    if !lie_in(line, spans) {
+        return false;
+    }
+    if LINE < line.len() {
+        return false;
+    }
+    if LINE < spans.len() {
+        return false;
+    }
+    0 < spans.len()
 }
 
 fn lie_in(bytes: &[u8], spans: &[Span]) -> bool
@@ -133,82 +151,6 @@ fn finds_a_document_written_three_times_once(rt: HostRuntime) -> Result<(), Fail
         ("HSET|d|t|y", ":0\r\n"),
         ("FT.SEARCH|ix|x|NOCONTENT", "*1\r\n:0\r\n"),
         ("FT.SEARCH|iy|y|NOCONTENT", "*2\r\n:1\r\n$1\r\nd\r\n"),
-    ] {
-        let reply = ask(rt.alloc(), &mut session, line.as_bytes())?;
-        assert_eq!(rt; reply.as_slice(), want.as_bytes(), "at {line}");
-    }
-    Ok(())
-}
-
-#[test]
-fn reads_hashes(rt: HostRuntime) -> Result<(), Fail> {
-    let mut session = begin(rt.alloc())?;
-    for (line, want) in [
-        ("ECHO|hi", "$2\r\nhi\r\n"),
-        ("select|0", "+OK\r\n"),
-        ("DBSIZE", ":0\r\n"),
-        ("HGETALL|h", "*0\r\n"),
-        ("HMGET|h|a|b", "*2\r\n$-1\r\n$-1\r\n"),
-        ("HSET|h|a|1", ":1\r\n"),
-        ("HSET|h|b|", ":1\r\n"),
-        ("HSET|g|a|2", ":1\r\n"),
-        ("HGET|h|a", "$1\r\n1\r\n"),
-        ("HGET|h|b", "$0\r\n\r\n"),
-        ("HGET|h|A", "$-1\r\n"),
-        ("HGET|i|a", "$-1\r\n"),
-        ("HMGET|h|b|z|a", "*3\r\n$0\r\n\r\n$-1\r\n$1\r\n1\r\n"),
-        (
-            "HGETALL|h",
-            "*4\r\n$1\r\na\r\n$1\r\n1\r\n$1\r\nb\r\n$0\r\n\r\n",
-        ),
-        ("HKEYS|h", "*2\r\n$1\r\na\r\n$1\r\nb\r\n"),
-        ("HVALS|h", "*2\r\n$1\r\n1\r\n$0\r\n\r\n"),
-        ("HKEYS|i", "*0\r\n"),
-        ("HVALS|i", "*0\r\n"),
-        ("HLEN|h", ":2\r\n"),
-        ("HLEN|i", ":0\r\n"),
-        ("HEXISTS|h|b", ":1\r\n"),
-        ("HEXISTS|h|c", ":0\r\n"),
-        ("HEXISTS|i|b", ":0\r\n"),
-        ("EXISTS|h|i|h|g", ":3\r\n"),
-        ("TYPE|h", "+hash\r\n"),
-        ("TYPE|i", "+none\r\n"),
-        ("DBSIZE", ":2\r\n"),
-    ] {
-        let reply = ask(rt.alloc(), &mut session, line.as_bytes())?;
-        assert_eq!(rt; reply.as_slice(), want.as_bytes(), "at {line}");
-    }
-    Ok(())
-}
-
-#[test]
-fn writes_hashes(rt: HostRuntime) -> Result<(), Fail> {
-    let mut session = begin(rt.alloc())?;
-    for (line, want) in [
-        ("FT.CREATE|ix|SCHEMA|t|TEXT", "+OK\r\n"),
-        ("HSETNX|h|t|hello", ":1\r\n"),
-        ("HSETNX|h|t|bye", ":0\r\n"),
-        ("HGET|h|t", "$5\r\nhello\r\n"),
-        ("FT.SEARCH|ix|hello|NOCONTENT", "*2\r\n:1\r\n$1\r\nh\r\n"),
-        ("HSET|h|t|a|u|1|t|b|v|2|v|3", ":2\r\n"),
-        (
-            "HGETALL|h",
-            "*6\r\n$1\r\nt\r\n$1\r\nb\r\n$1\r\nu\r\n$1\r\n1\r\n$1\r\nv\r\n$1\r\n3\r\n",
-        ),
-        ("FT.SEARCH|ix|hello|NOCONTENT", "*1\r\n:0\r\n"),
-        ("FT.SEARCH|ix|b|NOCONTENT", "*2\r\n:1\r\n$1\r\nh\r\n"),
-        ("HSET|g|t|b", ":1\r\n"),
-        ("DEL|h|i|h", ":1\r\n"),
-        ("FT.SEARCH|ix|b|NOCONTENT", "*2\r\n:1\r\n$1\r\ng\r\n"),
-        ("DEL|h|i", ":0\r\n"),
-        ("DBSIZE", ":1\r\n"),
-        ("HSET|h|t|b", ":1\r\n"),
-        ("DEL|h|g", ":2\r\n"),
-        ("FT.SEARCH|ix|b|NOCONTENT", "*1\r\n:0\r\n"),
-        ("HSET|h|t|b", ":1\r\n"),
-        ("FLUSHALL|async", "+OK\r\n"),
-        ("DBSIZE", ":0\r\n"),
-        ("FT.SEARCH|ix|hello|NOCONTENT", "-Unknown index name\r\n"),
     ] {
         let reply = ask(rt.alloc(), &mut session, line.as_bytes())?;
         assert_eq!(rt; reply.as_slice(), want.as_bytes(), "at {line}");

@@ -10,7 +10,7 @@ use Rattle.ft_base.specs.Words.{KeepsLimits, is_quit}
 use Rattle.fs_ports.specs.Moments.{Gives}
 use Rattle.ft_engine.specs.History.{Entry, Exec, IsLegal, replies_of, words_of, moment_of, caller_of}
 use Rattle.ft_engine.specs.Machine.{empty_state}
-use Rattle.ft_engine.specs.Stands.{Stands}
+use Rattle.ft_engine.specs.Stands.{Stands, opened}
 use Rattle.resp_wire.specs.Decoding.{Decoding, fed}
 use Rattle.resp_wire.specs.declared.fault.Stop.TheVariants.{More}
 use Rattle.resp_wire.specs.Stream.{Command, Stream, with_command, ended, goes_on, stream_of}
@@ -44,7 +44,7 @@ pub record Going (held : Decoding) (engine : Stands) (before now : Outside) : Ty
   pub writes : before.write_faults ≤ now.write_faults
 
 -- nothing was read yet
-pub begins : (held : Decoding) (now : Outside) → held.taken ≡ 0 → held.left ≡ [] → Going held (record { state = empty_state; next = 1; indexes = [] }) now now
+pub begins : (held : Decoding) (now : Outside) → held.taken ≡ 0 → held.left ≡ [] → Going held (opened 1) now now
 begins held now none empty = record {
   input = [];
   entries = [];

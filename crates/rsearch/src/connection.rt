@@ -1,10 +1,10 @@
 //! One connection: each command is executed as soon as it is whole, and its reply written before the
 //! next one is.
-ghost use Rattle.std.specs.Prelude.{◌≡◌, ◌<◌, ◌≤◌, ◌^◌, [], length, vec_capacity, IfOk, OnOk, OnErr};
+ghost use Rattle.std.specs.Prelude.{◌≡◌, ◌<◌, ◌≤◌, ◌^◌, [], false, length, vec_capacity, IfOk, OnOk, OnErr};
 ghost use Rattle.std.specs.Io.KnownBytes.{Appends, Keeps};
 ghost use Rattle.ft_base.specs.Words.{KeepsLimits, is_quit};
 ghost use Rattle.fs_ports.specs.Causes.{HasCause, WritesFront};
-ghost use Rattle.ft_engine.specs.Machine.{empty_state};
+ghost use Rattle.ft_engine.specs.Stands.{opened};
 ghost use Rattle.rsearch.specs.Answer.{Answer};
 ghost use Rattle.rsearch.specs.Ends.{Ends};
 ghost use Rattle.rsearch.specs.Session.{told};
@@ -66,7 +66,7 @@ pub fn serve_connection<L: Link, C: Clock>(alloc: Global, link: &mut L, clock: &
 
 /// Room for 64 KiB of input and of replies, and a new engine.
 fn take_room(alloc: Global) -> Result<Room, NoMemory>
-    ensures engine { IfOk result (λ r. r.engine ≡ record { state = empty_state; next = 1; indexes = [] }) }
+    ensures engine { IfOk result (λ r. r.engine ≡ opened 1) }
     ensures decoder { IfOk result (λ r. r.decoder
         ≡ record { taken = 0; left = []; words = []; spare = 65_536 }) }
     ensures input { IfOk result (λ r. length r.input.items ≡ 65_536) }
@@ -82,7 +82,7 @@ fn take_room(alloc: Global) -> Result<Room, NoMemory>
 
 /// Takes the commands one by one, and reads more where none is whole.
 fn serve<L: Link, C: Clock>(room: Room, link: &mut L, clock: &mut C) -> End
-    requires engine { room.engine ≡ record { state = empty_state; next = 1; indexes = [] } }
+    requires engine { room.engine ≡ opened 1 }
     requires decoder { room.decoder
         ≡ record { taken = 0; left = []; words = []; spare = 65_536 } }
     requires input { 0 < length room.input.items }
@@ -142,10 +142,12 @@ fn answer<L: Link, C: Clock>(
     requires limits { KeepsLimits decoder.now.words }
     requires room { 64 ≤ vec_capacity out.old }
     requires events { engine.old.next < 2 ^ 62 }
+    requires free { engine.old.pending ≡ false }
     ensures answer { Answer decoder.now.words engine.old engine.new
         (C.given clock.old) (C.given clock.new) out.new.items }
     ensures sent { OnOk result (Appends (L.written link.old) (L.written link.new) out.new.items) }
     ensures cut { OnErr result (WritesFront (L.written link.old) (L.written link.new) out.new.items) }
+    ensures free { engine.new.pending ≡ false }
     ensures room { 64 ≤ vec_capacity out.new }
     ensures left { Keeps (L.left link.old) (L.left link.new) }
     ensures cause { HasCause (L.write_faults link.old) (L.write_faults link.new) result }

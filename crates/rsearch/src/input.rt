@@ -2,6 +2,8 @@
 ghost use Rattle.std.specs.Prelude.{◌≡◌, ◌<◌, ◌≤◌, ◌+◌, ◌^◌, length, IfOk, IfErr};
 ghost use Rattle.std.specs.Io.KnownBytes.{Keeps};
 ghost use Rattle.resp_wire.specs.Decoding.{fed};
+ghost use Rattle.resp_wire.specs.Stream.{ended, stream_of};
+ghost use Rattle.resp_wire.specs.declared.fault.Stop.TheVariants.{More};
 ghost use Rattle.rsearch.specs.Reading.{AtEnd, Further, NoMore};
 
 use crate::connection::End;
@@ -22,6 +24,8 @@ pub fn read_more<L: Link>(
     requires room { 0 < length buf.old }
     requires few { total ≤ 2 ^ 40 }
     requires fed { fed decoder.old ≡ total }
+    // No command is whole, so all that came before was answered.
+    requires taken { stream_of decoder.old.left ≡ ended More decoder.old.left }
     ensures further { Further decoder.old decoder.new (L.left link.old) (L.left link.new) }
     ensures count { IfOk result (λ n. (0 < n) × (total + n ≤ 2 ^ 40)
         × (length decoder.new.left ≡ length decoder.old.left + n)) }

@@ -105,6 +105,45 @@ fn write_both(
     write(rows, key, value)
 }
 
+/// Takes a document out of both, or gives its hash to another key.
+fn remove_both(
+    alloc: Global,
+    session: &mut Session,
+    rows: &mut Vec<Row>,
+    seed: u64,
+) -> Result<(), NoMemory> {
+    let key = letter(seed, 33, b'a', 24);
+    let to = letter(seed, 38, b'a', 24);
+    let mut line = Vec::new(alloc);
+    let how = letter(seed, 43, 0, 3);
+    line.extend_from_slice(match how {
+        0 => b"DEL|".as_slice(),
+        1 => b"HDEL|".as_slice(),
+        _ => b"RENAME|".as_slice(),
+    })?;
+    line.push(key)?;
+    line.extend_from_slice(match how {
+        0 => b"|z".as_slice(),
+        1 => b"|t".as_slice(),
+        _ => b"|".as_slice(),
+    })?;
+    if how == 2 {
+        line.push(to)?;
+    }
+    ask(alloc, session, line.as_slice())?;
+    match rows.iter().position(|row| row.key == key) {
+        Some(at) if how != 2 => {
+            rows.remove(at);
+            Ok(())
+        }
+        Some(at) if key != to => {
+            let row = rows.remove(at);
+            write(rows, to, row.value)
+        }
+        _ => Ok(()),
+    }
+}
+
 /// What the engine answers to a search of one letter in an index.
 fn search(
     alloc: Global,
@@ -133,7 +172,9 @@ fn answers_as_a_filter_does(rt: HostRuntime) -> Result<(), Fail> {
         if turn == 200 {
             ask(rt.alloc(), &mut session, b"FT.CREATE|iy|SCHEMA|t|TEXT")?;
         }
-        if turn % 4 != 3 {
+        if turn % 8 == 6 {
+            remove_both(rt.alloc(), &mut session, &mut rows, seed)?;
+        } else if turn % 4 != 3 {
             write_both(rt.alloc(), &mut session, &mut rows, seed)?;
         } else {
             let word = letter(seed, 40, b'p', 6);

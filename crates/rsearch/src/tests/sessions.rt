@@ -129,6 +129,23 @@ fn hash_commands(rt: HostRuntime) -> Result<(), Fail> {
         ("DBSIZE", ":0\r\n"),
         ("FT.SEARCH|idx|1|NOCONTENT", "-Unknown index name\r\n"),
         ("FLUSHALL|now", "-ERR syntax error at word 1\r\n"),
+        ("HSET|h|a|1|b|2", ":2\r\n"),
+        ("HSET|h|b|3|c|x", ":1\r\n"),
+        (
+            "HINCRBY|h|a|9223372036854775807",
+            "-ERR increment or decrement would overflow\r\n",
+        ),
+        ("HINCRBY|h|c|1", "-ERR hash value is not an integer\r\n"),
+        ("HDEL|h|a|a|z", ":1\r\n"),
+        ("HGET|h|a", "$-1\r\n"),
+        ("HMGET|h|b|z", "*2\r\n$1\r\n3\r\n$-1\r\n"),
+        ("RENAME|h|k", "+OK\r\n"),
+        ("TYPE|h", "+none\r\n"),
+        ("TYPE|k", "+hash\r\n"),
+        ("EXISTS|k|k", ":2\r\n"),
+        ("HSET|h|a", arity),
+        ("DEL|k|h", ":1\r\n"),
+        ("DBSIZE", ":0\r\n"),
     ];
     assert_eq!(rt; are_answered(rt.alloc(), &rows)?, true);
     Ok(())
@@ -157,6 +174,80 @@ fn a_search_gives_the_first_ten(rt: HostRuntime) -> Result<(), Fail> {
         out.len(),
         5 + 11 * 4 + 4 + "*11\r\n:11\r\n".len() + keys.len()
     );
+    Ok(())
+}
+
+// Appends the words from 0 to a number, each once or with the same word behind it.
+fn put_numbers(
+    alloc: Global,
+    out: &mut Vec<u8>,
+    count: i64,
+    value: Option<&[u8]>,
+) -> Result<(), NoMemory> {
+    for number in 0..count {
+        let mut word = Vec::new(alloc);
+        put_int(&mut word, number)?;
+        put_word(out, word.as_slice())?;
+        if let Some(value) = value {
+            put_word(out, value)?;
+        }
+    }
+    Ok(())
+}
+
+// Appends an HSET of the key with so many numbered fields.
+fn put_wide(alloc: Global, out: &mut Vec<u8>, key: &[u8], fields: u16) -> Result<(), NoMemory> {
+    put_line(out, b'*', 2 + 2 * usize::from(fields))?;
+    put_word(out, b"HSET")?;
+    put_word(out, key)?;
+    put_numbers(alloc, out, i64::from(fields), Some(b"v"))
+}
+
+// Appends a command of a few words and so many numbers.
+fn put_many(alloc: Global, out: &mut Vec<u8>, words: &[&[u8]], count: u16) -> Result<(), NoMemory> {
+    put_line(out, b'*', words.len().min(9) + usize::from(count))?;
+    for word in words {
+        put_word(out, word)?;
+    }
+    put_numbers(alloc, out, i64::from(count), None)
+}
+
+// An HSET of 65,536 words, a hash of 1,000 fields, a key and a value of all bytes, and a DEL of more
+// keys than are counted without memory.
+#[test]
+fn wide_commands(rt: HostRuntime) -> Result<(), Fail> {
+    let alloc = rt.alloc();
+    let mut bytes = Vec::new(alloc);
+    for byte in 0..=255u8 {
+        bytes.push(byte)?;
+    }
+    let mut requests = Vec::new(alloc);
+    put_wide(alloc, &mut requests, b"h", 32_767)?;
+    put_many(alloc, &mut requests, &[b"HDEL", b"h", b"z"], 32_000)?;
+    put_request(&mut requests, "HLEN|h")?;
+    put_wide(alloc, &mut requests, b"g", 1_000)?;
+    put_request(&mut requests, "HGETALL|g")?;
+    put_line(&mut requests, b'*', 4)?;
+    put_word(&mut requests, b"HSET")?;
+    put_word(&mut requests, bytes.as_slice())?;
+    put_word(&mut requests, b"\r\n")?;
+    put_word(&mut requests, bytes.as_slice())?;
+    put_line(&mut requests, b'*', 3)?;
+    put_word(&mut requests, b"HGET")?;
+    put_word(&mut requests, bytes.as_slice())?;
+    put_word(&mut requests, b"\r\n")?;
+    put_many(alloc, &mut requests, &[b"DEL", b"g", b"h", b"g"], 1_500)?;
+    put_request(&mut requests, "DBSIZE")?;
+    let mut replies = Vec::new(alloc);
+    replies.extend_from_slice(b":32767\r\n:32000\r\n:767\r\n:1000\r\n*2000\r\n")?;
+    put_numbers(alloc, &mut replies, 1_000, Some(b"v"))?;
+    replies.extend_from_slice(b":1\r\n")?;
+    put_word(&mut replies, bytes.as_slice())?;
+    replies.extend_from_slice(b":2\r\n:1\r\n")?;
+    let mut out = Vec::new(alloc);
+    let exit = script(alloc, &mut out, &[requests.as_slice()], (0, 0), 100_000)?;
+    assert_eq!(rt; exit, Exit::Done);
+    assert_eq!(rt; out.as_slice(), replies.as_slice());
     Ok(())
 }
 

@@ -1,5 +1,13 @@
+use Rattle.std.proofs.Common.{◌∙◌, ap, arith, inl, refl}
+use Rattle.std.proofs.lemmas.List.{nil_from_length}
+use Rattle.ft_engine.specs.Stands.{definitions_of}
 use Rattle.ft_engine.proofs.Spellings.{ok_written}
+use Rattle.ft_engine.proofs.CountingLaws.{emptied, flushed-nothing}
 use Rattle.ft_engine.proofs.removals.flush.Goals as goal
 
-pub returns-clause-reply : goal.returns-clause-reply
-returns-clause-reply c = ok_written _ _ c.requires.empty c.put_short.ensures.text
+pub returns-then-is_empty-clause-does : goal.returns-then-is_empty-clause-does
+returns-then-is_empty-clause-does c args number state waits space definitions =
+    flushed-nothing args number state _ (space ∙ nil_from_length c.args.store.now.space (omega (arith, c.len.ensures.len, c.if-len-eq0.true))) (definitions ∙ ap definitions_of (nil_from_length c.args.indexes.now (emptied c.args.indexes.now c.is_empty.result c.is_empty.ensures c.if-is_empty.true))) (ok_written _ _ c.requires.empty c.put_short.ensures.text)
+
+pub returns-clause-does : goal.returns-clause-does
+returns-clause-does c args number state waits space definitions = inl (ok_written _ _ c.requires.empty c.put_short.ensures.text, refl)

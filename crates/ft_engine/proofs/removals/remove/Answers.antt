@@ -12,10 +12,10 @@ returns-in-Some-clause-kept c next step =
     (in_step-erased c.args.store.now c.erase.new.self c.args.key.now c.in-Some.id c.args.indexes.now next (ap (λ (s : Store). s.space) c.erase.ensures.gone) (ap (λ (s : Store). s.last) c.erase.ensures.gone)
     (sym c.in-Some.is ∙ c.erase.ensures.was) step)
 
-pub returns-in-None-clause-kept : goal.returns-in-None-clause-kept
-returns-in-None-clause-kept c next step =
+pub returns-in_default-clause-kept : goal.returns-in_default-clause-kept
+returns-in_default-clause-kept c next step =
     in_step-absent c.args.store.now c.erase.new.self c.args.key.now c.args.indexes.now next (ap (λ (s : Store). s.space) c.erase.ensures.gone) (ap (λ (s : Store). s.last) c.erase.ensures.gone)
-    (sym c.in-None.is ∙ c.erase.ensures.was) step
+    (sym c.in_default.is ∙ c.erase.ensures.was) step
 
 pub returns-in-Some-clause-definitions : goal.returns-in-Some-clause-definitions
 returns-in-Some-clause-definitions c = ap definitions_of c.kill_all.ensures ∙ definitions-killed c.in-Some.id c.args.indexes.now

@@ -1,14 +1,12 @@
-use Rattle.std.specs.Prelude.{◌≡◌, ◌≤◌, ◌+◌, ℕ, drop, length}
+use Rattle.std.specs.Prelude.{◌≡◌, ℕ, drop}
 use Rattle.ft_engine.specs.Stands.{InStep, definitions_of}
-use Rattle.ft_engine.specs.Step.{without_keys}
+use Rattle.ft_engine.specs.Writes.{without_keys}
 use Rattle.ft_engine.proofs.removals.remove_all.Given as goal
 
--- the keys so far are gone and counted
+-- the keys so far are gone
 abbrev pub invariant-loop-i : goal.invariant-loop-i
 invariant-loop-i l = record {
   left : without_keys l.store.space (drop l.i l.keys) ≡ without_keys l.initial.store.space l.keys;
-  counted : l.count + length l.store.space ≡ length l.initial.store.space;
-  few : l.count ≤ l.i;
   kept : (next : ℕ) → InStep l.initial.store l.initial.indexes next → InStep l.store l.indexes next;
   definitions : definitions_of l.indexes ≡ definitions_of l.initial.indexes;
 }

@@ -1,5 +1,6 @@
 use Rattle.std.proofs.Common.{◌≡◌, length, refl, ap, arith, rules, true, false}
 use Rattle.ft_base.specs.Words.{is_quit}
+use Rattle.ft_engine.specs.Stands.{Stands}
 use Rattle.rsearch.specs.Session.{Outside, told}
 use Rattle.rsearch.proofs.ServingLaws.{begins, goes_by, waits, reads_on, same_stream}
 use Rattle.rsearch.proofs.EndingLaws.{ends_reading, ends_long, ends_faulty, ends_text_cut, ends_reply_cut, ends_at_quit}
@@ -12,6 +13,7 @@ serving-init g c = record {
   few = omega arith;
   room = c.requires.reply;
   buffer = omega (arith, c.requires.input, ap length c.as_mut_slice-input.ensures.value);
+  free = ap (λ (e : Stands). e.pending) c.requires.engine;
 }
 
 pub returns-in_default : goal.returns-in_default
@@ -49,7 +51,11 @@ serving-preserved-else-quit g c =
       few = c.serving.invariant.few;
       room = c.answer.ensures.room;
       buffer = c.serving.invariant.buffer;
+      free = c.answer.ensures.free;
     }
+
+pub read_more-requires-clause-taken : goal.read_more-requires-clause-taken
+read_more-requires-clause-taken g c = same_stream c.serving.decoder.left c.take.new.self.left (c.in-More.ensures.more refl)
 
 pub serving-preserved : goal.serving-preserved
 serving-preserved g c =
@@ -66,6 +72,7 @@ serving-preserved g c =
       few = omega (arith, c.in-Ok-read_more.ensures.count);
       room = c.serving.invariant.room;
       buffer = search rules;
+      free = c.serving.invariant.free;
     }
 
 pub returns-in-Err : goal.returns-in-Err

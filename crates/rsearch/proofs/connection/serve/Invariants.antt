@@ -1,4 +1,4 @@
-use Rattle.std.proofs.Common.{◌≡◌, ◌<◌, ◌≤◌, ◌+◌, ◌-◌, ◌*◌, ◌^◌, length, vec_capacity}
+use Rattle.std.proofs.Common.{◌≡◌, ◌<◌, ◌≤◌, ◌+◌, ◌-◌, ◌*◌, ◌^◌, false, length, vec_capacity}
 use Rattle.resp_wire.specs.Decoding.{fed}
 use Rattle.rsearch.specs.Session.{told}
 use Rattle.rsearch.proofs.ServingLaws.{Going}
@@ -11,6 +11,7 @@ invariant-serving g l = record {
   few : l.total ≤ 2 ^ 40;
   room : 64 ≤ vec_capacity l.reply;
   buffer : 0 < length l.input;
+  free : l.engine.pending ≡ false;
 }
 
 -- what may still be read counts twice, since it is read first and taken then

@@ -1,0 +1,31 @@
+use Rattle.std.proofs.Common.{refl}
+use Rattle.cmd_parse.specs.declared.command.Verb.TheVariants.{Del, Flushall}
+use Rattle.ft_engine.specs.Stands.{state_of}
+use Rattle.ft_engine.proofs.PlainLaws.{of_verb}
+use Rattle.ft_engine.proofs.WritesLaws.{in_step-later, in_step-read}
+use Rattle.ft_engine.proofs.plain.prepare_plain.Goals as goal
+
+pub returns-in-Del-clause-does : goal.returns-in-Del-clause-does
+returns-in-Del-clause-does c latest =
+    of_verb c.args.verb Del c.args.args.now c.args.number _ _ _ c.in-Del.is (c.del.ensures.does c.args.number (state_of c.args.store.now c.args.indexes.now latest) c.args.store.now.ready refl)
+
+pub returns-in-Del-clause-kept : goal.returns-in-Del-clause-kept
+returns-in-Del-clause-kept c = in_step-later c.args.store.now c.args.indexes.now c.args.number c.requires.kept
+
+pub returns-in-Flushall-clause-does : goal.returns-in-Flushall-clause-does
+returns-in-Flushall-clause-does c latest =
+    of_verb c.args.verb Flushall c.args.args.now c.args.number _ _ _ c.in-Flushall.is (c.flush.ensures.does c.args.args.now c.args.number (state_of c.args.store.now c.args.indexes.now latest) c.args.store.now.ready refl refl)
+
+pub returns-in-Flushall-clause-kept : goal.returns-in-Flushall-clause-kept
+returns-in-Flushall-clause-kept c = in_step-later c.args.store.now c.args.indexes.now c.args.number c.requires.kept
+
+pub returns-in_default : goal.returns-in_default
+returns-in_default c = record {
+  does = λ latest. c.answer_plain.ensures.does c.args.number (state_of c.args.store.now c.args.indexes.now latest) refl;
+  space = c.answer_plain.ensures.space;
+  definitions = refl;
+  kept = in_step-read c.args.store.now c.answer_plain.new.store c.args.indexes.now c.args.number c.answer_plain.ensures.space c.answer_plain.ensures.last c.requires.kept;
+  ready = tt;
+  ids = c.requires.ids;
+  room = c.answer_plain.ensures.room;
+}

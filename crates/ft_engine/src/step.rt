@@ -1,0 +1,58 @@
+//! What a command asks is prepared: the reply is written, and what it needs is made ready.
+ghost use Rattle.std.specs.Prelude.{◌≡◌, ◌<◌, ◌≤◌, ◌+◌, ◌^◌, ℕ, [], vec_capacity};
+ghost use Rattle.cmd_parse.specs.Read.{command_of};
+ghost use Rattle.ft_engine.specs.Asking.{IsAsked};
+ghost use Rattle.ft_engine.specs.Preparing.{IsReady, changed};
+ghost use Rattle.ft_engine.specs.Stands.{InStep, definitions_of, state_of};
+ghost use Rattle.ft_engine.specs.Step.{Does};
+
+use crate::definitions::create;
+use crate::plain::prepare_plain;
+use crate::prepared::Change;
+use crate::removals::MOST_COUNTED;
+use crate::search::answer_search;
+use crate::short_reply::SHORT_REPLY;
+use cmd_parse::Command;
+use ft_index::FtIndex;
+use hash_store::HashStore;
+use std::alloc::Global;
+
+/// Prepares what is asked in an event with this number, writes the reply, and answers the change.
+pub fn prepare_command<'a>(
+    store: &mut HashStore,
+    indexes: &mut [FtIndex],
+    ids: &mut Vec<u64>,
+    alloc: Global,
+    number: u64,
+    command: &Command<'a>,
+    out: &mut Vec<u8>,
+) -> Change<'a>
+    requires kept { InStep store.old indexes.old number }
+    requires number { number < 2 ^ 62 }
+    requires ids { MOST_COUNTED ≤ vec_capacity ids.old }
+    requires asked { IsAsked (command_of command.now) }
+    requires empty { out.old.items ≡ [] }
+    requires room { SHORT_REPLY ≤ vec_capacity out.old }
+    ensures does { (latest : ℕ) → Does (command_of command.now) number
+        (state_of store.old indexes.old latest) out.new.items
+        (changed result store.new.ready (state_of store.old indexes.old latest)) }
+    ensures space { store.new.space ≡ store.old.space }
+    ensures definitions { definitions_of indexes.new ≡ definitions_of indexes.old }
+    ensures kept { InStep store.new indexes.new (number + 1) }
+    ensures ready { IsReady result number store.new.space store.new.ready indexes.new }
+    ensures ids { MOST_COUNTED ≤ vec_capacity ids.new }
+    ensures room { SHORT_REPLY ≤ vec_capacity out.new }
+{
+    match command {
+        Command::Plain { verb, args } => {
+            prepare_plain(store, indexes, ids, alloc, number, *verb, args, out)
+        }
+        Command::CreateText { index, field } => {
+            create(store, indexes, alloc, number, index, field, out)
+        }
+        Command::SearchWord { index, word } => {
+            answer_search(indexes, alloc, index, word, out);
+            Change::Nothing
+        }
+    }
+}

@@ -1,0 +1,2 @@
+pub mod Phrase
+pub mod Look

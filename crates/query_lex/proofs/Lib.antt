@@ -1,0 +1,6 @@
+mod EscapingLemmas
+mod Lexing
+mod Rising
+mod Runs
+mod SpelledLemmas
+mod Trimming

@@ -1,0 +1,15 @@
+use Rattle.std.proofs.Common.{◌≤◌, length}
+use Rattle.query_lex.specs.Reading.{with_first, run_at}
+use Rattle.query_lex.specs.Words.{next_letter}
+use Rattle.query_lex.proofs.Runs.{Reads}
+use Rattle.query_lex.proofs.word.letters.Given as goal
+
+-- what is read from here is what is read behind the first byte
+abbrev pub invariant-reading : goal.invariant-reading
+invariant-reading l = record {
+  reads : Reads next_letter l.word l.rest (with_first l.first (run_at next_letter l.bytes));
+  within : length l.rest ≤ length l.bytes;
+}
+
+abbrev pub decreases-reading : goal.decreases-reading
+decreases-reading l = length l.rest

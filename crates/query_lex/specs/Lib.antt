@@ -1,0 +1,12 @@
+pub mod Bytes
+pub mod Context
+pub mod Escaping
+pub mod Gives
+pub mod Lexemes
+pub mod Pieces
+pub mod Places
+pub mod Quotes
+pub mod Raw
+pub mod Reading
+pub mod Roles
+pub mod Words

@@ -1,0 +1,61 @@
+"""The input of bench_script: bench_input.py WORK COUNT writes the requests of one work of that size."""
+import sys
+
+DOCUMENTS = 1_000  # in the index of the works that only search
+WORDS = 1_000  # that the texts are drawn from
+
+
+def request(*words):
+    words = [str(word).encode() for word in words]
+    return b"*%d\r\n" % len(words) + b"".join(b"$%d\r\n%s\r\n" % (len(word), word) for word in words)
+
+
+def text(number):
+    """Eight words: one of every text, six drawn ones, and one of this text alone."""
+    drawn = [f"word{(number * 7_919 + place * 104_729) % WORDS}" for place in range(6)]
+    return " ".join(["every"] + drawn + [f"only{number}"])
+
+
+def create():
+    return [request("FT.CREATE", "i", "SCHEMA", "t", "TEXT")]
+
+
+def writes(count, keys):
+    return [request("HSET", f"key{number % keys}", "t", text(number)) for number in range(count)]
+
+
+def searches(count, word):
+    return [request("FT.SEARCH", "i", word, "NOCONTENT")] * count
+
+
+def fields(count):
+    return [part for number in range(count) for part in (f"field{number}", f"value{number}")]
+
+
+WORKS = {
+    "new-keys": lambda count: writes(count, count),
+    "updates": lambda count: writes(count, 100),
+    "indexed-new-keys": lambda count: create() + writes(count, count),
+    "indexed-updates": lambda count: create() + writes(count, 100),
+    "search-missing": lambda count: create() + writes(DOCUMENTS, DOCUMENTS) + searches(count, "nowhere"),
+    "search-rare": lambda count: create() + writes(DOCUMENTS, DOCUMENTS) + searches(count, "only77"),
+    "search-frequent": lambda count: create() + writes(DOCUMENTS, DOCUMENTS) + searches(count, "every"),
+    "search-large-index": lambda count: create() + writes(count, count) + searches(100, "every"),
+    "search-after-updates": lambda count: create() + writes(count, 100) + searches(100, "every"),
+    "hgetall": lambda count: [request("HSET", "h", *fields(1_000))] + [request("HGETALL", "h")] * count,
+    "wide-hsets": lambda words: [request("HSET", f"key{number}", *fields((words - 2) // 2)) for number in range(20)],
+    "wide-hdel": lambda count: [request("HSET", "h", *fields(count)), request("HDEL", "h", *fields(count)[::2])],
+    "increments": lambda count: [request("HINCRBY", "h", "n", 1)] * count,
+    "renames": lambda count: [request("HSET", "a", "t", text(1))]
+    + [request("RENAME", "a", "b"), request("RENAME", "b", "a")] * (count // 2),
+    "fields-of-one-key": lambda count: [request("HSET", "h", f"field{number}", "value") for number in range(count)],
+    "nothing": lambda count: [],
+}
+
+
+def main():
+    work, count = sys.argv[1:]
+    sys.stdout.buffer.write(b"".join(WORKS[work](int(count))))
+
+
+main()
