@@ -1,1 +1,3 @@
+mod Examples
 pub mod MeaningLaws
+pub mod MembershipLaws

@@ -9,6 +9,7 @@ use Rattle.ft_base.specs.declared.definition.FieldKind.TheVariants.{Text, Tag, N
 use Rattle.ft_base.specs.declared.definition.IndexDef.{IndexDef}
 use Rattle.ft_base.specs.declared.doc.Doc.{Doc}
 use Rattle.ft_base.specs.declared.limits.TheConstants.{MAX_WORD_BYTES}
+use Rattle.ft_meaning.specs.Member.{member}
 use Rattle.token_text.specs.Tokens.{tokens}
 use Rattle.token_text.specs.declared.token.Token.{Token}
 
@@ -44,3 +45,8 @@ holds_word def word doc = list_any (λ (field : Field). has_word word (field_tok
 -- The documents that a word finds, in order of ids. Each document is a member: no definition of today has a prefix.
 abbrev pub found : IndexDef → List ℕ → List Doc → List Doc
 found def word docs = filter (holds_word def word) docs
+
+-- The documents that a test of one document finds: the members that pass, in order of ids. Each kind of query is such
+-- a test.
+abbrev pub found_by : (IndexDef → Doc → Bool) → IndexDef → List Doc → List Doc
+found_by holds def docs = filter (λ (doc : Doc). member def doc && holds def doc) docs

@@ -1,13 +1,17 @@
 //! What a search means on one document, read from its hash alone.
 //!
 //! The functions here are slow: each reads the document's fields anew. They say what an index has
-//! to find, and tests compare the index with them.
-//! Read first `specs/Meaning.antt`, then `words.rt`.
+//! to find, and tests compare the index with them. Whether a document is in the index at all is read
+//! from its key too.
+//! Read first `specs/Member.antt` and `specs/Meaning.antt`, then `membership.rt` and `words.rt`.
 #![tactic(auto)]
 
+mod membership;
 #[cfg(test)]
 mod tests;
 mod words;
 
+/// Whether a document is in an index, and whether it fails to be.
+pub use membership::{failed, member};
 /// The words of a document's fields.
 pub use words::{field_tokens, holds_word};

@@ -1,5 +1,6 @@
 //! Against mistakes that the check would pass: a definition that finds other words than RediSearch
-//! does, a call that always finds memory wanting, a condition that no caller can meet.
+//! does or has other members, a call that always finds memory wanting, a condition that no caller can
+//! meet.
 ghost use Rattle.std.specs.Prelude.{◌≡◌, IsTrue};
 ghost use Rattle.ft_meaning.specs.Meaning.{ValuesFit};
 
@@ -7,6 +8,8 @@ use crate::{field_tokens, holds_word};
 use ft_base::{Bytes, Doc, Field, FieldKind, HashRec, IndexDef, ListOf, NoMemory, StopWords};
 use std::alloc::Global;
 use std::test::Fail;
+
+mod members;
 
 fn field(
     alloc: Global,
@@ -47,12 +50,16 @@ fn three_fields(alloc: Global) -> Result<IndexDef, NoMemory> {
 }
 
 fn doc(alloc: Global, values: &[(&str, &str)]) -> Result<Doc, NoMemory> {
+    keyed(alloc, "book:1", values)
+}
+
+fn keyed(alloc: Global, key: &str, values: &[(&str, &str)]) -> Result<Doc, NoMemory> {
     let mut hash = HashRec::new(alloc);
     for (name, value) in values {
         let value = Bytes::from_slice(alloc, value.as_bytes())?;
         hash.set(name.as_bytes(), value)?;
     }
-    let key = Bytes::from_slice(alloc, b"book:1")?;
+    let key = Bytes::from_slice(alloc, key.as_bytes())?;
     Ok(Doc { id: 5, key, hash })
 }
 
