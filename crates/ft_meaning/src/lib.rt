@@ -1,8 +1,7 @@
-//! What a search means on one document, read from its hash alone.
+//! What a search means on one document, read from its key and hash alone.
 //!
 //! The functions here are slow: each reads the document's fields anew. They say what an index has
-//! to find, and tests compare the index with them. Whether a document is in the index at all is read
-//! from its key too.
+//! to find, and tests compare the index with them.
 //! Read first `specs/Member.antt` and `specs/Meaning.antt`, then `membership.rt` and `words.rt`.
 #![tactic(auto)]
 
