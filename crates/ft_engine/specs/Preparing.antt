@@ -1,5 +1,5 @@
 -- What a command that is prepared changes once it is committed.
-use Rattle.std.specs.Prelude.{◌≡◌, ◌≢◌, ◌<◌, ◌+◌, ◌⊎◌, ℕ, List, [], ◌∷◌, ◌++◌, length, Option, Some, None, is_some, Bool, true, false, IsTrue}
+use Rattle.std.specs.Prelude.{◌≡◌, ◌≢◌, ◌<◌, ◌≤◌, ◌+◌, ◌⊎◌, ℕ, List, [], ◌∷◌, ◌++◌, length, Option, Some, None, is_some, Bool, true, false, IsTrue}
 use Rattle.std.specs.List.{All}
 use Rattle.ft_base.specs.Space.{doc_of, erase, write}
 use Rattle.ft_base.specs.declared.doc.Doc.{Doc}
@@ -62,7 +62,7 @@ abbrev pub Waits : ℕ → ℕ → List Doc → List Index → Option Doc → Ty
 Waits put number space indexes None = ⊥
 Waits put number space indexes (Some doc) = IsWaiting put number space indexes doc
 
--- a key that some document has, and that is not the key of the document that waits
+-- a key that is not that of the document that waits
 abbrev pub IsOther : List ℕ → Option Doc → Type 0
 IsOther from None = ⊥
 IsOther from (Some doc) = from ≢ doc.key
@@ -78,9 +78,11 @@ IsReady (Create index) number space waits indexes =
     (length indexes < most_indexes) × IndexStands space (number + 1) (markers_at (number + 1)) index
 IsReady Flush number space waits indexes = (0 < length space) ⊎ (0 < length indexes)
 
--- A prepared command is the engine's last one.
+-- A prepared command fits the engine, as the one does that it prepared last: what it changes is ready, and its moment is no
+-- earlier than the latest one.
 pub record IsLast (ahead : Ahead) (engine : Stands) : Type 0 where
   pub pending : engine.pending ≡ true
+  pub later : engine.state.latest ≤ ahead.latest
   pub before : IsTrue (is_change ahead.change) → engine.next < last_number
   pub documents : AreWritten engine.state.space engine.next
   pub ready : IsReady ahead.change engine.next engine.state.space engine.waits engine.indexes

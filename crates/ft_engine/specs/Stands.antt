@@ -26,7 +26,7 @@ pub record Stands : Type 0 where
 abbrev pub opened : ℕ → Stands
 opened first = record { state = empty_state; next = first; indexes = []; waits = None; pending = false }
 
--- the least number that no document and no marker has, of an event that is prepared or not yet
+-- a number above those of all documents and markers: that of the next event, or the one behind an event that is prepared
 abbrev pub unused : Bool → ℕ → ℕ
 unused true next = next_number next
 unused false next = next

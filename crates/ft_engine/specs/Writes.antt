@@ -29,7 +29,7 @@ abbrev pub hset_unless : Bool → List (List ℕ) → ℕ → State → Outcome
 hset_unless true args number state = answered (Number (pos 0)) state
 hset_unless false args number state = hset args number state
 
--- a hash without fields
+-- a hash without these fields
 abbrev pub without_fields : Hash → List (List ℕ) → Hash
 without_fields hash fields = filter (λ (field : List ℕ × List ℕ). not (list_any (bytes_eq field.0) fields)) hash
 

@@ -9,10 +9,10 @@ ghost use Rattle.query_lex.specs.Quotes.{quoted_escape_at, next_quoted, quoted_a
 use crate::fault::{Cause, Stop};
 use crate::lexeme::LexKind;
 use crate::separators::past;
-use token_text::is_separator;
 use crate::text_byte::{TextByte, escaped, plain};
 use ft_base::{Bytes, NoMemory};
 use std::alloc::Global;
+use token_text::is_separator;
 
 /// The bytes of an open quote behind the next one and what it escapes; none where the quote or the
 /// text ends.

@@ -15,6 +15,10 @@ mod std_link;
 #[cfg(test)]
 mod tests;
 
+ghost use Rattle.std.specs.Prelude.{◌≡◌};
+ghost use Rattle.std.specs.Process.{exit_status};
+ghost use Rattle.rsearch.specs.Status.{status_of};
+
 use exit::Exit;
 use run::run;
 use std::env;
@@ -47,7 +51,9 @@ fn main(rt: HostRuntime) -> ExitCode {
 }
 
 /// The status of the process, behind the usage line where the words are of no form.
-fn end(rt: &HostRuntime, exit: Exit) -> ExitCode {
+fn end(rt: &HostRuntime, exit: Exit) -> ExitCode
+    ensures { exit_status result ≡ status_of exit }
+{
     if exit == Exit::Usage {
         let _ = eprintln!(rt; "usage: rsearch script | load SEED DOCS | serve PORT WORKERS");
     }
