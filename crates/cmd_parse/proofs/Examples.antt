@@ -3,9 +3,9 @@ use Rattle.std.proofs.Common.{◌≡◌, ℕ, List, [], ◌∷◌, Ok, Err, Some
 use Rattle.std.specs.Prelude.{codes}
 use Rattle.std.proofs.lemmas.Fmt.{decimal_digit}
 use Rattle.ft_base.specs.Number.{int_of}
-use Rattle.cmd_parse.specs.Read.{Plain, CreateText, SearchWord, read}
+use Rattle.cmd_parse.specs.Read.{Plain, SearchWord, read}
 use Rattle.cmd_parse.specs.declared.command.CmdFault.TheVariants.{Arity, BadDb, NotBuilt, NotInteger, Syntax, Unknown}
-use Rattle.cmd_parse.specs.declared.command.Verb.TheVariants.{Flushall, Hget, Hset, Hvals, Select}
+use Rattle.cmd_parse.specs.declared.command.Verb.TheVariants.{DropIndex, Flushall, Hget, Hset, Hvals, Select}
 
 -- the words of the examples
 abbrev key : List ℕ
@@ -18,54 +18,61 @@ abbrev value : List ℕ
 value = codes "v"
 
 -- a name in small letters, and arguments without it
-small_letters : read (codes "hget" ∷ key ∷ field ∷ []) ≡ Ok (Plain Hget (key ∷ field ∷ []))
+small_letters : read 0 (codes "hget" ∷ key ∷ field ∷ []) ≡ Ok (Plain Hget (key ∷ field ∷ []))
 small_letters = refl
 
 -- and in mixed ones
-mixed_letters : read (codes "HVals" ∷ key ∷ []) ≡ Ok (Plain Hvals (key ∷ []))
+mixed_letters : read 0 (codes "HVals" ∷ key ∷ []) ≡ Ok (Plain Hvals (key ∷ []))
 mixed_letters = refl
 
 -- no command has this name
-no_name : read (codes "NOPE" ∷ []) ≡ Err Unknown
+no_name : read 0 (codes "NOPE" ∷ []) ≡ Err Unknown
 no_name = refl
 
 -- a name with one more byte is none
-longer_name : read (codes "HGETS" ∷ key ∷ field ∷ []) ≡ Err Unknown
+longer_name : read 0 (codes "HGETS" ∷ key ∷ field ∷ []) ≡ Err Unknown
 longer_name = refl
 
 -- HSET of one field
-one_pair : read (codes "HSET" ∷ key ∷ field ∷ value ∷ []) ≡ Ok (Plain Hset (key ∷ field ∷ value ∷ []))
+one_pair : read 0 (codes "HSET" ∷ key ∷ field ∷ value ∷ []) ≡ Ok (Plain Hset (key ∷ field ∷ value ∷ []))
 one_pair = refl
 
 -- HSET of a field without its value
-half_a_pair : read (codes "HSET" ∷ key ∷ field ∷ value ∷ codes "g" ∷ []) ≡ Err Arity
+half_a_pair : read 0 (codes "HSET" ∷ key ∷ field ∷ value ∷ codes "g" ∷ []) ≡ Err Arity
 half_a_pair = refl
 
 -- DBSIZE stands alone
-surplus_word : read (codes "DBSIZE" ∷ key ∷ []) ≡ Err Arity
+surplus_word : read 0 (codes "DBSIZE" ∷ key ∷ []) ≡ Err Arity
 surplus_word = refl
 
 -- a command that is not built is not counted
-not_built : read (codes "FT._LIST" ∷ key ∷ []) ≡ Err NotBuilt
+not_built : read 0 (codes "FT.INFO" ∷ key ∷ []) ≡ Err NotBuilt
 not_built = refl
 
 -- FLUSHALL with a word that it may have, and with another
-flush_later : read (codes "FLUSHALL" ∷ codes "async" ∷ []) ≡ Ok (Plain Flushall (codes "async" ∷ []))
+flush_later : read 0 (codes "FLUSHALL" ∷ codes "async" ∷ []) ≡ Ok (Plain Flushall (codes "async" ∷ []))
 flush_later = refl
 
-flush_how : read (codes "FLUSHALL" ∷ codes "now" ∷ []) ≡ Err (Syntax 1)
+flush_how : read 0 (codes "FLUSHALL" ∷ codes "now" ∷ []) ≡ Err (Syntax 1)
 flush_how = refl
 
--- FT.CREATE of one TEXT field
-new_index : read (codes "ft.create" ∷ codes "ix" ∷ codes "schema" ∷ field ∷ codes "text" ∷ []) ≡ Ok (CreateText (codes "ix") field)
-new_index = refl
+-- FT.CREATE of four words has no field
+no_field : read 0 (codes "ft.create" ∷ codes "ix" ∷ codes "schema" ∷ field ∷ []) ≡ Err Arity
+no_field = refl
+
+-- FT.DROPINDEX with the word that it may have, and with another
+drop_documents : read 0 (codes "ft.dropindex" ∷ codes "ix" ∷ codes "dd" ∷ []) ≡ Ok (Plain DropIndex (codes "ix" ∷ codes "dd" ∷ []))
+drop_documents = refl
+
+drop_how : read 0 (codes "FT.DROPINDEX" ∷ codes "ix" ∷ codes "KEEPDOCS" ∷ []) ≡ Err (Syntax 2)
+drop_how = refl
 
 -- a word that is looked for stays as it came
-capital_query : read (codes "FT.SEARCH" ∷ codes "ix" ∷ codes "World" ∷ codes "nocontent" ∷ []) ≡ Ok (SearchWord (codes "ix") (codes "World"))
+capital_query : read 0 (codes "FT.SEARCH" ∷ codes "ix" ∷ codes "World" ∷ codes "nocontent" ∷ []) ≡ Ok (SearchWord (codes "ix") (codes "World"))
 capital_query = refl
 
 -- a query of two words
-query_of_two : read (codes "FT.SEARCH" ∷ codes "ix" ∷ codes "hello-world" ∷ codes "NOCONTENT" ∷ []) ≡ Err NotBuilt
+query_of_two : read 0 (codes "FT.SEARCH" ∷ codes "ix" ∷ codes "hello-world" ∷ codes "NOCONTENT" ∷ []) ≡ Err NotBuilt
 query_of_two = refl
 
 -- the numbers of the examples
@@ -82,12 +89,12 @@ unfolding int_of
 plus_5 = rw (decimal_digit 5 (lit< tt)) refl
 
 -- SELECT of the one data base, and of another
-select_0 : read (codes "SELECT" ∷ codes "0" ∷ []) ≡ Ok (Plain Select (codes "0" ∷ []))
+select_0 : read 0 (codes "SELECT" ∷ codes "0" ∷ []) ≡ Ok (Plain Select (codes "0" ∷ []))
 select_0 = rw digit_0 refl
 
-select_1 : read (codes "SELECT" ∷ codes "1" ∷ []) ≡ Err BadDb
+select_1 : read 0 (codes "SELECT" ∷ codes "1" ∷ []) ≡ Err BadDb
 select_1 = rw digit_1 refl
 
 -- an increment with a plus sign
-lax_increment : read (codes "HINCRBY" ∷ key ∷ field ∷ codes "+5" ∷ []) ≡ Err NotInteger
+lax_increment : read 0 (codes "HINCRBY" ∷ key ∷ field ∷ codes "+5" ∷ []) ≡ Err NotInteger
 lax_increment = rw plus_5 refl

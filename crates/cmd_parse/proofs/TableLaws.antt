@@ -3,7 +3,8 @@ use Rattle.std.proofs.Common.{◌≡◌, ℕ, List, [], ◌∷◌, true, false, 
 use Rattle.std.specs.List.{find}
 use Rattle.std.specs.Prelude.{if◌then◌else◌}
 use Rattle.cmd_parse.specs.declared.table.Form.{Form}
-use Rattle.cmd_parse.specs.Commands.{commands, form_in, form_of, is_name}
+use Rattle.cmd_parse.specs.Commands.{commands, form_in, form_of}
+use Rattle.ft_base.specs.Names.{is_name}
 use Rattle.cmd_parse.specs.Lawful.{IsLawfulForm}
 
 -- a row of the code's table, whose name is lent

@@ -1,14 +1,10 @@
 -- The commands that have a name here (Redis and RediSearch), and their lawful numbers of words.
-use Rattle.std.specs.Prelude.{ℕ, List, [], ◌∷◌, Bool, Option, codes, option_map}
+use Rattle.std.specs.Prelude.{ℕ, List, [], ◌∷◌, Option, codes, option_map}
 use Rattle.std.specs.List.{find}
-use Rattle.std.specs.Str.{str_eq_ignore_ascii_case}
-use Rattle.cmd_parse.specs.declared.command.Verb.TheVariants.{Ping, Echo, Select, Quit, Hset, Hsetnx, Hget, Hmget, Hgetall, Hdel, Hlen, Hexists, Hincrby, Hkeys, Hvals, Del, Exists, TypeOf, Dbsize, Rename, Flushall}
+use Rattle.ft_base.specs.Names.{is_name}
+use Rattle.cmd_parse.specs.declared.command.Verb.TheVariants.{Ping, Echo, Select, Quit, Hset, Hsetnx, Hget, Hmget, Hgetall, Hdel, Hlen, Hexists, Hincrby, Hkeys, Hvals, Del, Exists, TypeOf, Dbsize, Rename, Flushall, DropIndex, ListIndexes, TagVals}
 use Rattle.cmd_parse.specs.declared.table.Form.{Form}
-use Rattle.cmd_parse.specs.declared.table.Form.TheVariants.{Between, AtLeast, InPairs, Create, Search, Unbuilt}
-
--- whether a word is this name, in any case
-abbrev pub is_name : List ℕ → List ℕ → Bool
-is_name word name = str_eq_ignore_ascii_case word name
+use Rattle.cmd_parse.specs.declared.table.Form.TheVariants.{Between, AtLeast, InPairs, Create, Alter, Search, Unbuilt}
 
 -- The table of commands. The numbers are numbers of words, the name among them; in pairs only even ones are lawful.
 abbrev pub commands : List (List ℕ × Form)
@@ -35,11 +31,11 @@ commands =
     ∷ (codes "RENAME", Between Rename 3 3)
     ∷ (codes "FLUSHALL", Between Flushall 1 2)
     ∷ (codes "FT.CREATE", Create)
-    ∷ (codes "FT.ALTER", Unbuilt)
-    ∷ (codes "FT.DROPINDEX", Unbuilt)
-    ∷ (codes "FT._LIST", Unbuilt)
+    ∷ (codes "FT.ALTER", Alter)
+    ∷ (codes "FT.DROPINDEX", Between DropIndex 2 3)
+    ∷ (codes "FT._LIST", Between ListIndexes 1 1)
     ∷ (codes "FT.INFO", Unbuilt)
-    ∷ (codes "FT.TAGVALS", Unbuilt)
+    ∷ (codes "FT.TAGVALS", Between TagVals 3 3)
     ∷ (codes "FT.SEARCH", Search)
     ∷ (codes "FT.AGGREGATE", Unbuilt)
     ∷ (codes "FT.CURSOR", Unbuilt)

@@ -1,11 +1,12 @@
 -- What a caller may rely on of a plain command's arguments.
 use Rattle.std.specs.Prelude.{◌≡◌, ◌+◌, ◌%◌, ◌≤◌, ℕ, List, [], length, drop, slice_index_or, IsSome, IsTrue}
 use Rattle.ft_base.specs.Number.{int_of}
-use Rattle.cmd_parse.specs.Read.{Asked, Plain, CreateText, SearchWord, is_one_word}
+use Rattle.ft_schema.specs.Lawful.{IsLawful as AreLawful}
+use Rattle.cmd_parse.specs.Read.{Asked, Plain, CreateIndex, AlterIndex, SearchWord, is_one_word}
 use Rattle.cmd_parse.specs.declared.command.Verb.{Verb}
-use Rattle.cmd_parse.specs.declared.command.Verb.TheVariants.{Ping, Echo, Select, Quit, Hset, Hsetnx, Hget, Hmget, Hgetall, Hdel, Hlen, Hexists, Hincrby, Hkeys, Hvals, Del, Exists, TypeOf, Dbsize, Rename, Flushall}
+use Rattle.cmd_parse.specs.declared.command.Verb.TheVariants.{Ping, Echo, Select, Quit, Hset, Hsetnx, Hget, Hmget, Hgetall, Hdel, Hlen, Hexists, Hincrby, Hkeys, Hvals, Del, Exists, TypeOf, Dbsize, Rename, Flushall, DropIndex, ListIndexes, TagVals}
 use Rattle.cmd_parse.specs.declared.table.Form.{Form}
-use Rattle.cmd_parse.specs.declared.table.Form.TheVariants.{Between, AtLeast, InPairs, Create, Search, Unbuilt}
+use Rattle.cmd_parse.specs.declared.table.Form.TheVariants.{Between, AtLeast, InPairs, Create, Alter, Search, Unbuilt}
 
 -- how many arguments a verb has
 abbrev pub LawfulNumber : Verb → ℕ → Type 0
@@ -31,6 +32,9 @@ LawfulNumber TypeOf n = n ≡ 1
 LawfulNumber Dbsize n = n ≡ 0
 LawfulNumber Rename n = n ≡ 2
 LawfulNumber Flushall n = n ≤ 1
+LawfulNumber DropIndex n = (1 ≤ n) × (n ≤ 2)
+LawfulNumber ListIndexes n = n ≡ 0
+LawfulNumber TagVals n = n ≡ 2
 
 -- a row of the table lets through lawful numbers of arguments alone, which are the words but the name
 abbrev pub IsLawfulForm : Form → Type 0
@@ -38,6 +42,7 @@ IsLawfulForm (Between verb least most) = (n : ℕ) → least ≤ n + 1 → n + 1
 IsLawfulForm (AtLeast verb least) = (n : ℕ) → least ≤ n + 1 → LawfulNumber verb n
 IsLawfulForm (InPairs verb least) = (n : ℕ) → least ≤ n + 1 → (n + 1) % 2 ≡ 0 → LawfulNumber verb n
 IsLawfulForm Create = Unit {0}
+IsLawfulForm Alter = Unit {0}
 IsLawfulForm Search = Unit {0}
 IsLawfulForm Unbuilt = Unit {0}
 
@@ -51,9 +56,11 @@ pub record Lawful (verb : Verb) (args : List (List ℕ)) : Type 0 where
   pub number : LawfulNumber verb (length args)
   pub increment : HasNumber verb args
 
--- What is asked is made of these words: a plain command's arguments are lawful, and a word that is looked for is one word.
+-- What is asked is made of these words: a plain command's arguments are lawful, the fields of a schema keep its limits, and
+-- a word that is looked for is one word.
 abbrev pub IsLawful : List (List ℕ) → Asked → Type 0
 IsLawful words (Plain verb args) = (args ≡ drop 1 words) × Lawful verb args
-IsLawful words (CreateText index field) = (index ≡ slice_index_or words 1 []) × (field ≡ slice_index_or words 3 [])
+IsLawful words (CreateIndex index) = AreLawful index.fields
+IsLawful words (AlterIndex index fields) = (index ≡ slice_index_or words 1 []) × AreLawful fields
 IsLawful words (SearchWord index word) =
     (index ≡ slice_index_or words 1 []) × (word ≡ slice_index_or words 2 []) × IsTrue (is_one_word word)

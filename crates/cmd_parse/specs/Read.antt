@@ -1,29 +1,39 @@
 -- What a command asks, in the order of refusals: an unknown name, a form that is not built, a wrong number of words,
--- and the first fault of the words from the left.
-use Rattle.std.specs.Prelude.{ℕ, ℤ, pos, suc, List, [], ◌∷◌, length, Bool, Option, Some, None, Result, Ok, Err, codes, not, is_none, ◌&&◌, ◌||◌, ◌==◌, ◌%◌, nat_le, nat_lt, if◌then◌else◌}
+-- and the first fault of the words from the left. An index that is created has a serial, which is not among the words.
+use Rattle.std.specs.Prelude.{◌≡◌, ℕ, ℤ, pos, suc, List, [], ◌∷◌, length, Bool, Option, Some, None, Result, Ok, Err, codes, not, is_none, ◌&&◌, ◌||◌, ◌==◌, ◌%◌, nat_le, nat_lt, slice_index_or, false, IsTrue, if◌then◌else◌}
 use Rattle.std.specs.List.{list_all}
 use Rattle.std.specs.Ordering.{int_eq}
+use Rattle.ft_base.specs.Names.{is_name}
 use Rattle.ft_base.specs.Number.{int_of}
+use Rattle.ft_base.specs.declared.definition.Field.{Field}
+use Rattle.ft_base.specs.declared.definition.IndexDef.{IndexDef}
+use Rattle.ft_schema.specs.Schema.{alter, create}
+use Rattle.ft_schema.specs.declared.fault.SchemaFault.{SchemaFault}
 use Rattle.token_text.specs.Tokens.{is_separator}
-use Rattle.cmd_parse.specs.Commands.{form_of, is_name}
+use Rattle.cmd_parse.specs.Commands.{form_of}
 use Rattle.cmd_parse.specs.declared.command.Verb.{Verb}
-use Rattle.cmd_parse.specs.declared.command.Verb.TheVariants.{Select, Hincrby, Flushall}
+use Rattle.cmd_parse.specs.declared.command.Verb.TheVariants.{Select, Hincrby, Flushall, DropIndex}
 use Rattle.cmd_parse.specs.declared.command.CmdFault.{CmdFault}
-use Rattle.cmd_parse.specs.declared.command.CmdFault.TheVariants.{Unknown, Arity, Syntax, NotInteger, BadDb, NotBuilt}
+use Rattle.cmd_parse.specs.declared.command.CmdFault.TheVariants.{Unknown, Arity, Syntax, NotInteger, BadDb, NotBuilt, Schema, NoMemory}
 use Rattle.cmd_parse.specs.declared.command.Command.{Command}
 use Rattle.cmd_parse.specs.declared.command.Command.TheVariants as command
 use Rattle.cmd_parse.specs.declared.table.Form.{Form}
-use Rattle.cmd_parse.specs.declared.table.Form.TheVariants.{Between, AtLeast, InPairs, Create, Search, Unbuilt}
+use Rattle.cmd_parse.specs.declared.table.Form.TheVariants.{Between, AtLeast, InPairs, Create, Alter, Search, Unbuilt}
 
 -- What a command asks. A plain command has the words behind its name as arguments.
 pub data Asked : Type 0 where
   Plain : (verb : Verb) → (args : List (List ℕ)) → Asked
-  CreateText : (index field : List ℕ) → Asked
+  CreateIndex : (index : IndexDef) → Asked
+  AlterIndex : (index : List ℕ) → (fields : List Field) → Asked
   SearchWord : (index word : List ℕ) → Asked
 
 -- whether a word may stand behind FLUSHALL
 abbrev pub is_flush_word : List ℕ → Bool
 is_flush_word word = is_name word (codes "ASYNC") || is_name word (codes "SYNC")
+
+-- the word behind FT.DROPINDEX and its index
+abbrev pub is_drop_word : List ℕ → Bool
+is_drop_word word = is_name word (codes "DD")
 
 -- the only data base is 0
 abbrev pub select_fault : Option ℤ → Option CmdFault
@@ -35,6 +45,7 @@ abbrev pub first_fault : Verb → List (List ℕ) → Option CmdFault
 first_fault Select (index ∷ _) = select_fault (int_of index)
 first_fault Hincrby (_ ∷ _ ∷ increment ∷ _) = if is_none (int_of increment) then Some NotInteger else None
 first_fault Flushall (how ∷ _) = if is_flush_word how then None else Some (Syntax 1)
+first_fault DropIndex (_ ∷ how ∷ _) = if is_drop_word how then None else Some (Syntax 2)
 first_fault _ _ = None
 
 -- the fault where there is one
@@ -46,11 +57,14 @@ plain_or (Some fault) verb args = Err fault
 abbrev pub plain : Verb → List (List ℕ) → Result Asked CmdFault
 plain verb args = plain_or (first_fault verb args) verb args
 
--- FT.CREATE name SCHEMA field TEXT
-abbrev pub create_text : List (List ℕ) → Result Asked CmdFault
-create_text (index ∷ schema ∷ field ∷ kind ∷ []) =
-    if is_name schema (codes "SCHEMA") && is_name kind (codes "TEXT") then Ok (CreateText index field) else Err NotBuilt
-create_text _ = Err NotBuilt
+-- FT.CREATE and FT.ALTER ask what the words of a schema say, or have its fault.
+abbrev pub created : Result IndexDef SchemaFault → Result Asked CmdFault
+created (Ok index) = Ok (CreateIndex index)
+created (Err fault) = Err (Schema fault)
+
+abbrev pub altered : List ℕ → Result (List Field) SchemaFault → Result Asked CmdFault
+altered index (Ok fields) = Ok (AlterIndex index fields)
+altered index (Err fault) = Err (Schema fault)
 
 -- whether a query is one word: bytes of words alone, and at least one
 abbrev pub is_one_word : List ℕ → Bool
@@ -62,29 +76,49 @@ search_word (index ∷ query ∷ option ∷ []) =
     if is_name option (codes "NOCONTENT") && is_one_word query then Ok (SearchWord index query) else Err NotBuilt
 search_word _ = Err NotBuilt
 
--- a command of this form with this number of words
-abbrev pub read_as : Option Form → ℕ → List (List ℕ) → Result Asked CmdFault
-read_as None count args = Err Unknown
-read_as (Some (Between verb least most)) count args =
-    if nat_le least count && nat_le count most then plain verb args else Err Arity
-read_as (Some (AtLeast verb least)) count args = if nat_le least count then plain verb args else Err Arity
-read_as (Some (InPairs verb least)) count args =
-    if nat_le least count && (count % 2 == 0) then plain verb args else Err Arity
-read_as (Some Create) count args = create_text args
-read_as (Some Search) count args = search_word args
-read_as (Some Unbuilt) count args = Err NotBuilt
+-- a command of this form, whose words are its name and arguments
+abbrev pub read_as : Option Form → ℕ → List ℕ → List (List ℕ) → Result Asked CmdFault
+read_as None serial name args = Err Unknown
+read_as (Some (Between verb least most)) serial name args =
+    if nat_le least (suc (length args)) && nat_le (suc (length args)) most then plain verb args else Err Arity
+read_as (Some (AtLeast verb least)) serial name args = if nat_le least (suc (length args)) then plain verb args else Err Arity
+read_as (Some (InPairs verb least)) serial name args =
+    if nat_le least (suc (length args)) && (suc (length args) % 2 == 0) then plain verb args else Err Arity
+read_as (Some Create) serial name args = if nat_le 5 (suc (length args)) then created (create (name ∷ args) serial) else Err Arity
+read_as (Some Alter) serial name args =
+    if nat_le 6 (suc (length args)) then altered (slice_index_or args 0 []) (alter (name ∷ args)) else Err Arity
+read_as (Some Search) serial name args = search_word args
+read_as (Some Unbuilt) serial name args = Err NotBuilt
 
--- what the words of a command ask
-abbrev pub read : List (List ℕ) → Result Asked CmdFault
-read [] = Err Unknown
-read (name ∷ args) = read_as (form_of name) (suc (length args)) args
+-- What the words of a command ask, where an index that it creates has this serial.
+abbrev pub read : ℕ → List (List ℕ) → Result Asked CmdFault
+read serial [] = Err Unknown
+read serial (name ∷ args) = read_as (form_of name) serial name args
+
+-- whether words are read with memory: those of a schema are
+abbrev pub reads_schema : Option Form → ℕ → Bool
+reads_schema (Some Create) count = nat_le 5 count
+reads_schema (Some Alter) count = nat_le 6 count
+reads_schema form count = false
+
+abbrev pub takes_memory : List (List ℕ) → Bool
+takes_memory [] = false
+takes_memory (name ∷ args) = reads_schema (form_of name) (suc (length args))
 
 -- what the code's command is among these
 abbrev pub command_of : Command → Asked
 command_of (command.Plain verb args) = Plain verb args
-command_of (command.CreateText index field) = CreateText index.now field.now
+command_of (command.Create index) = CreateIndex index
+command_of (command.Alter index fields) = AlterIndex index.now fields
 command_of (command.SearchWord index word) = SearchWord index.now word.now
 
+-- A command or a fault is what the words ask. Memory is wanting where they are read with it alone.
+abbrev pub IsReading : ℕ → List (List ℕ) → Result Command CmdFault → Type 0
+IsReading serial words (Ok command) = read serial words ≡ Ok (command_of command)
+IsReading serial words (Err NoMemory) = IsTrue (takes_memory words)
+IsReading serial words (Err fault) = read serial words ≡ Err fault
+
+-- what a reader without memory answers, as what is asked
 abbrev pub asked_of : Result Command CmdFault → Result Asked CmdFault
 asked_of (Ok command) = Ok (command_of command)
 asked_of (Err fault) = Err fault

@@ -1,8 +1,13 @@
 //! What a command asks, and the faults of its words.
-use ft_base::Words;
+ghost use Rattle.std.specs.Prelude.{◌≡◌};
+ghost use Rattle.cmd_parse.specs.declared.command.CmdFault.TheVariants as fault;
+
+use ft_base::{Boxed, Field, IndexDef, ListOf, NoMemory, Words};
+use ft_schema::SchemaFault;
 use thiserror::Error;
 
-/// A command of hashes, of keys or of the connection. `TypeOf` is TYPE.
+/// A command of the connection, of hashes, of keys or of indexes. `TypeOf` is TYPE; the last three are
+/// FT.DROPINDEX, FT._LIST and FT.TAGVALS.
 #[derive(Clone, Copy, Debug, PartialEq, Eq)]
 pub enum Verb {
     Ping,
@@ -26,17 +31,31 @@ pub enum Verb {
     Dbsize,
     Rename,
     Flushall,
+    DropIndex,
+    ListIndexes,
+    TagVals,
 }
 
 /// What a command asks.
 #[derive(Drop)]
 pub enum Command<'a> {
     /// The arguments are the words behind the command's name.
-    Plain { verb: Verb, args: Words<'a> },
-    /// An index of one TEXT field.
-    CreateText { index: &'a [u8], field: &'a [u8] },
+    Plain {
+        verb: Verb,
+        args: Words<'a>,
+    },
+    /// An index that is created.
+    Create(Boxed<IndexDef>),
+    /// Fields that an index gets.
+    Alter {
+        index: &'a [u8],
+        fields: ListOf<Field>,
+    },
     /// The documents of an index that hold a word, which is as it came, in any case.
-    SearchWord { index: &'a [u8], word: &'a [u8] },
+    SearchWord {
+        index: &'a [u8],
+        word: &'a [u8],
+    },
 }
 
 /// Why the words ask nothing.
@@ -55,4 +74,17 @@ pub enum CmdFault {
     BadDb,
     #[error("this form of the command is not built")]
     NotBuilt,
+    /// The words of a schema have a fault.
+    #[error("{0}")]
+    Schema(SchemaFault),
+    #[error("out of memory")]
+    NoMemory,
+}
+
+impl From<NoMemory> for CmdFault {
+    ghost from_gives = { λ _ made. made ≡ fault.NoMemory };
+
+    fn from(_: NoMemory) -> CmdFault {
+        CmdFault::NoMemory
+    }
 }

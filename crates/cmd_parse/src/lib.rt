@@ -1,8 +1,8 @@
 //! What a command asks, from its words alone.
 //!
 //! One table names every command with its lawful numbers of words. Where the name and the number
-//! are right the words are judged from the left, and the first fault is answered. Nothing here takes
-//! memory: what is read is lent from the words.
+//! are right the words are judged from the left, and the first fault is answered. Only the
+//! words of a schema are read with memory; all else is lent from the words.
 //! Read first `specs/Commands.antt`, which has the table, then `specs/Read.antt` and `read.rt`.
 #![tactic(auto)]
 

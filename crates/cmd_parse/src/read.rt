@@ -1,21 +1,32 @@
 //! A command from its words, in the order of refusals: an unknown name, a form that is not built,
 //! a wrong number of words, and the first fault of the words from the left.
-ghost use Rattle.std.specs.Prelude.{◌≡◌, ◌<◌, ◌+◌, length, drop, not, IfOk};
+ghost use Rattle.std.specs.Prelude.{◌≡◌, ◌≢◌, ◌<◌, ◌≤◌, ◌+◌, [], length, drop, not, slice_index_or, Err, Ok, IfOk, MatchResult};
 ghost use Rattle.std.specs.List.{list_all};
 ghost use Rattle.cmd_parse.specs.Lawful.{IsLawful, LawfulNumber};
-ghost use Rattle.cmd_parse.specs.Read.{asked_of, command_of, create_text, first_fault, is_flush_word, is_one_word, plain, read, search_word, select_fault};
+ghost use Rattle.cmd_parse.specs.Read.{IsReading, altered, asked_of, command_of, created, first_fault, is_flush_word, is_one_word, plain, search_word, select_fault};
+ghost use Rattle.cmd_parse.specs.declared.command.CmdFault.TheVariants.{NoMemory};
 ghost use Rattle.ft_base.specs.Number.{int_of};
+ghost use Rattle.ft_base.specs.declared.limits.TheConstants.{MAX_WORDS};
+ghost use Rattle.ft_schema.specs.Schema.{alter, create};
 ghost use Rattle.token_text.specs.Tokens.{is_separator};
 
 use crate::command::{CmdFault, Command, Verb};
-use crate::table::{Form, form_of, is_name};
-use ft_base::{Words, read_int};
+use crate::table::{Form, form_of};
+use ft_base::{Boxed, Words, is_name, read_int};
+use ft_schema::{SchemaFault, read_alter, read_create};
+use std::alloc::Global;
 use token_text::is_separator;
 
-/// Reads a command. It takes no memory, and copies no word.
-pub fn read_command<'a>(words: Words<'a>) -> Result<Command<'a>, CmdFault>
-    requires { 0 < length words }
-    ensures exact { asked_of result ≡ read words.entry }
+/// Reads a command, without copying a word. An index that it creates gets the serial. Only the words of
+/// a schema are read with memory.
+pub fn read_command<'a>(
+    alloc: Global,
+    words: Words<'a>,
+    serial: u64,
+) -> Result<Command<'a>, CmdFault>
+    requires some { 0 < length words }
+    requires limit { length words ≤ MAX_WORDS }
+    ensures exact { IsReading serial words.entry result }
     ensures lawful { IfOk result (λ command. IsLawful words.entry (command_of command)) }
 {
     let Some(form) = form_of(words.word(0)) else {
@@ -26,10 +37,11 @@ pub fn read_command<'a>(words: Words<'a>) -> Result<Command<'a>, CmdFault>
         Form::Between(verb, least, most) if least <= count && count <= most => plain(verb, &words),
         Form::AtLeast(verb, least) if least <= count => plain(verb, &words),
         Form::InPairs(verb, least) if least <= count && count % 2 == 0 => plain(verb, &words),
-        Form::Between(..) | Form::AtLeast(..) | Form::InPairs(..) => Err(CmdFault::Arity),
-        Form::Create => create_text(&words),
+        Form::Create if 5 <= count => create(alloc, &words, serial),
+        Form::Alter if 6 <= count => alter(alloc, &words),
         Form::Search => search_word(&words),
         Form::Unbuilt => Err(CmdFault::NotBuilt),
+        _ => Err(CmdFault::Arity),
     }
 }
 
@@ -38,6 +50,7 @@ fn plain<'a>(verb: Verb, words: &Words<'a>) -> Result<Command<'a>, CmdFault>
     requires some { 0 < length words.now }
     requires number { LawfulNumber verb (length (drop 1 words.now)) }
     ensures exact { asked_of result ≡ plain verb (drop 1 words.now) }
+    ensures memory { result ≢ Err NoMemory }
     ensures lawful { IfOk result (λ command. IsLawful words.now (command_of command)) }
 {
     let args = words.rest(1);
@@ -57,6 +70,9 @@ fn first_fault(verb: Verb, args: &Words<'_>) -> Option<CmdFault>
         Verb::Hincrby if read_int(args.word(2)).is_none() => Some(CmdFault::NotInteger),
         Verb::Flushall if args.len() == 1 && !is_flush_word(args.word(0)) => {
             Some(CmdFault::Syntax { at: 1 })
+        }
+        Verb::DropIndex if args.len() == 2 && !is_name(args.word(1), b"DD") => {
+            Some(CmdFault::Syntax { at: 2 })
         }
         _ => None,
     }
@@ -80,25 +96,46 @@ fn is_flush_word(word: &[u8]) -> bool
     is_name(word, b"ASYNC") || is_name(word, b"SYNC")
 }
 
-/// FT.CREATE, of which one TEXT field without options is built.
-fn create_text<'a>(words: &Words<'a>) -> Result<Command<'a>, CmdFault>
-    requires { 0 < length words.now }
-    ensures exact { asked_of result ≡ create_text (drop 1 words.now) }
+/// FT.CREATE.
+fn create<'a>(alloc: Global, words: &Words<'a>, serial: u64) -> Result<Command<'a>, CmdFault>
+    requires number { 5 ≤ length words.now }
+    requires limit { length words.now ≤ MAX_WORDS }
+    ensures exact { MatchResult result
+        (λ command. created (create words.now serial) ≡ Ok (command_of command))
+        (λ fault. fault ≢ NoMemory → created (create words.now serial) ≡ Err fault) }
     ensures lawful { IfOk result (λ command. IsLawful words.now (command_of command)) }
 {
-    if words.len() == 5 && is_name(words.word(2), b"SCHEMA") && is_name(words.word(4), b"TEXT") {
-        return Ok(Command::CreateText {
-            index: words.word(1),
-            field: words.word(3),
-        });
+    match read_create(alloc, words.rest(0), serial) {
+        Ok(index) => Ok(Command::Create(Boxed::new(alloc, index)?)),
+        Err(SchemaFault::NoMemory) => Err(CmdFault::NoMemory),
+        Err(fault) => Err(CmdFault::Schema(fault)),
     }
-    Err(CmdFault::NotBuilt)
+}
+
+/// FT.ALTER.
+fn alter<'a>(alloc: Global, words: &Words<'a>) -> Result<Command<'a>, CmdFault>
+    requires number { 6 ≤ length words.now }
+    requires limit { length words.now ≤ MAX_WORDS }
+    ensures exact { MatchResult result
+        (λ command. altered (slice_index_or words.now 1 []) (alter words.now) ≡ Ok (command_of command))
+        (λ fault. fault ≢ NoMemory → altered (slice_index_or words.now 1 []) (alter words.now) ≡ Err fault) }
+    ensures lawful { IfOk result (λ command. IsLawful words.now (command_of command)) }
+{
+    match read_alter(alloc, words.rest(0)) {
+        Ok(fields) => Ok(Command::Alter {
+            index: words.word(1),
+            fields,
+        }),
+        Err(SchemaFault::NoMemory) => Err(CmdFault::NoMemory),
+        Err(fault) => Err(CmdFault::Schema(fault)),
+    }
 }
 
 /// FT.SEARCH, of which one word with NOCONTENT is built.
 fn search_word<'a>(words: &Words<'a>) -> Result<Command<'a>, CmdFault>
     requires { 0 < length words.now }
     ensures exact { asked_of result ≡ search_word (drop 1 words.now) }
+    ensures memory { result ≢ Err NoMemory }
     ensures lawful { IfOk result (λ command. IsLawful words.now (command_of command)) }
 {
     if words.len() == 4 && is_name(words.word(3), b"NOCONTENT") && is_one_word(words.word(2)) {

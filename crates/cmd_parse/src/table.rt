@@ -1,9 +1,10 @@
 //! The table of commands: every name, and what stands for it.
 ghost use Rattle.std.specs.Prelude.{◌≡◌, IfSome, map};
-ghost use Rattle.cmd_parse.specs.Commands.{form_in, form_of, is_name};
+ghost use Rattle.cmd_parse.specs.Commands.{form_in, form_of};
 ghost use Rattle.cmd_parse.specs.Lawful.{IsLawfulForm};
 
 use crate::command::Verb;
+use ft_base::is_name;
 
 /// How a command is read. The numbers are numbers of words, the command's name among them.
 #[derive(Clone, Copy)]
@@ -16,6 +17,8 @@ pub enum Form {
     InPairs(Verb, usize),
     /// FT.CREATE.
     Create,
+    /// FT.ALTER.
+    Alter,
     /// FT.SEARCH.
     Search,
     /// A command that is not built.
@@ -50,11 +53,11 @@ pub fn form_of(name: &[u8]) -> Option<Form>
         (b"RENAME", Form::Between(Verb::Rename, 3, 3)),
         (b"FLUSHALL", Form::Between(Verb::Flushall, 1, 2)),
         (b"FT.CREATE", Form::Create),
-        (b"FT.ALTER", Form::Unbuilt),
-        (b"FT.DROPINDEX", Form::Unbuilt),
-        (b"FT._LIST", Form::Unbuilt),
+        (b"FT.ALTER", Form::Alter),
+        (b"FT.DROPINDEX", Form::Between(Verb::DropIndex, 2, 3)),
+        (b"FT._LIST", Form::Between(Verb::ListIndexes, 1, 1)),
         (b"FT.INFO", Form::Unbuilt),
-        (b"FT.TAGVALS", Form::Unbuilt),
+        (b"FT.TAGVALS", Form::Between(Verb::TagVals, 3, 3)),
         (b"FT.SEARCH", Form::Search),
         (b"FT.AGGREGATE", Form::Unbuilt),
         (b"FT.CURSOR", Form::Unbuilt),
@@ -73,11 +76,4 @@ fn find(word: &[u8], rows: &[(&[u8], Form)]) -> Option<Form>
         }
     }
     None
-}
-
-/// Whether a word is this name, in any case.
-pub fn is_name(word: &[u8], name: &[u8]) -> bool
-    ensures { result ≡ is_name word.now name.now }
-{
-    word.eq_ignore_ascii_case(name)
 }

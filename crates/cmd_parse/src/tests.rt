@@ -1,20 +1,23 @@
 //! Against mistakes that the check would pass: a table that says something else than Redis does of a
-//! name or a number of words, and conditions that nobody can meet.
+//! name or a number of words, a call that always finds memory wanting, conditions that nobody can meet.
 ghost use Rattle.std.specs.Prelude.{◌↔◌, IsTrue};
 ghost use Rattle.ft_base.specs.Words.{LieIn};
 
 use crate::{Command, read_command};
-use ft_base::{NoMemory, Span, Words};
+use ft_base::{Field, IndexDef, MAX_WORDS, NoMemory, Span, Words};
 use std::alloc::Global;
 use std::test::Fail;
+
+const SERIAL: u64 = 7;
 
 /// What a line asks, whose words have one `|` between each two.
 fn asked(alloc: Global, line: &str) -> Result<String, NoMemory> {
     let spans = spans_of(alloc, line.as_bytes())?;
-    if spans.is_empty() || !lie_in(line.as_bytes(), spans.as_slice()) {
+    let spans = spans.as_slice();
+    if !lie_in(line.as_bytes(), spans) || spans.is_empty() || MAX_WORDS < spans.len() {
         return Ok(String::new(alloc));
     }
-    match read_command(Words::new(line.as_bytes(), spans.as_slice())) {
+    match read_command(alloc, Words::new(line.as_bytes(), spans), SERIAL) {
         Ok(command) => shown(alloc, &command),
         Err(fault) => format!(in alloc; "{fault:?}"),
     }
@@ -29,10 +32,11 @@ fn shown(alloc: Global, command: &Command<'_>) -> Result<String, NoMemory> {
                 put(&mut out, args.word(i))?;
             }
         }
-        Command::CreateText { index, field } => {
-            out.push_str("create")?;
+        Command::Create(index) => put_index(alloc, &mut out, index.get())?,
+        Command::Alter { index, fields } => {
+            out.push_str("alter")?;
             put(&mut out, index)?;
-            put(&mut out, field)?;
+            put_aliases(&mut out, fields.as_slice())?;
         }
         Command::SearchWord { index, word } => {
             out.push_str("search")?;
@@ -43,9 +47,35 @@ fn shown(alloc: Global, command: &Command<'_>) -> Result<String, NoMemory> {
     Ok(out)
 }
 
+// The name, the serial, each prefix behind a `^`, the number of fields, and their aliases.
+fn put_index(alloc: Global, out: &mut String, index: &IndexDef) -> Result<(), NoMemory> {
+    let serial = index.serial;
+    let count = index.fields.len();
+    out.push_str("create")?;
+    put(out, index.name.as_slice())?;
+    put(out, format!(in alloc; "{serial}")?.as_bytes())?;
+    for prefix in index.prefixes.as_slice() {
+        put(out, b"^")?;
+        out.push_str(text_of(prefix.as_slice()))?;
+    }
+    put(out, format!(in alloc; "{count}")?.as_bytes())?;
+    put_aliases(out, index.fields.as_slice())
+}
+
+fn put_aliases(out: &mut String, fields: &[Field]) -> Result<(), NoMemory> {
+    for field in fields {
+        put(out, field.alias.as_slice())?;
+    }
+    Ok(())
+}
+
 fn put(out: &mut String, word: &[u8]) -> Result<(), NoMemory> {
     out.push('|')?;
-    out.push_str(std::str::from_utf8(word).unwrap_or("?"))
+    out.push_str(text_of(word))
+}
+
+fn text_of(bytes: &[u8]) -> &str {
+    std::str::from_utf8(bytes).unwrap_or("?")
 }
 
 fn spans_of(alloc: Global, line: &[u8]) -> Result<Vec<Span>, NoMemory> {
@@ -97,6 +127,8 @@ fn takes_lawful_numbers_of_words(rt: HostRuntime) -> Result<(), Fail> {
         ("TYPE", "TypeOf", "-+----"),
         ("DbSize", "Dbsize", "+-----"),
         ("RENAME", "Rename", "--+---"),
+        ("ft._list", "ListIndexes", "+-----"),
+        ("FT.TAGVALS", "TagVals", "--+---"),
     ] {
         let mut line = format!(in rt.alloc(); "{name}")?;
         let mut want = format!(in rt.alloc(); "{verb}")?;
@@ -152,14 +184,50 @@ fn finds_the_first_fault(rt: HostRuntime) -> Result<(), Fail> {
         ("FLUSHALL|now", "Syntax { at: 1 }"),
         ("FLUSHALL|", "Syntax { at: 1 }"),
         ("FLUSHALL|now|x", "Arity"),
-        // Commands of indexes.
-        ("FT.CREATE|ix|SCHEMA|t|TEXT", "create|ix|t"),
-        ("ft.create|IX|schema|T|Text", "create|IX|T"),
-        ("FT.CREATE", "NotBuilt"),
-        ("FT.CREATE|ix|SCHEMA|t", "NotBuilt"),
-        ("FT.CREATE|ix|ON|t|TEXT", "NotBuilt"),
-        ("FT.CREATE|ix|SCHEMA|t|TAG", "NotBuilt"),
-        ("FT.CREATE|ix|SCHEMA|t|TEXT|SORTABLE", "NotBuilt"),
+    ] {
+        let asked = asked(rt.alloc(), line)?;
+        assert_eq!(rt; asked.as_str(), want, "at {line}");
+    }
+    Ok(())
+}
+
+#[test]
+fn reads_commands_of_indexes(rt: HostRuntime) -> Result<(), Fail> {
+    for (line, want) in [
+        // FT.CREATE.
+        ("FT.CREATE|ix|SCHEMA|t|TEXT", "create|ix|7|1|t"),
+        ("ft.create|IX|schema|T|Text", "create|IX|7|1|T"),
+        ("FT.CREATE|ix|SCHEMA|t|AS|u|TAG", "create|ix|7|1|u"),
+        (
+            "FT.CREATE|ix|PREFIX|1|a:|SCHEMA|t|TEXT|n|NUMERIC",
+            "create|ix|7|^a:|2|t|n",
+        ),
+        ("FT.CREATE", "Arity"),
+        ("FT.CREATE|ix|SCHEMA|t", "Arity"),
+        ("FT.CREATE|ix|ON|t|TEXT", "Schema(OutOfScope { at: 3 })"),
+        ("FT.CREATE|ix|SCHEMA|t|WORDS", "Schema(BadKind { at: 4 })"),
+        (
+            "FT.CREATE|ix|SCHEMA|t|TEXT|t|TAG",
+            "Schema(DuplicateField { at: 5 })",
+        ),
+        // FT.ALTER.
+        ("FT.ALTER|ix|SCHEMA|ADD|u|TAG", "alter|ix|u"),
+        ("ft.alter|IX|schema|add|u|tag|n|Numeric", "alter|IX|u|n"),
+        ("FT.ALTER", "Arity"),
+        ("FT.ALTER|ix|SCHEMA|ADD|u", "Arity"),
+        (
+            "FT.ALTER|ix|SCHEMA|PUT|u|TAG",
+            "Schema(BadOption { at: 3 })",
+        ),
+        // FT.DROPINDEX and FT.TAGVALS.
+        ("FT.DROPINDEX|ix", "DropIndex|ix"),
+        ("FT.DROPINDEX|ix|DD", "DropIndex|ix|DD"),
+        ("ft.dropindex|ix|dd", "DropIndex|ix|dd"),
+        ("FT.DROPINDEX|ix|KEEPDOCS", "Syntax { at: 2 }"),
+        ("FT.DROPINDEX", "Arity"),
+        ("FT.DROPINDEX|ix|DD|DD", "Arity"),
+        ("FT.TAGVALS|ix|g", "TagVals|ix|g"),
+        // FT.SEARCH.
         ("FT.SEARCH|ix|World|NOCONTENT", "search|ix|World"),
         (
             "ft.search|ix|caf\u{e9}_1|nocontent",
@@ -170,11 +238,9 @@ fn finds_the_first_fault(rt: HostRuntime) -> Result<(), Fail> {
         ("FT.SEARCH|ix|hello-world|NOCONTENT", "NotBuilt"),
         ("FT.SEARCH|ix|hello|VERBATIM", "NotBuilt"),
         ("FT.SEARCH|ix|hello|NOCONTENT|VERBATIM", "NotBuilt"),
-        ("ft.alter", "NotBuilt"),
-        ("FT.DROPINDEX", "NotBuilt"),
-        ("ft._list|x|y", "NotBuilt"),
+        // What is not built is not counted.
+        ("FT.INFO", "NotBuilt"),
         ("FT.INFO|ix", "NotBuilt"),
-        ("FT.TAGVALS", "NotBuilt"),
         ("FT.AGGREGATE|ix", "NotBuilt"),
         ("FT.CURSOR", "NotBuilt"),
         ("FT.DEBUG", "NotBuilt"),

@@ -1,8 +1,11 @@
 pub mod Fields
 pub mod Hash
+pub mod Kinds
 pub mod Lending
+pub mod Names
 pub mod Number
 pub mod Reply
 pub mod Space
+pub mod Weight
 pub mod Words
 pub mod formers

@@ -6,19 +6,25 @@
 //! Read `bytes.rt` and `words.rt` first, then `specs/Hash.antt` and `specs/Reply.antt`.
 #![tactic(auto)]
 
+mod boxed;
 mod bytes;
 mod definition;
 mod doc;
 mod hash_rec;
 mod limits;
 mod list_of;
+mod names;
 mod number;
+mod query;
 mod reply;
 mod steps;
 #[cfg(test)]
 mod tests;
+mod weight;
 mod words;
 
+/// One value in memory of its own.
+pub use boxed::Boxed;
 /// Bytes of any value.
 pub use bytes::Bytes;
 /// What an index is defined by.
@@ -31,13 +37,19 @@ pub use hash_rec::HashRec;
 pub use limits::{MAX_COMMAND_BYTES, MAX_WORD_BYTES, MAX_WORDS};
 /// A list that a syntax tree or a reply may hold of its own type.
 pub use list_of::ListOf;
+/// Names of commands and options, in any case.
+pub use names::is_name;
 /// Whole numbers in their one decimal spelling.
 pub use number::{put_int, read_int};
+/// What a search asks of a document.
+pub use query::{Fields, Param, Query, TagPart};
 /// What a command is answered, and how it is spelled on the wire.
 pub use reply::{Reply, put_reply};
 /// A count of steps that only contracts see.
 pub use steps::Steps;
 /// Want of memory, the one answer that nothing else in a contract explains.
 pub use std::alloc::AllocError as NoMemory;
+/// Weights, which have no effect.
+pub use weight::is_weight;
 /// The words of a command, lent or held.
 pub use words::{Frame, Span, Words};

@@ -1,14 +1,16 @@
 -- What is asked by words that keep the limits, and how long a command's name is.
-use Rattle.std.proofs.Common.{◌≡◌, ◌≤◌, ℕ, suc, List, [], ◌∷◌, length, map, true, Option, Some, None, Err, inl, inr, sym, ap, ◌∙◌, subst, arith, rules}
+use Rattle.std.proofs.Common.{◌≡◌, ◌≤◌, ℕ, List, [], ◌∷◌, length, map, true, Option, Some, None, Err, inl, inr, sym, ap, ◌∙◌, subst, arith, rules}
 use Rattle.std.specs.Prelude.{IfSome, drop, slice_index_or}
 use Rattle.std.specs.Char.{to_ascii_lowercase}
 use Rattle.std.proofs.lemmas.Bool.{cases_Bool}
 use Rattle.std.proofs.lemmas.List.{length-map}
 use Rattle.std.proofs.lemmas.Slice.Eq.{bytes_eq-Decides}
 use Rattle.std.proofs.lemmas.List.Elements.{All-tail}
-use Rattle.cmd_parse.specs.Commands.{commands, form_of, form_in, is_name}
+use Rattle.cmd_parse.specs.Commands.{commands, form_of, form_in}
+use Rattle.ft_base.specs.Names.{is_name}
 use Rattle.cmd_parse.specs.Lawful.{IsLawful}
-use Rattle.cmd_parse.specs.Read.{Asked, Plain, CreateText, SearchWord, read, read_as}
+use Rattle.cmd_parse.specs.Read.{Asked, Plain, CreateIndex, AlterIndex, SearchWord, IsReading, read, read_as}
+use Rattle.cmd_parse.specs.declared.command.CmdFault.{CmdFault}
 use Rattle.cmd_parse.specs.declared.command.CmdFault.TheVariants.{Arity}
 use Rattle.cmd_parse.specs.declared.table.Form.{Form}
 use Rattle.ft_base.specs.declared.limits.TheConstants.{MAX_WORD_BYTES}
@@ -21,7 +23,8 @@ args-words (name ∷ args) each = All-tail (λ word. length word ≤ MAX_WORD_BY
 -- what lawful words ask that keep the limits
 pub lawful-asked : (words : List (List ℕ)) (asked : Asked) → AreWords words → IsLawful words asked → IsAsked asked
 lawful-asked words (Plain verb args) each lawful = (lawful.1, subst AreWords (sym lawful.0) (args-words words each))
-lawful-asked words (CreateText index field) each lawful = tt
+lawful-asked words (CreateIndex index) each lawful = lawful
+lawful-asked words (AlterIndex index fields) each lawful = lawful.1
 lawful-asked words (SearchWord index word) each lawful = tt
 
 abbrev EachShort : List (List ℕ × Form) → Type 0
@@ -45,11 +48,16 @@ named-short word (row ∷ rows) each = elim (cases_Bool (is_name word row.0)) [
   | inr n ↦ rw n (named-short word rows each.1)
 ]
 
-short-arity : (name : List ℕ) (count : ℕ) (args : List (List ℕ)) (form : Option Form) → IfSome form (λ form. length name ≤ 12) → read_as form count args ≡ Err Arity → length name ≤ 12
-short-arity name count args None short wrong = cc
-short-arity name count args (Some form) short wrong = short
+short-arity : (name : List ℕ) (serial : ℕ) (args : List (List ℕ)) (form : Option Form) → IfSome form (λ form. length name ≤ 12) → read_as form serial name args ≡ Err Arity → length name ≤ 12
+short-arity name serial args None short wrong = cc
+short-arity name serial args (Some form) short wrong = short
 
 -- the name of a command whose number of words is wrong
-pub arity-short : (words : List (List ℕ)) → read words ≡ Err Arity → length (slice_index_or words 0 []) ≤ 12
-arity-short [] wrong = cc
-arity-short (name ∷ args) wrong = short-arity name (suc (length args)) args (form_of name) (named-short name commands each_short) wrong
+pub arity-short : (words : List (List ℕ)) (serial : ℕ) → read serial words ≡ Err Arity → length (slice_index_or words 0 []) ≤ 12
+arity-short [] serial wrong = cc
+arity-short (name ∷ args) serial wrong = short-arity name serial args (form_of name) (named-short name commands each_short) wrong
+
+pub refused-short : (words : List (List ℕ)) (serial : ℕ) (fault : CmdFault) → IsReading serial words (Err fault) → fault ≡ Arity → length (slice_index_or words 0 []) ≤ 12
+refused-short words serial fault reads is =
+    let wrong : IsReading serial words (Err Arity) = subst (λ (f : CmdFault). IsReading serial words (Err f)) is reads in
+    arity-short words serial wrong

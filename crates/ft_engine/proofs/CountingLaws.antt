@@ -22,14 +22,14 @@ use Rattle.cmd_parse.specs.Read.{Plain}
 use Rattle.cmd_parse.specs.declared.command.Verb.TheVariants.{Del, Flushall}
 use Rattle.ft_base.specs.Reply.{spelling}
 use Rattle.ft_base.specs.Space.{doc_of, erase}
-use Rattle.ft_base.specs.declared.definition.IndexDef.{IndexDef}
 use Rattle.ft_base.specs.declared.doc.Doc.{Doc}
 use Rattle.ft_base.specs.declared.reply.Reply.TheVariants.{Line, Number}
+use Rattle.indexed_store.specs.Definitions.{Defined}
 use Rattle.ft_engine.specs.Counting.{before, ids_of}
 use Rattle.ft_engine.specs.Machine.{State}
 use Rattle.ft_engine.specs.Step.{Does}
-use Rattle.ft_engine.specs.Writes.{without_keys}
-use Rattle.ft_engine.proofs.WritesLaws.{id_of}
+use Rattle.indexed_store.specs.Removing.{without_keys}
+use Rattle.indexed_store.proofs.StepLaws.{id_of}
 
 before-append : (doc : Option Doc) (front back : List ℕ) → before doc (front ++ back) ≡ before doc front ++ back
 before-append None front back = refl
@@ -269,4 +269,4 @@ emptied xs said is so = elim (eqb_tells (length xs) 0) [ inl same ↦ same.1 | i
 -- FLUSHALL of nothing
 pub flushed-nothing : (args : List (List ℕ)) (number : ℕ) (state : State) (written : List ℕ) → state.space ≡ [] → state.definitions ≡ [] → written ≡ spelling (Line (codes "OK")) → Does (Plain Flushall args) number state written state
 flushed-nothing args number state written none nothing said =
-    inl (said, ap (λ (docs : List Doc). record { space = docs; definitions = state.definitions; latest = state.latest }) none ∙ ap (λ (defs : List IndexDef). record { space = []; definitions = defs; latest = state.latest }) nothing)
+    inl (said, ap (λ (docs : List Doc). record { space = docs; definitions = state.definitions; latest = state.latest }) none ∙ ap (λ (defs : List Defined). record { space = []; definitions = defs; latest = state.latest }) nothing)

@@ -1,10 +1,8 @@
 pub mod AskedLaws
 pub mod CountingLaws
-pub mod Creating
 pub mod Examples
-pub mod FillingLaws
 pub mod HistoryLaws
-pub mod IndexingLaws
+pub mod IndexCommandLaws
 pub mod PlainLaws
 pub mod PreparingLaws
 pub mod ReadingLaws

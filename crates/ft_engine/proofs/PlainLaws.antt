@@ -6,9 +6,9 @@ use Rattle.std.specs.Fmt.{signed_decimal}
 use Rattle.std.specs.Str.Parse.{signed_digits_value}
 use Rattle.std.proofs.lemmas.Bool.{and_parts, cases_Bool}
 use Rattle.std.proofs.lemmas.Int.{to_z-of_z}
-use Rattle.ft_base.specs.Hash.{get_field}
+use Rattle.ft_base.specs.Hash.{Hash, get_field}
 use Rattle.ft_base.specs.Number.{int_of, is_i64, is_spelling}
-use Rattle.ft_base.specs.Space.{doc_of, erase, write}
+use Rattle.ft_base.specs.Space.{doc_of, erase}
 use Rattle.ft_base.proofs.Ints.{fits_from_test}
 use Rattle.ft_engine.specs.Asking.{first, second, third}
 use Rattle.cmd_parse.specs.Read.{Plain}
@@ -19,9 +19,10 @@ use Rattle.ft_base.specs.declared.doc.Doc.{Doc}
 use Rattle.ft_base.specs.declared.reply.Reply.{Reply}
 use Rattle.ft_base.specs.declared.reply.Reply.TheVariants.{Fault, Line}
 use Rattle.ft_engine.specs.Machine.{Outcome, State, answered, hash_in, hash_of}
-use Rattle.ft_engine.specs.Preparing.{written}
+use Rattle.indexed_store.specs.Definitions.{all_tried}
+use Rattle.indexed_store.specs.Writing.{written}
 use Rattle.ft_engine.specs.Step.{Does, plain}
-use Rattle.ft_engine.specs.Writes.{hincrby, hset_unless, number_in, rename}
+use Rattle.ft_engine.specs.Writes.{hincrby, hset_unless, number_in, put, rename}
 use Rattle.ft_engine.proofs.Stepping.{stays}
 
 -- a command of this verb that changes nothing
@@ -108,32 +109,35 @@ renamed-same args number state written there same said = stays (Plain Rename arg
     by_doc None there = cc (there)
     by_doc (Some doc) there = rw same refl
 
--- RENAME onto another key
-pub renamed : (args : List (List ℕ)) (number : ℕ) (state new : State) (written : List ℕ) → is_some (doc_of state.space (first args)) ≡ true → bytes_eq (first args) (second args) ≡ false → written ≡ spelling (Line (codes "OK"))
-    → new ≡ record state { space = erase (write state.space (second args) (hash_of state (first args)) number) (first args) } → Does (Plain Rename args) number state written new
-renamed args number state new written there apart said is = by_doc (doc_of state.space (first args)) refl there
-  where
-    step : (doc : Doc) → doc_of state.space (first args) ≡ Some doc
-        → rename (Some doc) (first args) (second args) number state ≡ record { reply = Line (codes "OK"); after = record state { space = erase (write state.space (second args) doc.hash number) (first args) } }
-    step doc found = rw apart refl
+-- the state once a hash is put under another key, and the first is gone
+abbrev pub moved_to : State → List ℕ → Hash → ℕ → List ℕ → State
+moved_to state to hash number from = record (put to hash number state) { space = erase (put to hash number state).space from }
 
-    by_doc : (doc : Option Doc) → doc_of state.space (first args) ≡ doc → is_some doc ≡ true → Does (Plain Rename args) number state written new
+-- RENAME onto another key
+pub renamed : (args : List (List ℕ)) (number : ℕ) (state new : State) (said : List ℕ) → is_some (doc_of state.space (first args)) ≡ true → bytes_eq (first args) (second args) ≡ false → said ≡ spelling (Line (codes "OK"))
+    → new ≡ moved_to state (second args) (hash_of state (first args)) number (first args) → Does (Plain Rename args) number state said new
+renamed args number state new said there apart is_said is = by_doc (doc_of state.space (first args)) refl there
+  where
+    step : (doc : Doc) → rename (Some doc) (first args) (second args) number state ≡ record { reply = Line (codes "OK"); after = moved_to state (second args) doc.hash number (first args) }
+    step doc = rw apart refl
+
+    by_doc : (doc : Option Doc) → doc_of state.space (first args) ≡ doc → is_some doc ≡ true → Does (Plain Rename args) number state said new
     by_doc None found there = cc (there)
     by_doc (Some doc) found there =
-        let given = ap (λ (d : Option Doc). rename d (first args) (second args) number state) found ∙ step doc found in
+        let given = ap (λ (d : Option Doc). rename d (first args) (second args) number state) found ∙ step doc in
         inl (
-          said ∙ ap (λ (o : Outcome). spelling o.reply) (sym given),
-          is ∙ (ap (λ (d : Option Doc). record state { space = erase (write state.space (second args) (hash_in d) number) (first args) }) found ∙ ap (λ (o : Outcome). o.after) (sym given)),
+          is_said ∙ ap (λ (o : Outcome). spelling o.reply) (sym given),
+          is ∙ (ap (λ (d : Option Doc). moved_to state (second args) (hash_in d) number (first args)) found ∙ ap (λ (o : Outcome). o.after) (sym given)),
         )
 
 -- whether two words are one, by equal words
 pub same-words : (a b from to : List ℕ) (said test : Bool) → a ≡ from → b ≡ to → said ≡ bytes_eq a b → said ≡ test → bytes_eq from to ≡ test
 same-words a b from to said test x y is tested = sym (ap (λ (w : List ℕ). bytes_eq w b) x ∙ ap (λ (w : List ℕ). bytes_eq from w) y) ∙ (sym is ∙ tested)
 
--- the documents once a copy is written under another key and the first is taken out
+-- the state once a copy that waits is written under another key and the first is taken out
 pub moved : (ready : Option Doc) (state : State) (a b from to : List ℕ) (id : ℕ) → a ≡ from → b ≡ to → ready ≡ Some (record { id = id; key = b; hash = hash_in (doc_of state.space a) })
-    → record state { space = erase (written ready state.space) a } ≡ record state { space = erase (write state.space to (hash_of state from) id) from }
+    → record state { space = erase (written ready state.space) a; definitions = all_tried ready state.definitions } ≡ moved_to state to (hash_of state from) id from
 moved ready state a b from to id x y is =
-    ap (λ (r : Option Doc). record state { space = erase (written r state.space) a }) is
-    ∙ (ap (λ (w : List ℕ). record state { space = erase (write state.space w (hash_in (doc_of state.space a)) id) a }) y
-    ∙ ap (λ (w : List ℕ). record state { space = erase (write state.space to (hash_in (doc_of state.space w)) id) w }) x)
+    ap (λ (r : Option Doc). record state { space = erase (written r state.space) a; definitions = all_tried r state.definitions }) is
+    ∙ (ap (λ (w : List ℕ). moved_to state w (hash_in (doc_of state.space a)) id a) y
+    ∙ ap (λ (w : List ℕ). moved_to state to (hash_in (doc_of state.space w)) id w) x)

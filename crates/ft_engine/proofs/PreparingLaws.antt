@@ -1,33 +1,27 @@
 -- What is prepared, and what becomes of it.
-use Rattle.std.specs.Prelude.{◌≡◌, ◌≢◌, ◌<◌, ◌+◌, ℕ, Bool, true, false, List, [], ◌∷◌, ◌++◌, Option, None, Some, IfSome, IsTrue, length, take, drop, map, refl}
+use Rattle.std.specs.Prelude.{◌≡◌, ◌≢◌, ◌<◌, ◌+◌, ℕ, Bool, true, false, List, [], ◌∷◌, ◌++◌, Option, None, Some, IfSome, IsTrue, cond, is_some, length, take, drop, map, refl}
 use Rattle.std.proofs.Common.{sym, ap, ◌∙◌, subst, inl, inr, arith}
-use Rattle.std.specs.List.{All}
 use Rattle.std.specs.Str.{bytes_eq}
 use Rattle.std.proofs.lemmas.Bool.{cases_Bool}
 use Rattle.std.proofs.lemmas.List.{length-append, length-map, map-append, take_at}
-use Rattle.std.proofs.lemmas.List.Elements.{All-append, All-cons, All-nil}
 use Rattle.std.proofs.lemmas.Slice.Eq.{bytes_eq-Decides}
-use Rattle.cmd_parse.specs.Read.{CreateText}
 use Rattle.ft_base.specs.Hash.{Hash}
-use Rattle.ft_base.specs.Reply.{spelling}
 use Rattle.ft_base.specs.Space.{erase, write}
-use Rattle.ft_base.specs.declared.definition.IndexDef.{IndexDef}
 use Rattle.ft_base.specs.declared.doc.Doc.{Doc}
-use Rattle.ft_base.specs.declared.reply.Reply.{Reply}
-use Rattle.ft_engine.specs.Definitions.{text_index}
-use Rattle.ft_engine.specs.Indexing.{settled}
 use Rattle.ft_engine.specs.Machine.{State}
-use Rattle.ft_engine.specs.Preparing.{IsReady, Waits, changed, is_change}
-use Rattle.ft_engine.specs.Stands.{AreWritten, IndexStands, InStep, IsEngine, definitions_of, markers_at, unused}
-use Rattle.ft_engine.specs.Step.{Does, created, last_number, next_number}
+use Rattle.ft_engine.specs.Preparing.{HasMore, IsReady, changed, is_change}
+use Rattle.indexed_store.specs.Standing.{AreWritten, IndexStands, InStep, markers_at}
+use Rattle.ft_engine.specs.Stands.{IsEngine, unused}
+use Rattle.indexed_store.specs.Definitions.{Defined, defined, definitions_of, index_of, with_index, without_index}
+use Rattle.ft_engine.specs.Step.{last_number, next_number}
 use Rattle.ft_engine.specs.declared.prepared.Change.{Change}
-use Rattle.ft_engine.specs.declared.prepared.Change.TheVariants.{Create, EraseKey, EraseKeys, Flush, Move, Nothing, Write}
+use Rattle.ft_engine.specs.declared.prepared.Change.TheVariants.{Alter, Create, Drop, DropMembers, EraseKey, EraseKeys, Flush, Move, Nothing, Write}
 use Rattle.ft_index.proofs.IndexLaws.{last-push}
 use Rattle.ft_index.proofs.LiveLaws.{row_of}
 use Rattle.ft_index.specs.Index.{Index}
 use Rattle.hash_store.specs.Store.{Store}
 use Rattle.inverted_list.specs.Listing.{last_id}
-use Rattle.ft_engine.proofs.WritesLaws.{erase-there, id_of, in_step-later, in_step-written}
+use Rattle.indexed_store.proofs.StepLaws.{erase-there, in_step-later, in_step-more}
 
 -- below the last number the next one is one more
 pub next-below : (number : ℕ) → number < last_number → next_number number ≡ number + 1
@@ -46,16 +40,6 @@ pub whole-step : (store : Store) (len : ℕ) (items now : List Index) (n m : ℕ
 whole-step store len items now n m whole at step =
     subst (λ (is : List Index). InStep store is n) (sym (take_at now (drop (length now) items) len whole)) (subst (InStep store now) (sym at) step)
 
--- an index more that stands for the documents
-pub in_step-more : (store : Store) (indexes : List Index) (index : Index) (n : ℕ) → InStep store indexes n → IndexStands store.space n (markers_at n) index → InStep store (indexes ++ index ∷ []) n
-in_step-more store indexes index n step stands =
-    let P : Index → Type 0 = IndexStands store.space n (markers_at n) in
-    record {
-      last = step.last;
-      documents = step.documents;
-      stand = All-append P indexes (index ∷ []) step.stand (All-cons P index [] stands (All-nil P));
-    }
-
 -- the index of a creation goes last
 pub created-step : (store : Store) (change : Change) (index : Index) (number : ℕ) (waits : Option Doc) (indexes now : List Index) → change ≡ Create index → (IsTrue (is_change change) → number < last_number)
     → IsReady change number store.space waits indexes → InStep store indexes (next_number number) → now ≡ indexes ++ index ∷ [] → InStep store now (next_number number)
@@ -65,24 +49,43 @@ created-step store change index number waits indexes now is before ready step mo
     subst (λ (is : List Index). InStep store is (next_number number)) (sym more)
     (in_step-more store indexes index (next_number number) step (subst (λ n. IndexStands store.space n (markers_at n) index) (sym at) ready.1))
 
--- The document that waited is written, in the store and in each index.
-pub settled-step : (old new : Store) (indexes now : List Index) (put number : ℕ) (waits : Option Doc) (replaced : Option ℕ) → AreWritten old.space number → InStep old indexes (number + 1)
-    → Waits put number old.space indexes waits → IfSome waits (λ doc. replaced ≡ id_of old.space doc.key)
-    → IfSome waits (λ doc. new ≡ record old { space = write old.space doc.key doc.hash doc.id; ready = None }) → now ≡ map (settled replaced) indexes → InStep new now (number + 1)
-settled-step old new indexes now put number None replaced written step waits was is made = absurd waits
-settled-step old new indexes now put number (Some doc) replaced written step waits was is made =
-    let at : doc.id ≡ number = waits.id in
-    let last : new.last ≡ old.last = ap (λ (s : Store). s.last) is in
-    subst (λ n. InStep new now (n + 1)) at
-    (subst (λ (is : List Index). InStep new is (doc.id + 1)) (sym made)
-    (in_step-written new old.space doc replaced indexes (ap (λ (s : Store). s.space) is) (omega (arith, last, at, step.last)) was (subst (AreWritten old.space) (sym at) written) waits.fits waits.filled
-    (subst (λ n. All (IndexStands old.space (n + 1) (markers_at (n + 1))) indexes) (sym at) step.stand) waits.awaits))
+-- an index that takes another one's place stands for the documents
+pub altered-stands : (change : Change) (index : Index) (number : ℕ) (space : List Doc) (waits : Option Doc) (indexes : List Index) → change ≡ Alter index → IsReady change number space waits indexes
+    → IndexStands space (number + 1) (markers_at (number + 1)) index
+altered-stands change index number space waits indexes is ready =
+    let here : IsReady (Alter index) number space waits indexes = subst (λ (c : Change). IsReady c number space waits indexes) is ready in here.1
 
--- what FT.CREATE gives was answered
-pub does-created : (name field : List ℕ) (serial : ℕ) (state : State) (written : List ℕ) (reply : Reply) (after : List IndexDef) → created (text_index name field serial) state.definitions ≡ (reply, after) → written ≡ spelling reply
-    → Does (CreateText name field) serial state written (record state { definitions = after })
-does-created name field serial state written reply after given said =
-    inl (said ∙ ap (λ (o : Reply × List IndexDef). spelling o.0) (sym given), ap (λ (o : Reply × List IndexDef). record state { definitions = o.1 }) (sym given))
+-- a definition in the place of the one of its name differs from it
+with-same : (definitions : List Defined) (new : Defined) → with_index definitions new ≡ definitions → IfSome (index_of definitions new.def.name) (λ old. old ≡ new)
+with-same [] new same = tt
+with-same (index ∷ definitions) new same = by_test (bytes_eq new.def.name index.def.name) same (with-same definitions new)
+  where
+    by_test : (here : Bool) → cond here (new ∷ definitions) (index ∷ with_index definitions new) ≡ index ∷ definitions → (with_index definitions new ≡ definitions → IfSome (index_of definitions new.def.name) (λ old. old ≡ new))
+        → IfSome (cond here (Some index) (index_of definitions new.def.name)) (λ old. old ≡ new)
+    by_test true same later = cc (same)
+    by_test false same later = later (cc (same))
+
+with-more : (definitions : List Defined) (index : Index) → HasMore (index_of definitions index.def.name) index → with_index definitions (defined index) ≢ definitions
+with-more definitions index more same = by_old (index_of definitions index.def.name) more (with-same definitions (defined index) same)
+  where
+    by_old : (old : Option Defined) → HasMore old index → IfSome old (λ o. o ≡ defined index) → ⊥
+    by_old None more same = more
+    by_old (Some old) more same = absurd (omega (arith, more, ap (λ (d : Defined). length d.def.fields) same))
+
+-- an index less is one less
+without-less : (definitions : List Defined) (name : List ℕ) → is_some (index_of definitions name) ≡ true → 1 + length (without_index definitions name) ≡ length definitions
+without-less [] name there = cc (there)
+without-less (index ∷ definitions) name there = by_test (bytes_eq name index.def.name) there (without-less definitions name)
+  where
+    by_test : (here : Bool) → is_some (cond here (Some index) (index_of definitions name)) ≡ true → (is_some (index_of definitions name) ≡ true → 1 + length (without_index definitions name) ≡ length definitions)
+        → 1 + length (cond here definitions (index ∷ without_index definitions name)) ≡ length (index ∷ definitions)
+    by_test true there later = omega arith
+    by_test false there later = omega (arith, later there)
+
+without-new : (indexes : List Index) (definitions : List Defined) (name : List ℕ) → definitions ≡ definitions_of indexes → IsTrue (is_some (index_of (definitions_of indexes) name)) → without_index definitions name ≢ definitions
+without-new indexes definitions name same there whole =
+    let less = without-less definitions name (ap (λ (ds : List Defined). is_some (index_of ds name)) same ∙ there) in
+    absurd (omega (arith, less, ap length whole))
 
 -- an event begins
 pub begun : (store : Store) (indexes : List Index) (capacity counting : ℕ) (pending : Bool) (next : ℕ) → pending ≡ false → next < last_number → IsEngine store indexes capacity counting pending next
@@ -133,8 +136,13 @@ changes-something (EraseKey key) number waits indexes state documents definition
     absurd (omega (arith, erase-there state.space key.now ready, ap (λ (s : State). length s.space) same))
 changes-something (EraseKeys keys) number waits indexes state documents definitions ready some same = absurd (omega (arith, ready, ap (λ (s : State). length s.space) same))
 changes-something (Create index) number waits indexes state documents definitions ready some same =
-    absurd (omega (arith, length-append state.definitions (index.def ∷ []), ap (λ (s : State). length s.definitions) same))
+    absurd (omega (arith, length-append state.definitions (defined index ∷ []), ap (λ (s : State). length s.definitions) same))
+changes-something (Alter index) number waits indexes state documents definitions ready some same =
+    let more : HasMore (index_of state.definitions index.def.name) index = subst (λ (ds : List Defined). HasMore (index_of ds index.def.name) index) (sym definitions) ready.0 in
+    with-more state.definitions index more (ap (λ (s : State). s.definitions) same)
+changes-something (Drop name) number waits indexes state documents definitions ready some same = without-new indexes state.definitions name.now definitions ready (ap (λ (s : State). s.definitions) same)
+changes-something (DropMembers name) number waits indexes state documents definitions ready some same = without-new indexes state.definitions name.now definitions ready (ap (λ (s : State). s.definitions) same)
 changes-something Flush number waits indexes state documents definitions ready some same = elim ready [
   | inl docs ↦ absurd (omega (arith, docs, ap (λ (s : State). length s.space) same))
-  | inr some ↦ absurd (omega (arith, some, length-map indexes (λ (index : Index). index.def), ap (λ (defs : List IndexDef). length defs) definitions, ap (λ (s : State). length s.definitions) same))
+  | inr some ↦ absurd (omega (arith, some, length-map indexes defined, ap (λ (defs : List Defined). length defs) definitions, ap (λ (s : State). length s.definitions) same))
 ]

@@ -40,7 +40,7 @@ in_turn-next hash i field there =
 fits-Array : (replies : List Reply) → fits_wire (Array replies) ≡ list_all (λ fits. fits) (map fits_wire replies)
 fits-Array replies = ap fits_wire (sym (rolls-Array replies)) ∙ fold-roll-Reply Bool fits_step (layer.Array replies)
 
-fits-Bulk : (bytes : List ℕ) → fits_wire (Bulk bytes) ≡ true
+pub fits-Bulk : (bytes : List ℕ) → fits_wire (Bulk bytes) ≡ true
 fits-Bulk bytes = ap fits_wire (sym (rolls-Bulk bytes)) ∙ fold-roll-Reply Bool fits_step (layer.Bulk bytes)
 
 fits-NullBulk : fits_wire NullBulk ≡ true

@@ -1,39 +1,27 @@
 -- What a search by the list of a word answers is what the documents say.
-use Rattle.std.specs.Prelude.{◌≡◌, ℕ, Bool, true, false, cond, pos, List, [], ◌∷◌, ◌++◌, zero, suc, Option, None, Some, codes, find, length, map, take, refl}
-use Rattle.std.proofs.Common.{sym, ap, ◌∙◌, subst, inl}
+use Rattle.std.specs.Prelude.{◌≡◌, ℕ, pos, List, [], ◌∷◌, ◌++◌, zero, suc, Option, None, Some, codes, find, length, map, take, refl}
+use Rattle.std.proofs.Common.{sym, ap, ◌∙◌, inl}
 use Rattle.std.specs.List.{All}
 use Rattle.std.specs.Option.{option_map}
-use Rattle.std.specs.Str.{bytes_eq}
 use Rattle.std.proofs.lemmas.List.{length-map}
-use Rattle.std.proofs.lemmas.List.Elements.{All-head, All-tail}
 use Rattle.cmd_parse.specs.Read.{SearchWord}
 use Rattle.ft_base.specs.Reply.{spelling}
-use Rattle.ft_base.specs.declared.definition.IndexDef.{IndexDef}
 use Rattle.ft_base.specs.declared.doc.Doc.{Doc}
 use Rattle.ft_base.specs.declared.reply.Reply.{Reply}
 use Rattle.ft_base.specs.declared.reply.Reply.TheVariants.{Array, Bulk, Fault, Number}
 use Rattle.ft_engine.specs.Machine.{State}
-use Rattle.ft_engine.specs.Definitions.{index_of}
+use Rattle.indexed_store.specs.Definitions.{index_of}
 use Rattle.ft_engine.specs.Pages.{page_reply}
-use Rattle.ft_engine.specs.Stands.{definitions_of}
+use Rattle.indexed_store.specs.Definitions.{Defined, defined, definitions_of}
+use Rattle.indexed_store.specs.Named.{is_named}
 use Rattle.ft_engine.specs.Step.{Does, found_reply, searched, window}
-use Rattle.ft_engine.proofs.Creating.{index_of-named}
+use Rattle.indexed_store.proofs.NamedLaws.{index_of-named, named-has}
 use Rattle.ft_index.proofs.FoundLaws.{live_keys-found}
 use Rattle.ft_index.specs.Index.{Index, Indexes, IsIndex}
 use Rattle.ft_index.specs.Live.{live_keys}
 use Rattle.ft_meaning.specs.Meaning.{found}
 use Rattle.term_dict.specs.Terms.{entries_of}
 use Rattle.token_text.specs.Tokens.{lowered}
-
--- what holds of all indexes holds of the one of a name
-pub named-has : (P : Index → Type 0) (indexes : List Index) (name : List ℕ) (index : Index) → All P indexes → find (λ (index : Index). bytes_eq name index.def.name) indexes ≡ Some index → P index
-named-has P [] name index each there = cc (there)
-named-has P (first ∷ indexes) name index each there = by_test (bytes_eq name first.def.name) there (named-has P indexes name index (All-tail P first indexes each))
-  where
-    by_test : (here : Bool) → cond here (Some first) (find (λ (index : Index). bytes_eq name index.def.name) indexes) ≡ Some index
-        → (find (λ (index : Index). bytes_eq name index.def.name) indexes ≡ Some index → P index) → P index
-    by_test true there later = let same : first ≡ index = cc (there) in subst P same (All-head P first indexes each)
-    by_test false there later = later there
 
 first-keys : (n : ℕ) (docs : List Doc) → map Bulk (take n (map (λ (doc : Doc). doc.key) docs)) ≡ map (λ (doc : Doc). Bulk doc.key) (take n docs)
 first-keys zero docs = refl
@@ -47,24 +35,24 @@ page-found docs =
 
 -- there is no such index
 pub searches-none : (indexes : List Index) (state : State) (number : ℕ) (name word reply : List ℕ) → state.definitions ≡ definitions_of indexes
-    → find (λ (index : Index). bytes_eq name index.def.name) indexes ≡ None → reply ≡ spelling (Fault (codes "Unknown index name")) → Does (SearchWord name word) number state reply state
+    → find (is_named name) indexes ≡ None → reply ≡ spelling (Fault (codes "Unknown index name")) → Does (SearchWord name word) number state reply state
 searches-none indexes state number name word reply same none said =
-    let no : index_of state.definitions name ≡ None = ap (λ (defs : List IndexDef). index_of defs name) same ∙ (index_of-named indexes name ∙ ap (option_map (λ (index : Index). index.def)) none) in
-    inl (said ∙ ap (λ (def : Option IndexDef). spelling (searched def (lowered word) state.space)) (sym no), refl)
+    let no : index_of state.definitions name ≡ None = ap (λ (defs : List Defined). index_of defs name) same ∙ (index_of-named indexes name ∙ ap (option_map defined) none) in
+    inl (said ∙ ap (λ (def : Option Defined). spelling (searched def (lowered word) state.space)) (sym no), refl)
 
 -- the live entries of the word's list were answered
 pub searches-found : (indexes : List Index) (state : State) (number : ℕ) (name word old reply : List ℕ) (index : Index) → state.definitions ≡ definitions_of indexes
-    → All (λ (index : Index). Indexes index state.space) indexes → IsIndex index → find (λ (index : Index). bytes_eq name index.def.name) indexes ≡ Some index
+    → All (λ (index : Index). Indexes index state.space) indexes → IsIndex index → find (is_named name) indexes ≡ Some index
     → old ≡ [] → reply ≡ old ++ spelling (page_reply (live_keys index.table.live (entries_of index.terms (lowered word)))) → Does (SearchWord name word) number state reply state
 searches-found indexes state number name word old reply index same each sound there empty said =
     let docs = state.space in
-    let def : index_of state.definitions name ≡ Some index.def =
-    ap (λ (defs : List IndexDef). index_of defs name) same ∙ (index_of-named indexes name ∙ ap (option_map (λ (index : Index). index.def)) there) in
-    let keys = live_keys-found index docs (lowered word) (named-has (λ (index : Index). Indexes index docs) indexes name index each there) sound.rise in
+    let def : index_of state.definitions name ≡ Some (defined index) =
+    ap (λ (defs : List Defined). index_of defs name) same ∙ (index_of-named indexes name ∙ ap (option_map defined) there) in
+    let keys = live_keys-found index docs (lowered word) (named-has (λ (index : Index). Indexes index docs) indexes name index each there) sound.kept.rise in
     let text = said ∙ ap (λ (front : List ℕ). front ++ spelling (page_reply (live_keys index.table.live (entries_of index.terms (lowered word))))) empty in
     inl (
       text ∙ (ap (λ (keys : List (List ℕ)). spelling (page_reply keys)) keys
           ∙ (ap spelling (page-found (found index.def (lowered word) docs))
-          ∙ ap (λ (def : Option IndexDef). spelling (searched def (lowered word) docs)) (sym def))),
+          ∙ ap (λ (def : Option Defined). spelling (searched def (lowered word) docs)) (sym def))),
       refl,
     )

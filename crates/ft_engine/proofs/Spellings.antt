@@ -1,11 +1,11 @@
 -- How replies are spelled, one layer at a time.
-use Rattle.std.proofs.Common.{◌≡◌, ℕ, List, [], ◌∷◌, ◌++◌, sym, ap, ◌∙◌, append_assoc, Bool, true, false, Option, Some, None}
+use Rattle.std.proofs.Common.{◌≡◌, ℕ, List, [], ◌∷◌, ◌++◌, sym, ap, ◌∙◌, append_assoc, Bool, Option, Some, None}
 use Rattle.std.specs.Prelude.{ℤ, pos, codes, is_some, if◌then◌else◌}
 use denote.Hole.Carrier.{out}
 use Rattle.std.specs.Fmt.{decimal, signed_decimal}
 use Rattle.ft_base.specs.Reply.{line, spelling, spelling_step}
 use Rattle.ft_base.specs.declared.doc.Doc.{Doc}
-use Rattle.ft_engine.specs.Reads.{kind_of, one_if}
+use Rattle.ft_engine.specs.Reads.{kind_of}
 use Rattle.ft_base.specs.declared.reply.Reply.TheFolds.{fold_out-Reply}
 use Rattle.ft_base.specs.declared.reply.Reply.TheVariants.{Line, Fault, Number}
 use Rattle.ft_base.specs.declared.reply.Reply.TheViews.{out-Reply}
@@ -34,17 +34,13 @@ fault_written first second third text e f g =
 pub ok_written : (old new : List ℕ) → old ≡ [] → new ≡ old ++ 43 ∷ 79 ∷ 75 ∷ 13 ∷ 10 ∷ [] → new ≡ spelling (Line (codes "OK"))
 ok_written old new e f = f ∙ (ap (λ (t : List ℕ). t ++ 43 ∷ 79 ∷ 75 ∷ 13 ∷ 10 ∷ []) e ∙ sym (spelling-Line (codes "OK")))
 
--- the answer to PING, likewise
-pub pong_written : (old new : List ℕ) → old ≡ [] → new ≡ old ++ 43 ∷ 80 ∷ 79 ∷ 78 ∷ 71 ∷ 13 ∷ 10 ∷ [] → new ≡ spelling (Line (codes "PONG"))
-pong_written old new e f = f ∙ (ap (λ (t : List ℕ). t ++ 43 ∷ 80 ∷ 79 ∷ 78 ∷ 71 ∷ 13 ∷ 10 ∷ []) e ∙ sym (spelling-Line (codes "PONG")))
+-- the same where the text is of two pieces behind the mark
+pub fault_of_pieces : (old mark first second third front behind : List ℕ) → old ≡ [] → mark ≡ old ++ 45 ∷ [] → first ≡ mark ++ front → second ≡ first ++ behind → third ≡ second ++ 13 ∷ 10 ∷ []
+    → third ≡ spelling (Fault (front ++ behind))
+fault_of_pieces old mark first second third front behind e m f g h =
+    h ∙ (ap (λ (t : List ℕ). t ++ 13 ∷ 10 ∷ []) (g ∙ ap (λ (t : List ℕ). t ++ behind) (f ∙ ap (λ (t : List ℕ). t ++ front) (m ∙ ap (λ (t : List ℕ). t ++ 45 ∷ []) e))) ∙ sym (spelling-Fault (front ++ behind)))
 
--- the same where the text is of two parts
-pub fault_of_two : (old first second third front middle : List ℕ) → old ≡ [] → first ≡ old ++ 45 ∷ front → second ≡ first ++ middle → third ≡ second ++ 13 ∷ 10 ∷ []
-    → third ≡ spelling (Fault (front ++ middle))
-fault_of_two old first second third front middle e f g h =
-    h ∙ (ap (λ (t : List ℕ). t ++ 13 ∷ 10 ∷ []) (g ∙ ap (λ (t : List ℕ). t ++ middle) (f ∙ ap (λ (t : List ℕ). t ++ 45 ∷ front) e)) ∙ sym (spelling-Fault (front ++ middle)))
-
--- and of three
+-- and of three, of which the first has the mark
 pub fault_of_three : (old first second third front middle text : List ℕ) → old ≡ [] → first ≡ old ++ 45 ∷ front → second ≡ first ++ middle → third ≡ second ++ (text ++ 13 ∷ 10 ∷ [])
     → third ≡ spelling (Fault (front ++ middle ++ text))
 fault_of_three old first second third front middle text e f g h =
@@ -66,8 +62,3 @@ pub kind_written : (old new : List ℕ) (said : Bool) (doc : Option Doc) → old
     → new ≡ old ++ ((43 ∷ (if said then codes "hash" else codes "none")) ++ 13 ∷ 10 ∷ []) → new ≡ spelling (Line (kind_of doc))
 kind_written old new said None e is f = f ∙ (ap (λ (t : List ℕ). t ++ ((43 ∷ (if said then codes "hash" else codes "none")) ++ 13 ∷ 10 ∷ [])) e ∙ rw is (sym (spelling-Line (codes "none"))))
 kind_written old new said (Some doc) e is f = f ∙ (ap (λ (t : List ℕ). t ++ ((43 ∷ (if said then codes "hash" else codes "none")) ++ 13 ∷ 10 ∷ [])) e ∙ rw is (sym (spelling-Line (codes "hash"))))
-
--- a flag as a number
-pub flag_written : (so : Bool) (n : ℕ) (new : List ℕ) → n ≡ (if so then 1 else 0) → new ≡ spelling (Number (pos n)) → new ≡ spelling (one_if so)
-flag_written true n new is said = said ∙ ap (λ (k : ℕ). spelling (Number (pos k))) is
-flag_written false n new is said = said ∙ ap (λ (k : ℕ). spelling (Number (pos k))) is

@@ -3,9 +3,10 @@ use Rattle.std.specs.Prelude.{◌≤◌, ℕ, List, [], length, slice_index_or}
 use Rattle.std.specs.List.{All}
 use Rattle.ft_base.specs.declared.limits.TheConstants.{MAX_WORD_BYTES}
 use Rattle.cmd_parse.specs.Lawful.{Lawful}
-use Rattle.cmd_parse.specs.Read.{Asked, Plain, CreateText, SearchWord}
+use Rattle.ft_schema.specs.Lawful.{IsLawful as AreLawful}
+use Rattle.cmd_parse.specs.Read.{Asked, Plain, CreateIndex, AlterIndex, SearchWord}
 use Rattle.cmd_parse.specs.declared.command.Verb.{Verb}
-use Rattle.cmd_parse.specs.declared.command.Verb.TheVariants.{Hset, Hsetnx, Hdel, Hincrby, Del, Rename, Flushall}
+use Rattle.cmd_parse.specs.declared.command.Verb.TheVariants.{Hset, Hsetnx, Hdel, Hincrby, Del, Rename, Flushall, DropIndex, ListIndexes, TagVals}
 
 -- the first argument of a command, the second and the third
 abbrev pub first : List (List ℕ) → List ℕ
@@ -21,13 +22,14 @@ third args = slice_index_or args 2 []
 abbrev pub AreWords : List (List ℕ) → Type 0
 AreWords args = All (λ arg. length arg ≤ MAX_WORD_BYTES) args
 
--- What the words of a command on the wire ask: a plain command has lawful arguments.
+-- What the words of a command on the wire ask: a plain command has lawful arguments, and the fields of a schema keep its limits.
 abbrev pub IsAsked : Asked → Type 0
 IsAsked (Plain verb args) = Lawful verb args × AreWords args
-IsAsked (CreateText index field) = Unit {0}
+IsAsked (CreateIndex index) = AreLawful index.fields
+IsAsked (AlterIndex index fields) = AreLawful fields
 IsAsked (SearchWord index word) = Unit {0}
 
--- a plain command that changes nothing
+-- a plain command that reads hashes and keys alone
 abbrev pub IsRead : Verb → Type 0
 IsRead Hset = ⊥
 IsRead Hsetnx = ⊥
@@ -36,4 +38,7 @@ IsRead Hincrby = ⊥
 IsRead Del = ⊥
 IsRead Rename = ⊥
 IsRead Flushall = ⊥
+IsRead DropIndex = ⊥
+IsRead ListIndexes = ⊥
+IsRead TagVals = ⊥
 IsRead _ = Unit {0}

@@ -1,13 +1,12 @@
 pub mod Asking
 pub mod Counting
-pub mod Definitions
-pub mod Filling
 pub mod History
-pub mod Indexing
+pub mod Indexes
 pub mod Machine
 pub mod Pages
+pub mod Preparing
 pub mod Reads
+pub mod Refusals
 pub mod Stands
 pub mod Step
 pub mod Writes
-pub mod Preparing

@@ -2,15 +2,15 @@
 use Rattle.std.specs.Prelude.{ℕ, max, List, [], Option, Some, None}
 use Rattle.ft_base.specs.Hash.{Hash}
 use Rattle.ft_base.specs.Space.{doc_of}
-use Rattle.ft_base.specs.declared.definition.IndexDef.{IndexDef}
 use Rattle.ft_base.specs.declared.doc.Doc.{Doc}
 use Rattle.ft_base.specs.declared.reply.Reply.{Reply}
+use Rattle.indexed_store.specs.Definitions.{Defined}
 
 pub record State : Type 0 where
   -- the documents, in order of ids
   pub space : List Doc
-  -- the definitions of the indexes, in order of creation
-  pub definitions : List IndexDef
+  -- the definitions of the indexes, in order of creation, with their counts of failures
+  pub definitions : List Defined
   -- the latest moment that a command came with
   pub latest : ℕ
 

@@ -1,38 +1,25 @@
 -- One step of the machine: a command at an event's number and a moment gives a reply and the next state.
-use Rattle.std.specs.Prelude.{◌≡◌, ◌<◌, ◌≤◌, ◌⊎◌, ℕ, pos, List, [], ◌∷◌, ◌++◌, ◌+◌, ◌^◌, min, length, take, drop, map, slice_index_or, Option, Some, None, is_some, Result, Ok, Err, nat_le, if◌then◌else◌, codes}
-use Rattle.std.specs.Fmt.{decimal}
-use Rattle.cmd_parse.specs.Read.{Asked, Plain, CreateText, SearchWord, read}
+use Rattle.std.specs.Prelude.{◌≡◌, ◌<◌, ◌≤◌, ◌⊎◌, ℕ, pos, List, [], ◌∷◌, ◌+◌, ◌^◌, min, length, take, drop, map, slice_index_or, Option, Some, None, is_some, Result, Ok, Err, IsTrue, codes}
+use Rattle.cmd_parse.specs.Read.{Asked, Plain, CreateIndex, AlterIndex, SearchWord, read, takes_memory}
 use Rattle.cmd_parse.specs.declared.command.CmdFault.{CmdFault}
-use Rattle.cmd_parse.specs.declared.command.CmdFault.TheVariants.{Unknown, Arity, Syntax, NotInteger, BadDb, NotBuilt}
 use Rattle.cmd_parse.specs.declared.command.Verb.{Verb}
-use Rattle.cmd_parse.specs.declared.command.Verb.TheVariants.{Ping, Echo, Select, Quit, Hset, Hsetnx, Hget, Hmget, Hgetall, Hdel, Hlen, Hexists, Hincrby, Hkeys, Hvals, Del, Exists, TypeOf, Dbsize, Rename, Flushall}
+use Rattle.cmd_parse.specs.declared.command.Verb.TheVariants.{Ping, Echo, Select, Quit, Hset, Hsetnx, Hget, Hmget, Hgetall, Hdel, Hlen, Hexists, Hincrby, Hkeys, Hvals, Del, Exists, TypeOf, Dbsize, Rename, Flushall, DropIndex, ListIndexes, TagVals}
 use Rattle.ft_base.specs.Hash.{get_field}
 use Rattle.ft_base.specs.Number.{int_of}
 use Rattle.ft_base.specs.Reply.{spelling}
 use Rattle.ft_base.specs.Space.{doc_of}
-use Rattle.ft_base.specs.declared.definition.IndexDef.{IndexDef}
 use Rattle.ft_base.specs.declared.doc.Doc.{Doc}
 use Rattle.ft_base.specs.declared.reply.Reply.{Reply}
 use Rattle.ft_base.specs.declared.reply.Reply.TheVariants.{Line, Fault, Number, Bulk, Array}
 use Rattle.ft_engine.specs.Asking.{first, second, third}
 use Rattle.ft_engine.specs.Reads.{in_turn, kind_of, names, one_if, present, value_reply, values}
-use Rattle.ft_engine.specs.Definitions.{text_index, index_of}
+use Rattle.indexed_store.specs.Definitions.{Defined, index_of}
+use Rattle.ft_engine.specs.Indexes.{altered, created, dropped, listed, tag_vals, unknown_index}
+use Rattle.ft_engine.specs.Refusals.{out_of_memory, refusal}
 use Rattle.ft_meaning.specs.Meaning.{found}
 use Rattle.ft_engine.specs.Machine.{Outcome, State, answered, at_moment, hash_of}
 use Rattle.ft_engine.specs.Writes.{del, hdel, hincrby, hset, hset_unless, number_in, rename}
 use Rattle.token_text.specs.Tokens.{lowered}
-
--- the most indexes that there may be
-abbrev pub most_indexes : ℕ
-most_indexes = 256
-
--- What creating an index is answered, and the definitions after it: a new one goes last, if its name is free and there
--- is room.
-abbrev pub created : IndexDef → List IndexDef → Reply × List IndexDef
-created index definitions =
-    if is_some (index_of definitions index.name) then (Fault (codes "Index already exists"), definitions)
-    else (if nat_le most_indexes (length definitions) then (Fault (codes "Too many indexes"), definitions)
-    else (Line (codes "OK"), definitions ++ index ∷ []))
 
 -- how many keys a search answers at the most
 abbrev pub window : ℕ
@@ -43,13 +30,9 @@ abbrev pub found_reply : List Doc → Reply
 found_reply docs = Array (Number (pos (length docs)) ∷ map (λ (doc : Doc). Bulk doc.key) (take window docs))
 
 -- what a search of an index is answered over these documents, where there is that index
-abbrev pub searched : Option IndexDef → List ℕ → List Doc → Reply
-searched None word docs = Fault (codes "Unknown index name")
-searched (Some index) word docs = found_reply (found index word docs)
-
--- the text for a form that is not built
-abbrev pub not_built : List ℕ
-not_built = codes "ERR not built"
+abbrev pub searched : Option Defined → List ℕ → List Doc → Reply
+searched None word docs = Fault unknown_index
+searched (Some index) word docs = found_reply (found index.def word docs)
 
 -- What a plain command gives.
 abbrev pub plain : Verb → List (List ℕ) → ℕ → State → Outcome
@@ -75,20 +58,17 @@ plain Hincrby args number state =
     hincrby (number_in (get_field (hash_of state (first args)) (second args))) (int_of (third args)) args number state
 plain Rename args number state = rename (doc_of state.space (first args)) (first args) (second args) number state
 plain Del keys number state = del keys state
+plain DropIndex args number state = dropped (index_of state.definitions (first args)) (first args) (drop 1 args) state
+plain ListIndexes args number state = answered (listed state.definitions) state
+plain TagVals args number state = answered (tag_vals (index_of state.definitions (first args)) (second args) state.space) state
 plain Flushall args number state = record { reply = Line (codes "OK"); after = record state { space = []; definitions = [] } }
 
 -- What a command gives that asks this.
 abbrev pub outcome : Asked → ℕ → State → Outcome
 outcome (Plain verb args) number state = plain verb args number state
-outcome (CreateText index field) number state = let result = created (text_index index field number) state.definitions in record {
-  reply = result.0;
-  after = record state { definitions = result.1 };
-}
+outcome (CreateIndex index) number state = created index state
+outcome (AlterIndex index fields) number state = altered (index_of state.definitions index) fields state
 outcome (SearchWord index word) number state = answered (searched (index_of state.definitions index) (lowered word) state.space) state
-
--- the reply where memory is wanting
-abbrev pub out_of_memory : Reply
-out_of_memory = Fault (codes "OOM out of memory")
 
 -- What was made is written, or memory was wanting.
 abbrev pub Told : {E : Type 0} → Result Reply E → List ℕ → Type 0
@@ -113,13 +93,16 @@ PlainMayWant Hsetnx args = Unit {0}
 PlainMayWant Hdel args = Unit {0}
 PlainMayWant Hincrby args = Unit {0}
 PlainMayWant Rename args = Unit {0}
+PlainMayWant ListIndexes args = Unit {0}
+PlainMayWant TagVals args = Unit {0}
 PlainMayWant Del keys = most_counted < length keys
 PlainMayWant _ args = ⊥
 
 -- Whether a command may be answered that memory is wanting.
 abbrev pub MayWant : Asked → Type 0
 MayWant (Plain verb args) = PlainMayWant verb args
-MayWant (CreateText index field) = Unit {0}
+MayWant (CreateIndex index) = Unit {0}
+MayWant (AlterIndex index fields) = Unit {0}
 MayWant (SearchWord index word) = Unit {0}
 
 -- What was asked was done: the reply and the next state are the machine's; or memory was wanting, and nothing changed.
@@ -128,20 +111,17 @@ Does asks number old reply new =
     ((reply ≡ spelling (outcome asks number old).reply) × (new ≡ (outcome asks number old).after))
     ⊎ (MayWant asks × (reply ≡ spelling out_of_memory) × (new ≡ old))
 
--- the text for a command of this name whose words ask nothing
-abbrev pub refusal : List ℕ → CmdFault → List ℕ
-refusal name Unknown = codes "ERR unknown command"
-refusal name Arity = codes "ERR wrong number of arguments for '" ++ lowered name ++ codes "' command"
-refusal name (Syntax at) = codes "ERR syntax error at word " ++ decimal at
-refusal name NotInteger = codes "ERR value is not an integer or out of range"
-refusal name BadDb = codes "ERR DB index is out of range"
-refusal name NotBuilt = not_built
-
--- What the words of this name ask is done, or the words are refused and nothing changed. A refusal by the words alone
--- takes no memory.
+-- What was read is done, or the words are refused and nothing changed.
 abbrev pub Takes : List ℕ → Result Asked CmdFault → ℕ → State → List ℕ → State → Type 0
 Takes name (Ok asks) number old reply new = Does asks number old reply new
 Takes name (Err fault) number old reply new = (reply ≡ spelling (Fault (refusal name fault))) × (new ≡ old)
+
+-- What the words ask is done, or they are refused; or memory was wanting to read the words of a schema, and nothing changed.
+-- The event's number is the serial of an index that is created.
+abbrev pub Obeys : List (List ℕ) → ℕ → State → List ℕ → State → Type 0
+Obeys words number old reply new =
+    Takes (slice_index_or words 0 []) (read number words) number old reply new
+    ⊎ (IsTrue (takes_memory words) × (reply ≡ spelling out_of_memory) × (new ≡ old))
 
 -- the last number that an event can have
 abbrev pub last_number : ℕ
@@ -164,4 +144,4 @@ At number moment Steps old reply new =
 
 -- one command
 abbrev pub Answers : List (List ℕ) → ℕ → ℕ → State → List ℕ → State → Type 0
-Answers words number moment = At number moment (Takes (slice_index_or words 0 []) (read words) number)
+Answers words number moment = At number moment (Obeys words number)

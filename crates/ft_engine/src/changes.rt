@@ -1,15 +1,17 @@
 //! What was prepared is made: all that it needs is there, so it takes no memory.
 ghost use Rattle.std.specs.Prelude.{◌≡◌, ◌<◌, ◌≤◌, ◌+◌, ℕ, length, vec_capacity, IsTrue};
 ghost use Rattle.ft_engine.specs.Preparing.{IsReady, changed, is_change};
-ghost use Rattle.ft_engine.specs.Stands.{AreWritten, InStep, state_of};
+ghost use Rattle.indexed_store.specs.Standing.{AreWritten, InStep};
+ghost use Rattle.ft_engine.specs.Stands.{state_of};
 ghost use Rattle.ft_engine.specs.Step.{last_number, next_number};
 
-use crate::indexes::{MOST_INDEXES, push_index};
+use crate::index_commands::MOST_INDEXES;
 use crate::prepared::Change;
-use crate::removals::{remove, remove_all};
-use crate::writes::settle;
 use ft_index::FtIndex;
 use hash_store::HashStore;
+use indexed_store::{
+    drop_index, drop_members, push_index, remove, remove_all, replace_index, settle,
+};
 
 /// Makes a change of the event with this number.
 pub fn make(store: &mut HashStore, indexes: &mut Vec<FtIndex>, number: u64, change: Change<'_>)
@@ -37,6 +39,9 @@ pub fn make(store: &mut HashStore, indexes: &mut Vec<FtIndex>, number: u64, chan
         }
         Change::EraseKeys(keys) => remove_all(store, indexes.as_mut_slice(), &keys),
         Change::Create(index) => push_index(indexes, index),
+        Change::Alter(index) => replace_index(indexes.as_mut_slice(), index),
+        Change::Drop(name) => drop_index(indexes, name),
+        Change::DropMembers(name) => drop_members(store, indexes, name),
         Change::Flush => {
             store.clear();
             indexes.clear();

@@ -1,14 +1,14 @@
 //! The engine: a state of the machine, and the events that lead from one to the next.
 ghost use Rattle.std.specs.Prelude.{◌≡◌, ◌≢◌, ◌<◌, ◌≤◌, ◌^◌, Err, [], true, false, length, vec_capacity, IfOk, IsTrue};
 ghost use Rattle.ft_base.specs.Words.{KeepsLimits};
-ghost use Rattle.cmd_parse.specs.Read.{command_of, read};
+ghost use Rattle.cmd_parse.specs.Read.{IsReading, command_of};
 ghost use Rattle.ft_engine.specs.Asking.{IsAsked};
 ghost use Rattle.ft_engine.specs.Preparing.{IsLast, abandoned, committed, is_change};
 ghost use Rattle.ft_engine.specs.Stands.{IsIndexed, opened};
 ghost use Rattle.ft_engine.specs.Step.{Answers, At, Does, next_number};
 
 use crate::changes::make;
-use crate::indexes::MOST_INDEXES;
+use crate::index_commands::MOST_INDEXES;
 use crate::prepared::{Change, Prepared};
 use crate::refusals::put_refusal;
 use crate::removals::MOST_COUNTED;
@@ -114,9 +114,9 @@ impl Engine {
         ensures free { self.new.pending ≡ false }
         ensures room { 64 ≤ vec_capacity out.new }
     {
-        match read_command(words.rest(0)) {
+        match read_command(self.alloc, words.rest(0), self.next) {
             Ok(command) => {
-                let prepared = self.prepare(now, &command, out);
+                let prepared = self.prepare(now, command, out);
                 self.commit(prepared);
             }
             Err(fault) => self.refuse(now, words, &fault, out),
@@ -124,19 +124,14 @@ impl Engine {
     }
 
     /// Prepares what is asked at a moment, and writes the reply. Nothing is seen of it yet.
-    pub fn prepare<'a>(
-        &mut self,
-        now: u64,
-        command: &Command<'a>,
-        out: &mut Vec<u8>,
-    ) -> Prepared<'a>
-        requires asked { IsAsked (command_of command.now) }
+    pub fn prepare<'a>(&mut self, now: u64, command: Command<'a>, out: &mut Vec<u8>) -> Prepared<'a>
+        requires asked { IsAsked (command_of command) }
         requires empty { out.old.items ≡ [] }
         requires room { 64 ≤ vec_capacity out.old }
         requires free { self.old.pending ≡ false }
 
         // A commit makes this a step of the machine, at this event's number.
-        ensures answer { At self.old.next now (Does (command_of command.now) self.old.next)
+        ensures answer { At self.old.next now (Does (command_of command.entry) self.old.next)
             self.old.state out.new.items (committed result self.new) }
         ensures writes { IsTrue (is_change result.change) → committed result self.new ≢ abandoned result self.new }
         ensures state { self.new.state ≡ self.old.state }
@@ -199,7 +194,7 @@ impl Engine {
     /// Refuses a command for its words, in an event of its own, and writes why. It takes no memory.
     pub fn refuse(&mut self, now: u64, words: Words<'_>, fault: &CmdFault, out: &mut Vec<u8>)
         requires some { 0 < length words }
-        requires fault { read words ≡ Err fault.now }
+        requires fault { IsReading self.old.next words (Err fault.now) }
         requires empty { out.old.items ≡ [] }
         requires room { 64 ≤ vec_capacity out.old }
         requires free { self.old.pending ≡ false }

@@ -5,7 +5,9 @@ ghost use Rattle.cmd_parse.specs.declared.command.Verb.TheVariants.{Hdel};
 ghost use Rattle.ft_base.specs.Space.{doc_of};
 ghost use Rattle.ft_engine.specs.Machine.{State, hash_in};
 ghost use Rattle.ft_engine.specs.Preparing.{IsReady, changed};
-ghost use Rattle.ft_engine.specs.Stands.{InStep, definitions_of, state_of};
+ghost use Rattle.indexed_store.specs.Standing.{InStep};
+ghost use Rattle.indexed_store.specs.Definitions.{definitions_of};
+ghost use Rattle.ft_engine.specs.Stands.{state_of};
 ghost use Rattle.ft_engine.specs.Step.{Does};
 ghost use Rattle.ft_engine.specs.Writes.{fields_gone, without_fields};
 
@@ -13,10 +15,10 @@ use crate::prepared::Change;
 use crate::reads::put_number;
 use crate::short_reply::{SHORT_REPLY, put_no_memory};
 use crate::versions::left_of;
-use crate::writes::prepare_hash;
 use ft_base::{NoMemory, Words};
 use ft_index::FtIndex;
 use hash_store::HashStore;
+use indexed_store::prepare_hash;
 use std::alloc::Global;
 
 /// Prepares HDEL, and writes the reply.
@@ -65,8 +67,7 @@ fn take_fields<'a>(
 ) -> Result<(Change<'a>, usize), NoMemory>
     requires kept { InStep store.old indexes.old id }
     ensures change { IfOk result (λ made. (state : State) → state.space ≡ store.old.space
-        → changed made.0 store.new.ready state
-        ≡ record state { space = fields_gone state.space key.now fields.now id }) }
+        → changed made.0 store.new.ready state ≡ fields_gone key.now fields.now id state) }
     ensures gone { IfOk result (λ made. made.1 ≡ length (hash_in (doc_of store.old.space key.now))
         - length (without_fields (hash_in (doc_of store.old.space key.now)) fields.now)) }
     ensures ready { IfOk result (λ made. IsReady made.0 id store.new.space store.new.ready indexes.new) }

@@ -8,18 +8,21 @@ ghost use Rattle.ft_base.specs.Number.{int_of};
 ghost use Rattle.ft_base.specs.Space.{doc_of};
 ghost use Rattle.ft_engine.specs.Asking.{AreWords, third};
 ghost use Rattle.ft_engine.specs.Machine.{hash_in};
-ghost use Rattle.ft_engine.specs.Preparing.{IsReady, Waits, changed};
-ghost use Rattle.ft_engine.specs.Stands.{InStep, definitions_of, state_of};
+ghost use Rattle.ft_engine.specs.Preparing.{IsReady, changed};
+ghost use Rattle.indexed_store.specs.Writing.{Waits};
+ghost use Rattle.indexed_store.specs.Standing.{InStep};
+ghost use Rattle.indexed_store.specs.Definitions.{definitions_of};
+ghost use Rattle.ft_engine.specs.Stands.{state_of};
 ghost use Rattle.ft_engine.specs.Step.{Does};
 
 use crate::prepared::Change;
 use crate::reads::put_signed;
 use crate::short_reply::{SHORT_REPLY, put_fault, put_no_memory};
 use crate::versions::{copy_of, number_of};
-use crate::writes::prepare_hash;
 use ft_base::{Bytes, NoMemory, Words, read_int};
 use ft_index::FtIndex;
 use hash_store::{HashStore, ReadyPut};
+use indexed_store::prepare_hash;
 use itoa::Buffer;
 use std::alloc::Global;
 

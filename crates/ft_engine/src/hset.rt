@@ -5,8 +5,11 @@ ghost use Rattle.cmd_parse.specs.declared.command.Verb.TheVariants.{Hset, Hsetnx
 ghost use Rattle.ft_base.specs.Space.{doc_of};
 ghost use Rattle.ft_engine.specs.Asking.{AreWords};
 ghost use Rattle.ft_engine.specs.Machine.{hash_in};
-ghost use Rattle.ft_engine.specs.Preparing.{IsReady, Waits, changed};
-ghost use Rattle.ft_engine.specs.Stands.{InStep, definitions_of, state_of};
+ghost use Rattle.ft_engine.specs.Preparing.{IsReady, changed};
+ghost use Rattle.indexed_store.specs.Writing.{Waits};
+ghost use Rattle.indexed_store.specs.Standing.{InStep};
+ghost use Rattle.indexed_store.specs.Definitions.{definitions_of};
+ghost use Rattle.ft_engine.specs.Stands.{state_of};
 ghost use Rattle.ft_engine.specs.Step.{Does};
 ghost use Rattle.ft_engine.specs.Writes.{set_pairs};
 
@@ -14,10 +17,10 @@ use crate::prepared::Change;
 use crate::reads::{hexists, put_number};
 use crate::short_reply::{SHORT_REPLY, put_no_memory};
 use crate::versions::{copy_of, set_pairs};
-use crate::writes::prepare_hash;
 use ft_base::{NoMemory, Words};
 use ft_index::FtIndex;
 use hash_store::{HashStore, ReadyPut};
+use indexed_store::prepare_hash;
 use std::alloc::Global;
 
 /// Prepares HSET, and writes the reply.

@@ -6,13 +6,12 @@
 #![tactic(auto)]
 
 mod changes;
-mod definitions;
 mod engine;
-mod filling;
 mod hdel;
 mod hincrby;
 mod hset;
-mod indexes;
+mod index_commands;
+mod index_reads;
 mod ping;
 mod plain;
 mod prepared;
@@ -26,7 +25,6 @@ mod step;
 #[cfg(test)]
 mod tests;
 mod versions;
-mod writes;
 
 /// The state of the server, and its events.
 pub use engine::Engine;

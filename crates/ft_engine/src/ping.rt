@@ -2,7 +2,7 @@
 ghost use Rattle.std.specs.Prelude.{◌≡◌, ◌≤◌, ◌⊎◌, ◌++◌, [], vec_capacity, OnOk, OnErr};
 ghost use Rattle.ft_base.specs.Reply.{spelling};
 ghost use Rattle.ft_base.specs.declared.reply.Reply.TheVariants.{Bulk};
-ghost use Rattle.ft_engine.specs.Step.{out_of_memory};
+ghost use Rattle.ft_engine.specs.Refusals.{out_of_memory};
 
 use crate::short_reply::{SHORT_REPLY, put_no_memory};
 use ft_base::{Bytes, NoMemory, Reply, put_reply};

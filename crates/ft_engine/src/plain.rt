@@ -5,12 +5,16 @@ ghost use Rattle.cmd_parse.specs.Read.{Plain};
 ghost use Rattle.ft_engine.specs.Asking.{AreWords, IsRead};
 ghost use Rattle.ft_engine.specs.Machine.{State};
 ghost use Rattle.ft_engine.specs.Preparing.{IsReady, changed};
-ghost use Rattle.ft_engine.specs.Stands.{InStep, definitions_of, state_of};
+ghost use Rattle.indexed_store.specs.Standing.{InStep};
+ghost use Rattle.indexed_store.specs.Definitions.{definitions_of};
+ghost use Rattle.ft_engine.specs.Stands.{state_of};
 ghost use Rattle.ft_engine.specs.Step.{Does};
 
 use crate::hdel::hdel;
 use crate::hincrby::hincrby;
 use crate::hset::{hset, hsetnx};
+use crate::index_commands::drop_named;
+use crate::index_reads::{answer_tag_vals, names_of_indexes};
 use crate::ping::answer_say;
 use crate::prepared::Change;
 use crate::reads::{
@@ -62,6 +66,15 @@ pub fn prepare_plain<'a>(
         Verb::Rename => rename(store, indexes, alloc, number, args, out),
         Verb::Del => del(store, ids, args, out),
         Verb::Flushall => flush(store, indexes, out),
+        Verb::DropIndex => drop_named(indexes, args, out),
+        Verb::ListIndexes => {
+            put_made(names_of_indexes(indexes, alloc), out);
+            Change::Nothing
+        }
+        Verb::TagVals => {
+            answer_tag_vals(store, indexes, alloc, args, out);
+            Change::Nothing
+        }
         _ => {
             answer_plain(store, alloc, verb, args, out);
             Change::Nothing

@@ -37,6 +37,12 @@ pub(crate) enum Change<'a> {
     EraseKeys(Words<'a>),
     /// The index goes last.
     Create(FtIndex),
+    /// The index takes the place of the one of its name.
+    Alter(FtIndex),
+    /// The index of this name is gone.
+    Drop(&'a [u8]),
+    /// The same, and the documents that are its members.
+    DropMembers(&'a [u8]),
     /// All documents and indexes are gone.
     Flush,
 }

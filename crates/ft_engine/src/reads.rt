@@ -9,7 +9,8 @@ ghost use Rattle.ft_base.specs.declared.reply.Reply.TheVariants.{Array, Line, Nu
 ghost use Rattle.ft_engine.specs.Asking.{first};
 ghost use Rattle.ft_engine.specs.Reads.{in_turn, kind_of, names, one_if, present, value_reply, values};
 ghost use Rattle.ft_engine.specs.Machine.{hash_in};
-ghost use Rattle.ft_engine.specs.Step.{Told, out_of_memory};
+ghost use Rattle.ft_engine.specs.Refusals.{out_of_memory};
+ghost use Rattle.ft_engine.specs.Step.{Told};
 
 use crate::short_reply::{SHORT_REPLY, put_no_memory, put_short};
 use ft_base::{Bytes, HashRec, ListOf, NoMemory, Reply, Words, put_reply};

@@ -1,14 +1,15 @@
 //! Replies to words that ask nothing. They take no memory.
-ghost use Rattle.std.specs.Prelude.{◌≡◌, ◌≤◌, ◌+◌, ◌++◌, [], codes, length, vec_capacity};
+ghost use Rattle.std.specs.Prelude.{◌≡◌, ◌≤◌, ◌+◌, ◌++◌, [], length, vec_capacity};
 ghost use Rattle.std.specs.Fmt.{decimal};
 ghost use Rattle.ft_base.specs.Reply.{spelling};
 ghost use Rattle.ft_base.specs.declared.reply.Reply.TheVariants.{Fault};
 ghost use Rattle.cmd_parse.specs.declared.command.CmdFault.TheVariants.{Arity};
-ghost use Rattle.ft_engine.specs.Step.{refusal};
+ghost use Rattle.ft_engine.specs.Refusals.{refusal, schema_refusal};
 ghost use Rattle.token_text.specs.Tokens.{lowered};
 
-use crate::short_reply::{SHORT_REPLY, put_fault, put_short};
+use crate::short_reply::{SHORT_REPLY, put_fault, put_no_memory, put_short};
 use cmd_parse::CmdFault;
+use ft_schema::SchemaFault;
 use itoa::Buffer;
 
 /// Writes why the words of a command of this name ask nothing.
@@ -22,10 +23,12 @@ pub fn put_refusal(name: &[u8], fault: CmdFault, out: &mut Vec<u8>)
     match fault {
         CmdFault::Unknown => put_fault(out, b"ERR unknown command"),
         CmdFault::Arity => put_arity(name, out),
-        CmdFault::Syntax { at } => put_syntax(at, out),
+        CmdFault::Syntax { at } => put_at(b"ERR syntax error at word ", at, out),
         CmdFault::NotInteger => put_fault(out, b"ERR value is not an integer or out of range"),
         CmdFault::BadDb => put_fault(out, b"ERR DB index is out of range"),
         CmdFault::NotBuilt => put_fault(out, b"ERR not built"),
+        CmdFault::Schema(fault) => put_schema_refusal(fault, out),
+        CmdFault::NoMemory => put_no_memory(out),
     }
 }
 
@@ -53,15 +56,35 @@ fn put_lowered(out: &mut Vec<u8>, word: &[u8])
     }
 }
 
-/// Writes which word fits no form of the command.
-fn put_syntax(at: u32, out: &mut Vec<u8>)
+/// Writes why words are no schema.
+pub fn put_schema_refusal(fault: SchemaFault, out: &mut Vec<u8>)
     requires empty { out.old.items ≡ [] }
     requires room { SHORT_REPLY ≤ vec_capacity out.old }
-    ensures fault { out.new.items ≡ spelling (Fault (codes "ERR syntax error at word " ++ decimal at)) }
+    ensures fault { out.new.items ≡ spelling (Fault (schema_refusal fault)) }
+    ensures room { vec_capacity out.old ≤ vec_capacity out.new }
+{
+    match fault {
+        SchemaFault::BadOption { at } => put_at(b"ERR bad option at word ", at, out),
+        SchemaFault::BadKind { at } => put_at(b"ERR bad field type at word ", at, out),
+        SchemaFault::DuplicateField { at } => put_at(b"ERR duplicate field at word ", at, out),
+        SchemaFault::TooManyFields { at } => put_at(b"ERR too many fields at word ", at, out),
+        SchemaFault::BadNumber { at } => put_at(b"ERR bad number at word ", at, out),
+        SchemaFault::OutOfScope { at } => put_at(b"ERR not supported at word ", at, out),
+        SchemaFault::NoMemory => put_no_memory(out),
+    }
+}
+
+/// Writes a text and a word's number behind it.
+fn put_at(text: &[u8], at: u32, out: &mut Vec<u8>)
+    requires text { length text.now ≤ 40 }
+    requires empty { out.old.items ≡ [] }
+    requires room { SHORT_REPLY ≤ vec_capacity out.old }
+    ensures fault { out.new.items ≡ spelling (Fault (text.now ++ decimal at)) }
     ensures room { vec_capacity out.old ≤ vec_capacity out.new }
 {
     let mut buffer = Buffer::new();
-    put_short(out, b"-ERR syntax error at word ");
+    put_short(out, b"-");
+    put_short(out, text);
     put_short(out, buffer.format(at).as_bytes());
     put_short(out, b"\r\n");
 }

@@ -9,12 +9,12 @@ ghost use Rattle.cmd_parse.specs.declared.command.Verb.TheVariants.{Del, Flushal
 ghost use Rattle.ft_engine.specs.Counting.{ids_of};
 ghost use Rattle.ft_engine.specs.Machine.{State};
 ghost use Rattle.ft_engine.specs.Preparing.{IsReady, changed};
-ghost use Rattle.ft_engine.specs.Stands.{InStep, definitions_of};
+ghost use Rattle.indexed_store.specs.Standing.{InStep};
+ghost use Rattle.indexed_store.specs.Definitions.{definitions_of};
 ghost use Rattle.ft_engine.specs.Step.{Does};
-ghost use Rattle.ft_engine.specs.Writes.{without_keys};
+ghost use Rattle.indexed_store.specs.Removing.{without_keys};
 ghost use Rattle.ft_index.specs.Index.{Index};
 
-use crate::indexes::kill_all;
 use crate::prepared::Change;
 use crate::reads::put_number;
 use crate::short_reply::{SHORT_REPLY, put_no_memory, put_short};
@@ -104,26 +104,4 @@ fn note_ids(store: &HashStore, ids: &mut Vec<u64>, keys: &Words<'_>) -> Result<(
         }
     }
     Ok(())
-}
-
-/// Takes the documents of the keys out.
-pub fn remove_all(store: &mut HashStore, indexes: &mut [FtIndex], keys: &Words<'_>)
-    ensures space { store.new.space ≡ without_keys store.old.space keys.now }
-    ensures kept { (next : ℕ) → InStep store.old indexes.old next → InStep store.new indexes.new next }
-    ensures definitions { definitions_of indexes.new ≡ definitions_of indexes.old }
-{
-    for i in 0..keys.len() {
-        remove(store, indexes, keys.word(i));
-    }
-}
-
-/// Takes a key's document out of the store and of each index.
-pub fn remove(store: &mut HashStore, indexes: &mut [FtIndex], key: &[u8])
-    ensures space { store.new.space ≡ erase store.old.space key.now }
-    ensures kept { (next : ℕ) → InStep store.old indexes.old next → InStep store.new indexes.new next }
-    ensures definitions { definitions_of indexes.new ≡ definitions_of indexes.old }
-{
-    if let Some(id) = store.erase(key) {
-        kill_all(indexes, id);
-    }
 }

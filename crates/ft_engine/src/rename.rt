@@ -4,18 +4,21 @@ ghost use Rattle.cmd_parse.specs.Read.{Plain};
 ghost use Rattle.cmd_parse.specs.declared.command.Verb.TheVariants.{Rename};
 ghost use Rattle.ft_base.specs.Space.{doc_of};
 ghost use Rattle.ft_engine.specs.Machine.{hash_in};
-ghost use Rattle.ft_engine.specs.Preparing.{IsReady, Waits, changed};
-ghost use Rattle.ft_engine.specs.Stands.{InStep, definitions_of, state_of};
+ghost use Rattle.ft_engine.specs.Preparing.{IsReady, changed};
+ghost use Rattle.indexed_store.specs.Writing.{Waits};
+ghost use Rattle.indexed_store.specs.Standing.{InStep};
+ghost use Rattle.indexed_store.specs.Definitions.{definitions_of};
+ghost use Rattle.ft_engine.specs.Stands.{state_of};
 ghost use Rattle.ft_engine.specs.Step.{Does};
 
 use crate::prepared::Change;
 use crate::reads::is_there;
 use crate::short_reply::{SHORT_REPLY, put_fault, put_no_memory, put_short};
 use crate::versions::copy_of;
-use crate::writes::prepare_hash;
 use ft_base::{NoMemory, Words};
 use ft_index::FtIndex;
 use hash_store::{HashStore, ReadyPut};
+use indexed_store::prepare_hash;
 use std::alloc::Global;
 
 /// Prepares RENAME, and writes the reply.

@@ -2,7 +2,7 @@
 ghost use Rattle.std.specs.Prelude.{◌≡◌, ◌++◌, ◌+◌, ◌≤◌, [], length, vec_capacity};
 ghost use Rattle.ft_base.specs.Reply.{spelling};
 ghost use Rattle.ft_base.specs.declared.reply.Reply.TheVariants.{Fault};
-ghost use Rattle.ft_engine.specs.Step.{out_of_memory};
+ghost use Rattle.ft_engine.specs.Refusals.{out_of_memory};
 
 /// The room that a reply's buffer has at the least, in bytes.
 pub const SHORT_REPLY: usize = 64;

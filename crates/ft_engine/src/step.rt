@@ -3,10 +3,12 @@ ghost use Rattle.std.specs.Prelude.{◌≡◌, ◌<◌, ◌≤◌, ◌+◌, ◌^
 ghost use Rattle.cmd_parse.specs.Read.{command_of};
 ghost use Rattle.ft_engine.specs.Asking.{IsAsked};
 ghost use Rattle.ft_engine.specs.Preparing.{IsReady, changed};
-ghost use Rattle.ft_engine.specs.Stands.{InStep, definitions_of, state_of};
+ghost use Rattle.indexed_store.specs.Standing.{InStep};
+ghost use Rattle.indexed_store.specs.Definitions.{definitions_of};
+ghost use Rattle.ft_engine.specs.Stands.{state_of};
 ghost use Rattle.ft_engine.specs.Step.{Does};
 
-use crate::definitions::create;
+use crate::index_commands::{alter, create};
 use crate::plain::prepare_plain;
 use crate::prepared::Change;
 use crate::removals::MOST_COUNTED;
@@ -24,16 +26,16 @@ pub fn prepare_command<'a>(
     ids: &mut Vec<u64>,
     alloc: Global,
     number: u64,
-    command: &Command<'a>,
+    command: Command<'a>,
     out: &mut Vec<u8>,
 ) -> Change<'a>
     requires kept { InStep store.old indexes.old number }
     requires number { number < 2 ^ 62 }
     requires ids { MOST_COUNTED ≤ vec_capacity ids.old }
-    requires asked { IsAsked (command_of command.now) }
+    requires asked { IsAsked (command_of command) }
     requires empty { out.old.items ≡ [] }
     requires room { SHORT_REPLY ≤ vec_capacity out.old }
-    ensures does { (latest : ℕ) → Does (command_of command.now) number
+    ensures does { (latest : ℕ) → Does (command_of command.entry) number
         (state_of store.old indexes.old latest) out.new.items
         (changed result store.new.ready (state_of store.old indexes.old latest)) }
     ensures space { store.new.space ≡ store.old.space }
@@ -45,10 +47,11 @@ pub fn prepare_command<'a>(
 {
     match command {
         Command::Plain { verb, args } => {
-            prepare_plain(store, indexes, ids, alloc, number, *verb, args, out)
+            prepare_plain(store, indexes, ids, alloc, number, verb, &args, out)
         }
-        Command::CreateText { index, field } => {
-            create(store, indexes, alloc, number, index, field, out)
+        Command::Create(def) => create(store, indexes, alloc, number, def.into_inner(), out),
+        Command::Alter { index, fields } => {
+            alter(store, indexes, alloc, number, index, &fields, out)
         }
         Command::SearchWord { index, word } => {
             answer_search(indexes, alloc, index, word, out);

@@ -7,6 +7,7 @@ ghost use Rattle.ft_base.specs.Words.{KeepsLimits, LieIn, words_of};
 mod compared;
 mod events;
 mod hashes;
+mod indexes;
 
 use crate::Engine;
 use ft_base::{NoMemory, Span, Words};
@@ -185,9 +186,8 @@ fn refuses_by_the_words_alone(rt: HostRuntime) -> Result<(), Fail> {
         ("HINCRBY|k|f|+1", integer),
         ("SELECT|1", "-ERR DB index is out of range\r\n"),
         ("QUITE", unknown),
-        ("FT._LIST", not_built),
-        ("FT.CREATE|ix|SCHEMA|t", not_built),
-        ("FT.CREATE|ix|SCHEMA|t|TAG", not_built),
+        ("FT.INFO|ix", not_built),
+        ("FT.AGGREGATE", not_built),
         ("FT.SEARCH|ix|hello|WITHSCORES", not_built),
         ("FT.SEARCH|ix|hello-world|NOCONTENT", not_built),
         ("NOPE", unknown),

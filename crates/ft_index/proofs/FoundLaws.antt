@@ -1,5 +1,5 @@
 -- The keys of a word's live entries are those of the documents that the word finds.
-use Rattle.std.specs.Prelude.{◌≡◌, ◌<◌, ℕ, suc, Bool, true, false, cond, ◌||◌, List, [], ◌∷◌, ◌++◌, Option, None, Some, nat_eq, map, refl}
+use Rattle.std.specs.Prelude.{◌≡◌, ◌<◌, ℕ, suc, Bool, true, false, cond, ◌||◌, List, [], ◌∷◌, ◌++◌, Option, None, Some, nat_eq, filter, map, refl}
 use Rattle.std.proofs.Common.{sym, ap, ◌∙◌, subst, inl, inr, arith}
 use Rattle.std.specs.List.{AllByRecursion, list_any}
 use Rattle.std.specs.Map.{lookup}
@@ -9,6 +9,7 @@ use Rattle.ft_base.specs.declared.definition.Field.{Field}
 use Rattle.ft_base.specs.declared.definition.IndexDef.{IndexDef}
 use Rattle.ft_base.specs.declared.doc.Doc.{Doc}
 use Rattle.ft_meaning.specs.Meaning.{field_tokens, found, has_word, holds_word}
+use Rattle.ft_meaning.specs.Member.{members}
 use Rattle.inverted_list.specs.Listing.{RisesAbove}
 use Rattle.posting_block.specs.declared.hits.TextHit.{TextHit}
 use Rattle.token_text.specs.declared.token.Token.{Token}
@@ -52,14 +53,18 @@ holds-from def word doc number (field ∷ fields) =
 holds-codes : (def : IndexDef) (word : List ℕ) (doc : Doc) → holds_word def word doc ≡ some (codes def word doc)
 holds-codes def word doc = holds-from def word doc 0 def.fields
 
+-- the documents among some that have a word
+abbrev having : IndexDef → List ℕ → List Doc → List Doc
+having def word docs = filter (holds_word def word) docs
+
 keys-found : (live : List (ℕ × List ℕ)) (def : IndexDef) (word : List ℕ) (docs : List Doc) → AllByRecursion (λ (doc : Doc). lookup (nat_eq doc.id) live ≡ Some doc.key) docs
-    → live_keys live (hits def word docs) ≡ map (λ (doc : Doc). doc.key) (found def word docs)
+    → live_keys live (hits def word docs) ≡ map (λ (doc : Doc). doc.key) (having def word docs)
 keys-found live def word [] each = refl
 keys-found live def word (doc ∷ docs) each =
     by_codes (codes def word doc) (holds-codes def word doc) (keys-found live def word docs each.1)
   where
-    by_codes : (cs : List ℕ) → holds_word def word doc ≡ some cs → live_keys live (hits def word docs) ≡ map (λ (doc : Doc). doc.key) (found def word docs)
-        → live_keys live (entry doc.id cs ++ hits def word docs) ≡ map (λ (doc : Doc). doc.key) (cond (holds_word def word doc) (doc ∷ found def word docs) (found def word docs))
+    by_codes : (cs : List ℕ) → holds_word def word doc ≡ some cs → live_keys live (hits def word docs) ≡ map (λ (doc : Doc). doc.key) (having def word docs)
+        → live_keys live (entry doc.id cs ++ hits def word docs) ≡ map (λ (doc : Doc). doc.key) (cond (holds_word def word doc) (doc ∷ having def word docs) (having def word docs))
     by_codes [] holds others = rw holds others
     by_codes (code ∷ cs) holds others = rw (holds, each.0) (ap (λ rest. doc.key ∷ rest) others)
 
@@ -93,7 +98,8 @@ keys-alive live (e ∷ es) = by_key (lookup (nat_eq e.0) live) refl (keys-alive 
 pub live_keys-found : (index : Index) (docs : List Doc) (word : List ℕ) → Indexes index docs → RisesAbove 0 index.table.live
     → live_keys index.table.live (entries_of index.terms word) ≡ map (λ (doc : Doc). doc.key) (found index.def word docs)
 live_keys-found index docs word stands rises =
-    let rows : RisesAbove 0 (map row_of docs) = subst (RisesAbove 0) stands.live rises in
-    let each = subst (λ (live : List (ℕ × List ℕ)). AllByRecursion (λ (doc : Doc). lookup (nat_eq doc.id) live ≡ Some doc.key) docs) (sym stands.live) (seconds 0 (map row_of docs) docs (rows-found 0 docs rows)) in
+    let has = members index.def docs in
+    let rows : RisesAbove 0 (map row_of has) = subst (RisesAbove 0) stands.live rises in
+    let each = subst (λ (live : List (ℕ × List ℕ)). AllByRecursion (λ (doc : Doc). lookup (nat_eq doc.id) live ≡ Some doc.key) has) (sym stands.live) (seconds 0 (map row_of has) has (rows-found 0 has rows)) in
     keys-alive index.table.live (entries_of index.terms word)
-    ∙ (ap (live_keys index.table.live) (stands.words word) ∙ keys-found index.table.live index.def word docs each)
+    ∙ (ap (live_keys index.table.live) (stands.words word) ∙ keys-found index.table.live index.def word has each)

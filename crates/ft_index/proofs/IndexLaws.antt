@@ -13,13 +13,15 @@ use Rattle.posting_block.specs.declared.hits.TextHit.{TextHit}
 use Rattle.term_dict.specs.Terms.{Lists, entries_of}
 use Rattle.ft_index.specs.Collected.{GrowBy}
 use Rattle.ft_index.specs.Hits.{codes, entry, hits}
-use Rattle.ft_index.specs.Index.{Index, Indexes, IsIndex, commits, committed}
+use Rattle.ft_index.specs.Entering.{awaiting}
+use Rattle.ft_index.specs.Index.{Has, Index, commits}
+use Rattle.ft_index.specs.Kept.{AreKept}
 use Rattle.ft_index.specs.Live.{alive, has_id, without}
 use Rattle.ft_index.proofs.LiveLaws.{has_id-above, alive-unseen, alive-seen, hits-append, alive-killed, hits-without, row_of, rows-without, is_other}
 
 -- An index whose lists grew by entries of an id that is not live stands for the documents that it stood for.
 pub unseen : (old new : Index) (id : ℕ) (docs : List Doc) → new.def ≡ old.def → new.table.live ≡ old.table.live → GrowBy id old.terms new.terms
-    → IsIndex old → old.table.last < id → Indexes old docs → Indexes new docs
+    → AreKept old.table old.terms → old.table.last < id → Has old docs → Has new docs
 unseen old new id docs same_def same_live grown index later stands =
     let dead : has_id old.table.live id ≡ false = has_id-above 0 id old.table.live index.rise (omega (arith, index.end, later)) in
     record {
@@ -31,20 +33,16 @@ unseen old new id docs same_def same_live grown index later stands =
           ∙ (stands.words word ∙ ap (λ (def : IndexDef). hits def word docs) (sym same_def))));
     }
 
--- the table that a document was prepared in
-abbrev pub awaiting : Doc → Table → Table
-awaiting doc table = record table { ready = Some (doc.id, doc.key); last = doc.id }
-
--- Once the document is live, the index stands for it too.
-pub seen : (old new : Index) (doc : Doc) (docs : List Doc) → new.def ≡ old.def → new.table ≡ awaiting doc old.table
-    → ((word : List ℕ) → entries_of new.terms word ≡ entries_of old.terms word ++ entry doc.id (codes old.def word doc))
-    → IsIndex old → old.table.last < doc.id → Indexes old docs → Indexes (committed new) (docs ++ doc ∷ [])
-seen old new doc docs same_def table entries index later stands =
-    let live : (committed new).table.live ≡ old.table.live ++ (doc.id, doc.key) ∷ [] = ap (λ (t : Table). (commits t.ready t).live) table in
+-- Once the document that waits in a table is live, the index has it too.
+pub seen : (old now : Index) (table : Table) (doc : Doc) (docs : List Doc) → now.def ≡ old.def → table ≡ awaiting doc old.table → now.table ≡ commits table.ready table
+    → ((word : List ℕ) → entries_of now.terms word ≡ entries_of old.terms word ++ entry doc.id (codes old.def word doc))
+    → AreKept old.table old.terms → old.table.last < doc.id → Has old docs → Has now (docs ++ doc ∷ [])
+seen old now table doc docs same_def waits is entries index later stands =
+    let live : now.table.live ≡ old.table.live ++ (doc.id, doc.key) ∷ [] = ap (λ (t : Table). t.live) is ∙ ap (λ (t : Table). (commits t.ready t).live) waits in
     record {
       live = live ∙ (ap (λ (rows : List (ℕ × List ℕ)). rows ++ (doc.id, doc.key) ∷ []) stands.live ∙ sym (map-append row_of docs (doc ∷ [])));
       words = λ word.
-          ap (λ (rows : List (ℕ × List ℕ)). alive rows (entries_of new.terms word)) live
+          ap (λ (rows : List (ℕ × List ℕ)). alive rows (entries_of now.terms word)) live
           ∙ (ap (alive (old.table.live ++ (doc.id, doc.key) ∷ [])) (entries word)
           ∙ (alive-seen old.table.live (entries_of old.terms word) doc.id doc.key (codes old.def word doc) (index.lists.rise word) (omega (arith, index.lists.end word, later))
           ∙ (ap (λ (es : List (ℕ × TextHit)). es ++ entry doc.id (codes old.def word doc)) (stands.words word)
@@ -53,7 +51,7 @@ seen old new doc docs same_def table entries index later stands =
 
 -- Where an id is taken out, its document is gone, and the entries that it leaves are dead.
 pub gone : (old new : Index) (id : ℕ) (docs : List Doc) → new.def ≡ old.def → new.terms ≡ old.terms → new.table.live ≡ remove_entry (nat_eq id) old.table.live
-    → IsIndex old → Indexes old docs → Indexes new (without id docs)
+    → AreKept old.table old.terms → Has old docs → Has new (without id docs)
 gone old new id docs same_def same_terms live index stands =
     let rises : RisesAbove 0 (map row_of docs) = subst (RisesAbove 0) stands.live index.rise in
     record {
@@ -91,9 +89,8 @@ last-removed low id (row ∷ rows) rises =
     ]
 
 -- what holds of every index goes on holding where an id is taken out
-pub index-gone : (def : IndexDef) (table : Table) (terms : Lists TextHit) (id : ℕ) → IsIndex (record { def = def; table = table; terms = terms })
-    → IsIndex (record { def = def; table = record table { live = remove_entry (nat_eq id) table.live }; terms = terms })
-index-gone def table terms id index =
+pub kept-gone : (table : Table) (terms : Lists TextHit) (id : ℕ) → AreKept table terms → AreKept (record table { live = remove_entry (nat_eq id) table.live }) terms
+kept-gone table terms id index =
     let less = last-removed 0 id table.live index.rise in
     record {
       rise = rises-removed 0 id table.live index.rise;
@@ -117,14 +114,12 @@ last-push low row [] = refl
 last-push low row (first ∷ rows) = last-push first.0 row rows
 
 -- and where the document that waits becomes live
-pub index-committed : (def : IndexDef) (table : Table) (terms : Lists TextHit) → IsIndex (record { def = def; table = table; terms = terms })
-    → IsIndex (committed (record { def = def; table = table; terms = terms }))
-index-committed def table terms index = by_ready table.ready index.waits refl
+pub kept-committed : (table : Table) (terms : Lists TextHit) → AreKept table terms → AreKept (commits table.ready table) terms
+kept-committed table terms index = by_ready table.ready index.waits
   where
-    by_ready : (ready : Option (ℕ × List ℕ)) → IfSome ready (λ row. (last_id 0 table.live < row.0) × (row.0 ≤ table.last)) → table.ready ≡ ready
-        → IsIndex (record { def = def; table = commits ready table; terms = terms })
-    by_ready None waits same = index
-    by_ready (Some row) waits same = record {
+    by_ready : (ready : Option (ℕ × List ℕ)) → IfSome ready (λ row. (last_id 0 table.live < row.0) × (row.0 ≤ table.last)) → AreKept (commits ready table) terms
+    by_ready None waits = index
+    by_ready (Some row) waits = record {
       rise = rises-push 0 row table.live index.rise waits.0;
       end = rw (last-push 0 row table.live) waits.1;
       waits = tt;

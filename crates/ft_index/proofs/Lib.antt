@@ -1,7 +1,9 @@
 pub mod AddingLaws
 pub mod CollectedLaws
 pub mod FoundLaws
+pub mod GainsLaws
 pub mod HitsLaws
 pub mod IndexLaws
+pub mod MemberLaws
 pub mod LiveLaws
 pub mod TermsLaws

@@ -10,7 +10,7 @@ use Rattle.inverted_list.specs.declared.marker.Markers.{Markers}
 use Rattle.inverted_list.proofs.ReachLaws.{rises_push}
 use Rattle.posting_block.specs.declared.hits.TextHit.{TextHit}
 use Rattle.term_dict.specs.Terms.{Lists, Sets, list_of, entries_of, list_or_fresh, fresh_list}
-use Rattle.ft_index.specs.Index.{AreBefore, AreLists, IsBefore, MarkersDiffer}
+use Rattle.ft_index.specs.Kept.{AreBefore, AreLists, IsBefore, MarkersDiffer}
 
 -- the entries of a list that is there or new
 entries-or_fresh : (terms : Lists TextHit) (word : List ℕ) (markers : Markers) → (list_or_fresh terms word markers).entries ≡ entries_of terms word
@@ -68,11 +68,11 @@ apart_added old word other markers id hit l k differ before added there same =
           absurd (not_before markers (subst (IsBefore markers) (sym same ∙ fresh) earlier))
     ]
 
-sets-here : (old new : Lists TextHit) (word other : List ℕ) (list : Option (Listing TextHit)) (l : Listing TextHit) → Sets word list old new → bytes_eq word other ≡ true
+pub sets-here : (old new : Lists TextHit) (word other : List ℕ) (list : Option (Listing TextHit)) (l : Listing TextHit) → Sets word list old new → bytes_eq word other ≡ true
     → list_of new other ≡ Some l → list ≡ Some l
 sets-here old new word other list l sets here there = sym (cond-true (bytes_eq word other) list (list_of old other) here) ∙ (sym (sets other) ∙ there)
 
-sets-away : (old new : Lists TextHit) (word other : List ℕ) (list : Option (Listing TextHit)) (l : Listing TextHit) → Sets word list old new → bytes_eq word other ≡ false
+pub sets-away : (old new : Lists TextHit) (word other : List ℕ) (list : Option (Listing TextHit)) (l : Listing TextHit) → Sets word list old new → bytes_eq word other ≡ false
     → list_of new other ≡ Some l → list_of old other ≡ Some l
 sets-away old new word other list l sets away there = sym (cond-false (bytes_eq word other) list (list_of old other) away) ∙ (sym (sets other) ∙ there)
 

@@ -5,7 +5,7 @@ ghost use Rattle.inverted_list.specs.Listing.{last_id};
 ghost use Rattle.term_dict.specs.Terms.{entries_of};
 ghost use Rattle.ft_index.specs.Collected.{AreMet, GrowBy, codes_of};
 ghost use Rattle.ft_index.specs.Hits.{entry};
-ghost use Rattle.ft_index.specs.Index.{AreBefore, AreLists};
+ghost use Rattle.ft_index.specs.Kept.{AreBefore, AreLists, GainsMarkers};
 
 use crate::occurrences::WordCodes;
 use ft_base::NoMemory;
@@ -29,6 +29,7 @@ pub fn add_all(
     ensures some { GrowBy id terms.old terms.new }
     ensures lists { AreLists id terms.new }
     ensures before { AreBefore markers.new terms.new }
+    ensures gains { GainsMarkers terms.old terms.new markers.old markers.new }
     ensures event { markers.new.event ≡ markers.old.event }
     ensures next { markers.old.next ≤ markers.new.next }
 {
@@ -55,6 +56,7 @@ fn add(
     ensures err { OnErr result (terms.new ≡ terms.old) }
     ensures lists { AreLists id terms.new }
     ensures before { AreBefore markers.new terms.new }
+    ensures gains { GainsMarkers terms.old terms.new markers.old markers.new }
     ensures event { markers.new.event ≡ markers.old.event }
     ensures next { markers.old.next ≤ markers.new.next }
 {

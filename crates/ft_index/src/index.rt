@@ -1,14 +1,16 @@
 //! An index over its documents' ids: postings first, liveness last.
 ghost use Rattle.std.specs.Prelude.{◌≡◌, ◌<◌, ◌≤◌, ◌++◌, ◌∷◌, List, None, Some, [], nat_eq, length, IfOk, OnOk};
 ghost use Rattle.std.specs.Map.{remove_entry};
-ghost use Rattle.std.specs.Option.{option_map};
 ghost use Rattle.ft_base.specs.declared.doc.Doc.{Doc};
 ghost use Rattle.ft_meaning.specs.Meaning.{ValuesFit};
-ghost use Rattle.ft_index.specs.Index.{AreBefore, Indexes, IsIndex, committed};
+ghost use Rattle.ft_meaning.specs.Member.{most_failures, one_more};
+ghost use Rattle.ft_index.specs.Fits.{fit_of};
+ghost use Rattle.ft_index.specs.Index.{Indexes, IsIndex, committed};
+ghost use Rattle.ft_index.specs.Kept.{AreBefore, GainsMarkers};
 ghost use Rattle.ft_index.specs.Live.{has_id, without};
 
-use crate::adding::add_all;
-use crate::occurrences::occurrences;
+use crate::entering::enter;
+use crate::ready::{Fit, Ready, fit_of};
 use doc_table::DocTable;
 use ft_base::{Doc, IndexDef, NoMemory};
 use inverted_list::Markers;
@@ -16,11 +18,8 @@ use std::alloc::Global;
 use std::marker::Model;
 use term_dict::Terms;
 
-/// A document whose postings are in the lists, and that is not live yet.
-#[derive(Clone, Copy, Debug)]
-pub struct Ready {
-    pub id: u64,
-}
+/// How often a document that fails to be indexed is counted at the most.
+const MOST_FAILURES: u64 = 9_223_372_036_854_775_807;
 
 /// An index of documents by the words of their TEXT fields.
 #[derive(Drop)]
@@ -29,6 +28,8 @@ pub struct FtIndex {
     def: IndexDef,
     table: DocTable,
     terms: Terms,
+    waits: Option<Ready>,
+    failures: u64,
 }
 
 impl Model for FtIndex {
@@ -36,21 +37,37 @@ impl Model for FtIndex {
 
     ghost Value = { Index };
 
-    ghost view = { λ i. record { def = i.def; table = i.table; terms = i.terms } };
+    ghost view = { λ i. record {
+      def = i.def;
+      table = i.table;
+      terms = i.terms;
+      waits = i.waits;
+      failures = i.failures;
+    } };
 
     ghost use Rattle.ft_index.specs.Index.{IsIndex};
     ghost use Rattle.std.specs.Prelude.{◌≤◌, length};
 
-    ghost invariant = { λ i. IsIndex (record { def = i.def; table = i.table; terms = i.terms })
-        × (length i.def.fields ≤ 1_024) };
+    ghost invariant = { λ i. IsIndex (record {
+      def = i.def;
+      table = i.table;
+      terms = i.terms;
+      waits = i.waits;
+      failures = i.failures;
+    }) × (length i.def.fields ≤ 1_024) };
 }
 
 impl FtIndex {
     /// An index without documents. It takes no memory of its own.
     pub fn new(alloc: Global, def: IndexDef, markers: &mut Markers) -> Result<FtIndex, NoMemory>
         requires { length def.fields ≤ 1_024 }
-        ensures empty { IfOk result (λ index. index
-            ≡ record { def = def; table = record { live = []; ready = None; last = 0 }; terms = [] }) }
+        ensures empty { IfOk result (λ index. index ≡ record {
+          def = def;
+          table = record { live = []; ready = None; last = 0 };
+          terms = [];
+          waits = None;
+          failures = 0;
+        }) }
         ensures markers { markers.new ≡ markers.old }
     {
         Ok(FtIndex {
@@ -58,6 +75,8 @@ impl FtIndex {
             def,
             table: DocTable::new(alloc),
             terms: Terms::new(alloc),
+            waits: None,
+            failures: 0,
         })
     }
 
@@ -90,8 +109,31 @@ impl FtIndex {
         self.table.len() as u64
     }
 
-    /// Puts a document's postings into the lists, under an id that is not live. Where memory is
-    /// wanting some of them may have come, which are dead.
+    /// What the last `prepare` answered, until it is committed.
+    pub fn ready(&self) -> Option<Ready>
+        ensures { result ≡ self.now.waits }
+    {
+        self.waits
+    }
+
+    /// How often a document failed to be indexed. From 2^63 - 1 on it stays.
+    pub fn failures(&self) -> u64
+        ensures count { result ≡ self.now.failures }
+        ensures most { result ≤ most_failures }
+    {
+        self.failures
+    }
+
+    /// Goes on counting from here, as an index does that takes another one's place.
+    pub fn count_from(&mut self, failures: u64)
+        requires { failures ≤ most_failures }
+        ensures { self.new ≡ record self.old { failures = failures } }
+    {
+        self.failures = failures;
+    }
+
+    /// Tries a document, and puts the postings of a member into the lists, under an id that is not
+    /// live. Where memory is wanting some of them may have come, which are dead.
     pub fn prepare(&mut self, doc: &Doc, markers: &mut Markers) -> Result<Ready, NoMemory>
         requires id { self.old.table.last < doc.now.id }
         requires values { ValuesFit doc.now.hash }
@@ -100,29 +142,48 @@ impl FtIndex {
         ensures unseen { (docs : List Doc) → Indexes self.old docs → Indexes self.new docs }
         ensures live { self.new.table.live ≡ self.old.table.live }
         ensures def { self.new.def ≡ self.old.def }
-        // Once it is live, the index stands for it too.
-        ensures ready { IfOk result (λ ready. ready.id ≡ doc.now.id) }
-        ensures waits { OnOk result (self.new.table.ready ≡ Some (doc.now.id, doc.now.key)) }
+        ensures failures { self.new.failures ≡ self.old.failures }
+        // Once it is committed, the index stands for it too.
+        ensures ready { IfOk result (λ ready.
+            ready ≡ record { id = doc.now.id; fit = fit_of self.old.def doc.now }) }
+        ensures waits { IfOk result (λ ready. self.new.waits ≡ Some ready) }
         ensures seen { OnOk result ((docs : List Doc) → Indexes self.old docs
             → Indexes (committed self.new) (docs ++ doc.now ∷ [])) }
         ensures last { self.new.table.last ≤ doc.now.id }
         ensures sound { IsIndex self.new }
+        // Which markers its lists have.
         ensures before { AreBefore markers.new self.new.terms }
+        ensures gains { GainsMarkers self.old.terms self.new.terms markers.old markers.new }
         ensures event { markers.new.event ≡ markers.old.event }
         ensures next { markers.old.next ≤ markers.new.next }
     {
-        let found = occurrences(self.alloc, &self.def, doc)?;
-        self.table.prepare(doc.id, doc.key.as_slice())?;
-        add_all(&mut self.terms, found, doc.id, markers)?;
-        Ok(Ready { id: doc.id })
+        let fit = fit_of(&self.def, doc);
+        let ready = Ready { id: doc.id, fit };
+        match fit {
+            Fit::Member => self.waits = None,
+            Fit::NoPrefix | Fit::Failed => {
+                self.waits = Some(ready);
+                return Ok(ready);
+            }
+        }
+        let (def, alloc) = (&self.def, self.alloc);
+        enter(alloc, def, &mut self.table, &mut self.terms, doc, markers)?;
+        self.waits = Some(ready);
+        Ok(ready)
     }
 
-    /// The document that was prepared last becomes live. It takes no memory.
+    /// A member that was prepared last becomes live, and one that fails to be is counted. It takes no
+    /// memory.
     pub fn commit(&mut self, ready: Ready)
-        requires { option_map (λ row. row.0) self.old.table.ready ≡ Some ready.id }
+        requires { self.old.waits ≡ Some ready }
         ensures { self.new ≡ committed self.old }
     {
-        self.table.commit(ready.id);
+        self.waits = None;
+        match ready.fit {
+            Fit::Member => self.table.commit(ready.id),
+            Fit::NoPrefix => {}
+            Fit::Failed => self.failures = one_more(self.failures),
+        }
     }
 
     /// Takes a document out, and answers whether it was live. Its postings stay, and are dead. It
@@ -137,5 +198,17 @@ impl FtIndex {
         ensures docs { (docs : List Doc) → Indexes self.old docs → Indexes self.new (without id docs) }
     {
         self.table.kill(id)
+    }
+}
+
+/// The count with one failure more.
+fn one_more(failures: u64) -> u64
+    requires { failures ≤ most_failures }
+    ensures { result ≡ one_more failures }
+{
+    if failures < MOST_FAILURES {
+        failures + 1
+    } else {
+        MOST_FAILURES
     }
 }

@@ -8,10 +8,14 @@
 #![tactic(auto)]
 
 mod adding;
+mod entering;
 mod index;
 mod occurrences;
+mod ready;
 #[cfg(test)]
 mod tests;
 
 /// One index.
-pub use index::{FtIndex, Ready};
+pub use index::FtIndex;
+/// A document that was prepared, and how it fits the index.
+pub use ready::{Fit, Ready};

@@ -1,10 +1,11 @@
 //! Against mistakes that the check would pass: a call that always finds memory wanting, a condition
-//! that no caller can meet, codes that mean something else than a field and a place in it.
+//! that no caller can meet, codes that mean something else than a field and a place in it, and a
+//! document that is taken otherwise than RediSearch takes it.
 ghost use Rattle.std.specs.Prelude.{◌≡◌, ◌<◌, ◌≤◌, [], IfOk, IfSome, IsTrue};
 ghost use Rattle.ft_meaning.specs.Meaning.{ValuesFit};
-ghost use Rattle.ft_index.specs.Index.{AreBefore};
+ghost use Rattle.ft_index.specs.Kept.{AreBefore};
 
-use crate::FtIndex;
+use crate::{Fit, FtIndex};
 use ft_base::{
     Bytes, Doc, Field, FieldKind, HashRec, IndexDef, ListOf, NoMemory, Steps, StopWords, put_int,
 };
@@ -15,32 +16,37 @@ use std::marker::Brand;
 use std::sync::ledger::{Blank, Ledger};
 use std::test::Fail;
 
-/// What a step showed: whether the document was live while it waited, whether the one before it was
-/// killed, whether the document is live at the end, and how many are.
-type Seen = (bool, bool, bool, u64);
+/// What a step showed: how the document fits, whether the one before it was killed, whether the
+/// document is live at the end, how many are, and how many failed.
+type Seen = (Fit, bool, bool, u64, u64);
 
-fn text_field(alloc: Global, name: &[u8]) -> Result<Field, NoMemory> {
+fn field(alloc: Global, name: &[u8], kind: FieldKind, noindex: bool) -> Result<Field, NoMemory> {
     Ok(Field {
         name: Bytes::from_slice(alloc, name)?,
         alias: Bytes::from_slice(alloc, name)?,
-        kind: FieldKind::Text,
+        kind,
         sortable: false,
         unf: false,
-        noindex: false,
+        noindex,
     })
 }
 
-// Two TEXT fields, and `the` is a stop word.
-fn two_fields(alloc: Global) -> Result<IndexDef, NoMemory> {
+// It takes the keys of books. The fields are two TEXT fields, of which the first is NOINDEX, a
+// NUMERIC field and a third TEXT field, and `the` is a stop word.
+fn books(alloc: Global) -> Result<IndexDef, NoMemory> {
+    let mut prefixes = ListOf::new(alloc);
+    prefixes.push(Bytes::from_slice(alloc, b"book:")?)?;
     let mut fields = ListOf::new(alloc);
-    fields.push(text_field(alloc, b"title")?)?;
-    fields.push(text_field(alloc, b"body")?)?;
+    fields.push(field(alloc, b"note", FieldKind::Text, true)?)?;
+    fields.push(field(alloc, b"title", FieldKind::Text, false)?)?;
+    fields.push(field(alloc, b"year", FieldKind::Numeric, false)?)?;
+    fields.push(field(alloc, b"body", FieldKind::Text, false)?)?;
     let mut words = ListOf::new(alloc);
     words.push(Bytes::from_slice(alloc, b"the")?)?;
     Ok(IndexDef {
         name: Bytes::from_slice(alloc, b"books")?,
         serial: 1,
-        prefixes: ListOf::new(alloc),
+        prefixes,
         stops: StopWords { words },
         fields,
     })
@@ -51,20 +57,32 @@ fn begin(alloc: Global, markers: &mut Markers) -> Result<Option<FtIndex>, NoMemo
         × (index.table.last ≡ 0))) }
     ensures markers { markers.new ≡ markers.old }
 {
-    let def = two_fields(alloc)?;
-    if 2 < def.fields.len() {
+    let def = books(alloc)?;
+    if 4 < def.fields.len() {
         return Ok(None);
     }
     Ok(Some(FtIndex::new(alloc, def, markers)?))
 }
 
-fn doc(alloc: Global, id: u64, title: &str, body: &str) -> Result<Doc, NoMemory>
+// A document with `red` in its note, and without a year where that is none.
+fn doc(
+    alloc: Global,
+    id: u64,
+    key: &str,
+    title: &str,
+    body: &str,
+    year: Option<&str>,
+) -> Result<Doc, NoMemory>
     ensures { IfOk result (λ doc. doc.id ≡ id) }
 {
     let mut hash = HashRec::new(alloc);
     hash.set(b"body", Bytes::from_slice(alloc, body.as_bytes())?)?;
+    if let Some(year) = year {
+        hash.set(b"year", Bytes::from_slice(alloc, year.as_bytes())?)?;
+    }
     hash.set(b"title", Bytes::from_slice(alloc, title.as_bytes())?)?;
-    let key = Bytes::from_slice(alloc, b"book")?;
+    hash.set(b"note", Bytes::from_slice(alloc, b"hidden red")?)?;
+    let key = Bytes::from_slice(alloc, key.as_bytes())?;
     Ok(Doc { id, key, hash })
 }
 
@@ -86,23 +104,22 @@ fn write(
     doc: &Doc,
     old: u64,
     waits: bool,
-) -> Result<Seen, NoMemory>
+) -> Result<Option<Seen>, NoMemory>
     requires id { index.old.table.last < doc.now.id }
     requires before { AreBefore markers.old index.old.terms }
     ensures last { index.new.table.last ≤ doc.now.id }
     ensures before { AreBefore markers.new index.new.terms }
 {
     if !values_fit(&doc.hash) {
-        return Ok((true, true, true, 0));
+        return Ok(None);
     }
     let ready = index.prepare(doc, markers)?;
-    let early = index.table().is_live(doc.id);
     let killed = index.kill(old);
     if !waits {
         index.commit(ready);
     }
     let live = index.table().is_live(doc.id);
-    Ok((early, killed, live, index.docs()))
+    Ok(Some((ready.fit, killed, live, index.docs(), index.failures())))
 }
 
 // The first entry behind an id.
@@ -120,7 +137,7 @@ fn entry_behind<L: Ledger>(
     Ok(Some((found, list.hit(&place)?)))
 }
 
-// Each entry of a word as its id, `:`, its codes with a blank behind each, and `;`.
+// Each entry of a word as its id, `:`, its codes as field, `.`, place and a blank, and `;`.
 fn shown<L: Ledger>(
     alloc: Global,
     index: &FtIndex,
@@ -153,84 +170,169 @@ fn show_entry(out: &mut Vec<u8>, id: u64, codes: &[u64]) -> Result<(), NoMemory>
     put_int(out, i64::try_from(id).unwrap_or(-1))?;
     out.push(b':')?;
     for code in codes {
-        put_int(out, i64::try_from(*code).unwrap_or(-1))?;
+        put_int(out, i64::try_from(*code / 4_294_967_296).unwrap_or(-1))?;
+        out.push(b'.')?;
+        put_int(out, i64::try_from(*code % 4_294_967_296).unwrap_or(-1))?;
         out.push(b' ')?;
     }
     out.push(b';')?;
     Ok(())
 }
 
-// Two documents, of which the first is written three times, and one that was given up for the last.
-// With the index come the number of the next marker and what each step showed.
-fn filled(alloc: Global) -> Result<Option<(FtIndex, u64, Vec<Seen>)>, NoMemory> {
+// Documents of which the first is written three times, one that is no book, one whose year is no
+// number, and one that was given up for another. With the index come the number of the next marker
+// and what each step showed.
+fn filled(alloc: Global) -> Result<Option<(FtIndex, u64, Vec<Option<Seen>>)>, NoMemory> {
     let mut markers = Markers { event: 1, next: 0 };
     let Some(mut index) = begin(alloc, &mut markers)? else {
         return Ok(None);
     };
     let mut seen = Vec::new(alloc);
     let mut last = 0;
-    'writing: for (id, title, body, old, waits) in [
-        (2, "The red fox, red", "fox", 0, false),
-        (5, "red", "Blue, the red", 2, false),
-        (6, "fox", "", 0, false),
-        (7, "lost red", "", 0, true),
-        (9, "", "red", 5, false),
+    'writing: for (id, key, title, body, year, old, waits) in [
+        (
+            2,
+            "book:a",
+            "The red fox, red",
+            "fox",
+            Some("1999"),
+            0,
+            false,
+        ),
+        (5, "book:a", "red", "Blue, the red", Some("-7"), 2, false),
+        (6, "book:b", "fox", "", None, 0, false),
+        (7, "book:c", "lost red", "", None, 0, true),
+        (8, "page:d", "red", "far", Some("x"), 0, false),
+        (9, "book:e", "red", "far", Some("x"), 0, false),
+        (11, "book:a", "", "red", None, 5, false),
     ] {
         if last < id {
             last = id;
-            let doc = doc(alloc, id, title, body)?;
+            let doc = doc(alloc, id, key, title, body, year)?;
             seen.push(write(&mut index, &mut markers, &doc, old, waits)?)?;
         }
     }
     Ok(Some((index, markers.next, seen)))
 }
 
-#[test]
-fn keeps_an_entry_of_each_document_under_its_words(rt: HostRuntime) -> Result<(), Fail> {
-    let Some((index, next, _)) = filled(rt.alloc())? else {
-        return Err(Fail::new("no index"));
+// The entries of a word in the index that was filled.
+fn entries_of(alloc: Global, word: &str) -> Result<Vec<u8>, NoMemory> {
+    let Some(done) = filled(alloc)? else {
+        return Ok(Vec::new(alloc));
     };
-    for (word, want) in [
-        ("red", "2:1 3 ;5:1 4294967298 ;7:2 ;9:4294967297 ;"),
-        ("fox", "2:2 4294967297 ;6:1 ;"),
-        ("blue", "5:4294967297 ;"),
-        ("lost", "7:1 ;"),
-        ("the", ""),
-        ("re", ""),
-    ] {
-        let found = shown::<Brand>(rt.alloc(), &index, word.as_bytes(), Blank::new(1))?;
-        assert_eq!(rt; found.as_slice(), want.as_bytes(), "entries of {word}");
-    }
-    assert_eq!(rt; index.terms().len(), 4);
-    assert_eq!(rt; next, 4);
-    assert_eq!(rt; index.def().fields.len(), 2);
-    Ok(())
+    shown::<Brand>(alloc, &done.0, word.as_bytes(), Blank::new(1))
 }
 
 #[test]
-fn makes_a_document_live_last(rt: HostRuntime) -> Result<(), Fail> {
-    let Some((mut index, _, seen)) = filled(rt.alloc())? else {
-        return Err(Fail::new("no index"));
-    };
+fn keeps_an_entry_of_each_document_under_its_words(rt: HostRuntime) -> Result<(), Fail> {
+    for (word, want) in [
+        ("red", "2:1.1 1.3 ;5:1.1 3.2 ;7:1.2 ;11:3.1 ;"),
+        ("fox", "2:1.2 3.1 ;6:1.1 ;"),
+        ("blue", "5:3.1 ;"),
+        ("lost", "7:1.1 ;"),
+        ("the", ""),
+        ("re", ""),
+        ("hidden", ""),
+        ("far", ""),
+        ("1999", ""),
+    ] {
+        let found = entries_of(rt.alloc(), word)?;
+        assert_eq!(rt; found.as_slice(), want.as_bytes(), "entries of {word}");
+    }
+    Ok(())
+}
+
+// What each step of filling showed, and none where there is no index.
+fn steps_seen(alloc: Global) -> Result<Vec<Option<Seen>>, NoMemory> {
+    match filled(alloc)? {
+        Some(done) => Ok(done.2),
+        None => Ok(Vec::new(alloc)),
+    }
+}
+
+#[test]
+fn makes_members_live_and_counts_failures(rt: HostRuntime) -> Result<(), Fail> {
+    let seen = steps_seen(rt.alloc())?;
     let want = [
-        (false, false, true, 1),
-        (false, true, true, 1),
-        (false, false, true, 2),
-        (false, false, false, 2),
-        (false, true, true, 2),
+        Some((Fit::Member, false, true, 1, 0)),
+        Some((Fit::Member, true, true, 1, 0)),
+        Some((Fit::Member, false, true, 2, 0)),
+        Some((Fit::Member, false, false, 2, 0)),
+        Some((Fit::NoPrefix, false, false, 2, 0)),
+        Some((Fit::Failed, false, false, 2, 1)),
+        Some((Fit::Member, true, true, 2, 1)),
     ];
     assert_eq!(rt; seen.as_slice(), want.as_slice());
+    Ok(())
+}
+
+// Of the index that was filled, the numbers of its words, of the next marker and of its fields.
+fn counts(alloc: Global) -> Result<Option<(usize, u64, usize)>, NoMemory> {
+    let Some(done) = filled(alloc)? else {
+        return Ok(None);
+    };
+    let index = &done.0;
+    Ok(Some((index.terms().len(), done.1, index.def().fields.len())))
+}
+
+// Of the index that was filled, whether an id is live, and whether killing it tells so twice.
+fn killed(alloc: Global, id: u64) -> Result<Option<(bool, bool, bool)>, NoMemory> {
+    let Some(mut done) = filled(alloc)? else {
+        return Ok(None);
+    };
+    let index = &mut done.0;
+    Ok(Some((index.table().is_live(id), index.kill(id), index.kill(id))))
+}
+
+#[test]
+fn kills_live_documents_alone(rt: HostRuntime) -> Result<(), Fail> {
+    assert_eq!(rt; counts(rt.alloc())?, Some((4, 4, 4)));
     for (id, was) in [
         (2, false),
         (5, false),
-        (7, false),
         (6, true),
-        (6, false),
-        (9, true),
+        (7, false),
+        (8, false),
+        (9, false),
+        (11, true),
     ] {
-        assert_eq!(rt; index.table().is_live(id), was, "is {id} live");
-        assert_eq!(rt; index.kill(id), was, "kill {id}");
+        let found = killed(rt.alloc(), id)?;
+        assert_eq!(rt; found, Some((was, was, false)), "id {id}");
     }
-    assert_eq!(rt; index.docs(), 0);
+    Ok(())
+}
+
+// How many failures an index has that counts on from a number, once another document fails.
+fn counted_on(alloc: Global, from: u64) -> Result<Option<u64>, NoMemory> {
+    let mut markers = Markers { event: 1, next: 0 };
+    let Some(mut index) = begin(alloc, &mut markers)? else {
+        return Ok(None);
+    };
+    let doc = doc(alloc, 2, "book:a", "red", "", Some("x"))?;
+    if 9_223_372_036_854_775_807 < from || !values_fit(&doc.hash) {
+        return Ok(None);
+    }
+    index.count_from(from);
+    let ready = index.prepare(&doc, &mut markers)?;
+    if index.ready() != Some(ready) {
+        return Ok(None);
+    }
+    index.commit(ready);
+    if index.ready().is_some() {
+        return Ok(None);
+    }
+    Ok(Some(index.failures()))
+}
+
+#[test]
+fn goes_on_counting_failures(rt: HostRuntime) -> Result<(), Fail> {
+    for (from, count) in [
+        (0, 1),
+        (41, 42),
+        (9_223_372_036_854_775_806, 9_223_372_036_854_775_807),
+        (9_223_372_036_854_775_807, 9_223_372_036_854_775_807),
+    ] {
+        assert_eq!(rt; counted_on(rt.alloc(), from)?, Some(count), "from {from}");
+    }
     Ok(())
 }

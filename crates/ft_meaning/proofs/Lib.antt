@@ -1,3 +1,2 @@
 mod Examples
 pub mod MeaningLaws
-pub mod MembershipLaws

@@ -1,26 +1,20 @@
 -- What a query finds (RediSearch, dialect 2), document by document and from the plain hashes alone.
-use Rattle.std.specs.Prelude.{ℕ, ◌≤◌, List, [], length, Bool, true, false, ◌&&◌, not, Option, Some, None, filter, if◌then◌else◌}
+use Rattle.std.specs.Prelude.{ℕ, ◌≤◌, List, [], length, Bool, ◌&&◌, not, Option, Some, None, filter, if◌then◌else◌}
 use Rattle.std.specs.List.{All, list_any}
 use Rattle.std.specs.Str.{bytes_eq}
 use Rattle.ft_base.specs.Hash.{Hash, get_field}
+use Rattle.ft_base.specs.Kinds.{is_text}
 use Rattle.ft_base.specs.declared.definition.Field.{Field}
-use Rattle.ft_base.specs.declared.definition.FieldKind.{FieldKind}
-use Rattle.ft_base.specs.declared.definition.FieldKind.TheVariants.{Text, Tag, Numeric}
 use Rattle.ft_base.specs.declared.definition.IndexDef.{IndexDef}
 use Rattle.ft_base.specs.declared.doc.Doc.{Doc}
 use Rattle.ft_base.specs.declared.limits.TheConstants.{MAX_WORD_BYTES}
-use Rattle.ft_meaning.specs.Member.{member}
+use Rattle.ft_meaning.specs.Member.{members}
 use Rattle.token_text.specs.Tokens.{tokens}
 use Rattle.token_text.specs.declared.token.Token.{Token}
 
 -- each value of a hash came as a word of a command
 abbrev pub ValuesFit : Hash → Type 0
 ValuesFit hash = All (λ (field : List ℕ × List ℕ). length field.1 ≤ MAX_WORD_BYTES) hash
-
-abbrev pub is_text : FieldKind → Bool
-is_text Text = true
-is_text (Tag separator case) = false
-is_text Numeric = false
 
 -- whether a field's words are found: it is TEXT, and not NOINDEX
 abbrev pub has_words : Field → Bool
@@ -42,11 +36,10 @@ has_word word found = list_any (λ (token : Token). bytes_eq word token.word) fo
 abbrev pub holds_word : IndexDef → List ℕ → Doc → Bool
 holds_word def word doc = list_any (λ (field : Field). has_word word (field_tokens def doc field)) def.fields
 
--- The documents that a word finds, in order of ids. Each document is a member: no definition of today has a prefix.
-abbrev pub found : IndexDef → List ℕ → List Doc → List Doc
-found def word docs = filter (holds_word def word) docs
-
--- The documents that a test of one document finds: the members that pass, in order of ids. Each kind of query is such
--- a test.
+-- The documents that a test of one document finds: the members that pass, in their order. Each query is such a test.
 abbrev pub found_by : (IndexDef → Doc → Bool) → IndexDef → List Doc → List Doc
-found_by holds def docs = filter (λ (doc : Doc). member def doc && holds def doc) docs
+found_by holds def docs = filter (holds def) (members def docs)
+
+-- the documents that a word finds
+abbrev pub found : IndexDef → List ℕ → List Doc → List Doc
+found def word docs = found_by (λ def doc. holds_word def word doc) def docs

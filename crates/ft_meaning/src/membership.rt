@@ -1,10 +1,10 @@
 //! Whether a document is in an index, from its key and hash alone. Nothing here takes memory.
 ghost use Rattle.std.specs.Prelude.{◌≡◌};
-ghost use Rattle.ft_meaning.specs.Member.{has_prefix, takes_key, is_numeric, field_reads};
+ghost use Rattle.ft_meaning.specs.Member.{has_prefix, takes_key, field_reads};
 ghost use Rattle.ft_meaning.specs.Member.{numbers_read, member, failed};
 
 use field_text::number;
-use ft_base::{Bytes, Doc, Field, FieldKind, HashRec, IndexDef};
+use ft_base::{Bytes, Doc, Field, HashRec, IndexDef};
 
 /// Whether a document is a member of an index.
 pub fn member(def: &IndexDef, doc: &Doc) -> bool
@@ -48,17 +48,11 @@ fn numbers_read(fields: &[Field], hash: &HashRec) -> bool
 fn field_reads(hash: &HashRec, field: &Field) -> bool
     ensures { result ≡ field_reads hash.now field.now }
 {
-    if !is_numeric(field.kind) {
+    if !field.kind.is_numeric() {
         return true;
     }
     match hash.get(field.name.as_slice()) {
         Some(value) => number(value.as_slice()).is_some(),
         None => true,
     }
-}
-
-fn is_numeric(kind: FieldKind) -> bool
-    ensures { result ≡ is_numeric kind }
-{
-    matches!(kind, FieldKind::Numeric)
 }

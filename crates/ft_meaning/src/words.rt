@@ -1,8 +1,8 @@
 //! The words of a document's TEXT fields, and whether one is among them.
 ghost use Rattle.std.specs.Prelude.{◌≡◌, IfOk};
-ghost use Rattle.ft_meaning.specs.Meaning.{ValuesFit, field_tokens, has_word, holds_word, is_text};
+ghost use Rattle.ft_meaning.specs.Meaning.{ValuesFit, field_tokens, has_word, holds_word};
 
-use ft_base::{Doc, Field, FieldKind, IndexDef, ListOf, NoMemory};
+use ft_base::{Doc, Field, IndexDef, ListOf, NoMemory};
 use std::alloc::Global;
 use token_text::{Token, tokens};
 
@@ -31,19 +31,13 @@ pub fn field_tokens(
     requires { ValuesFit doc.now.hash }
     ensures { IfOk result (λ found. found ≡ field_tokens def.now doc.now field.now) }
 {
-    if !is_text(field.kind) || field.noindex {
+    if !field.kind.is_text() || field.noindex {
         return Ok(ListOf::new(alloc));
     }
     match doc.hash.get(field.name.as_slice()) {
         Some(value) => tokens(alloc, value.as_slice(), &def.stops),
         None => Ok(ListOf::new(alloc)),
     }
-}
-
-fn is_text(kind: FieldKind) -> bool
-    ensures { result ≡ is_text kind }
-{
-    matches!(kind, FieldKind::Text)
 }
 
 fn has_word(found: &[Token], word: &[u8]) -> bool

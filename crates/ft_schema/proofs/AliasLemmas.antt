@@ -8,7 +8,8 @@ use Rattle.std.proofs.lemmas.List.Sums.{sum_by-append, count_by-le-length}
 use Rattle.ft_base.specs.declared.definition.Field.{Field}
 use Rattle.ft_schema.specs.AliasKeys.{aliases_of}
 use Rattle.ft_schema.specs.FieldAliases.{field_aliases}
-use Rattle.ft_schema.specs.Fields.{has_alias, is_text, text_count}
+use Rattle.ft_schema.specs.Fields.{has_alias, text_count}
+use Rattle.ft_base.specs.Kinds.{is_text}
 
 -- whether a stored alias is the one that is asked for
 abbrev pub is_kept : List ℕ → Vec ℕ Global → Bool

@@ -19,7 +19,8 @@ use Rattle.ft_schema.specs.declared.field_options.FieldOptions.{FieldOptions}
 use Rattle.ft_schema.specs.FieldAliases.{field_aliases}
 use Rattle.ft_schema.specs.Names.{Word}
 use Rattle.ft_schema.specs.Reading.{Read, ◌>>=◌, fault, parts_in, parts_at}
-use Rattle.ft_schema.specs.Fields.{is_text, text_count, has_alias, alias_at, admitted, kind_at, kind_admitted, field_options_at, kind_by, field_by, field_at, next_field_at, is_at_end, fields_at}
+use Rattle.ft_schema.specs.Fields.{text_count, has_alias, alias_at, admitted, kind_at, kind_admitted, field_options_at, kind_by, field_by, field_at, next_field_at, is_at_end, fields_at}
+use Rattle.ft_base.specs.Kinds.{is_text}
 use Rattle.ft_schema.specs.Lawful.{IsLawful}
 use Rattle.ft_schema.specs.Options.{options_at}
 use Rattle.ft_schema.specs.Schema.{index_by, index_at, keyword_at, added_at, has_any_alias, is_over, extended}

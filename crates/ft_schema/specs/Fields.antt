@@ -2,6 +2,7 @@
 use Rattle.std.specs.Prelude.{ℕ, List, [], ◌∷◌, ◌++◌, length, Bool, true, false, codes, ◌&&◌, nat_le, count_by, drop, unwrap_or, Option, Some, None, is_some, is_none, Ok, Err, if◌then◌else◌}
 use Rattle.std.specs.List.{list_any}
 use Rattle.std.specs.Str.{bytes_eq}
+use Rattle.ft_base.specs.Kinds.{is_text}
 use Rattle.ft_base.specs.declared.definition.Field.{Field}
 use Rattle.ft_base.specs.declared.definition.FieldKind.{FieldKind}
 use Rattle.ft_base.specs.declared.definition.FieldKind.TheVariants as indexed
@@ -12,13 +13,9 @@ use Rattle.ft_schema.specs.declared.names.FieldOption.{FieldOption}
 use Rattle.ft_schema.specs.declared.names.FieldOption.TheVariants as option
 use Rattle.ft_schema.specs.declared.field_options.FieldOptions.{FieldOptions}
 use Rattle.ft_schema.specs.declared.limits.TheConstants.{MAX_FIELDS, MAX_TEXT_FIELDS}
-use Rattle.ft_schema.specs.Names.{Word, is_name, kind_of, field_option_of}
+use Rattle.ft_schema.specs.Names.{Word, kind_of, field_option_of}
+use Rattle.ft_base.specs.Names.{is_name}
 use Rattle.ft_schema.specs.Reading.{Read, ◌>>=◌, fault, weight_at, parts_at}
-
-abbrev pub is_text : FieldKind → Bool
-is_text indexed.Text = true
-is_text (indexed.Tag separator case) = false
-is_text indexed.Numeric = false
 
 -- how many TEXT fields there are
 abbrev pub text_count : List Field → ℕ

@@ -1,6 +1,6 @@
 -- The words that name options and kinds (RediSearch, FT.CREATE). They are read in any case.
 use Rattle.std.specs.Prelude.{ℕ, List, Bool, ◌||◌, codes, Option, Some, None, if◌then◌else◌}
-use Rattle.std.specs.Str.{str_eq_ignore_ascii_case}
+use Rattle.ft_base.specs.Names.{is_name}
 use Rattle.ft_base.specs.declared.definition.FieldKind.{FieldKind}
 use Rattle.ft_base.specs.declared.definition.FieldKind.TheVariants as indexed
 use Rattle.ft_schema.specs.declared.names.IndexOption.{IndexOption}
@@ -12,9 +12,6 @@ use Rattle.ft_schema.specs.declared.names.Kind.TheVariants as kinds
 
 abbrev pub Word : Type 0
 Word = List ℕ
-
-abbrev pub is_name : Word → List ℕ → Bool
-is_name word name = str_eq_ignore_ascii_case word name
 
 -- options of an index that RediSearch has and this server leaves out
 abbrev pub is_left_out_option : Word → Bool

@@ -4,7 +4,8 @@ use Rattle.ft_schema.specs.declared.fault.Cause.TheVariants.{BadOption, OutOfSco
 use Rattle.ft_schema.specs.declared.names.IndexOption.{IndexOption}
 use Rattle.ft_schema.specs.declared.names.IndexOption.TheVariants.{On, Prefix, StopWords, MaxTextFields, NoHighlights, NoFrequencies, Score, LeftOut, Other}
 use Rattle.ft_schema.specs.declared.index_options.IndexOptions.{IndexOptions}
-use Rattle.ft_schema.specs.Names.{Word, is_name, index_option_of}
+use Rattle.ft_schema.specs.Names.{Word, index_option_of}
+use Rattle.ft_base.specs.Names.{is_name}
 use Rattle.ft_schema.specs.Reading.{Read, ◌>>=◌, fault, word_at, count_at, weight_at, spelled, parts_at}
 
 -- no option yet

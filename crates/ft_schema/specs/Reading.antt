@@ -1,9 +1,8 @@
 -- Reading words from the left. Each reader answers what it read and the words after it, or the fault at which it stops.
-use Rattle.std.specs.Prelude.{ℕ, ℤ, pos, negsuc, zero, suc, ◌+◌, List, [], ◌∷◌, length, take, drop, position, Bool, false, ◌&&◌, ◌==◌, nat_le, Option, Some, None, Result, Ok, Err, if◌then◌else◌}
-use Rattle.std.specs.List.{list_all}
+use Rattle.std.specs.Prelude.{ℕ, ℤ, pos, negsuc, zero, suc, List, [], ◌∷◌, length, Bool, ◌&&◌, nat_le, Option, Some, None, Result, Ok, Err, if◌then◌else◌}
 use Rattle.std.specs.Str.{str_to_ascii_lowercase}
-use Rattle.std.specs.Char.{is_ascii_digit}
 use Rattle.ft_base.specs.Number.{int_of}
+use Rattle.ft_base.specs.Weight.{is_weight}
 use Rattle.ft_schema.specs.declared.fault.Cause.{Cause}
 use Rattle.ft_schema.specs.declared.fault.Cause.TheVariants.{BadOption, BadNumber}
 use Rattle.ft_schema.specs.declared.fault.Stop.{Stop}
@@ -42,22 +41,6 @@ count_at least (word ∷ words) = count_with least (int_of word) (word ∷ words
 -- a word as it is kept, as it stands or in lower case
 abbrev pub spelled : Bool → Word → Word
 spelled lower word = if lower then str_to_ascii_lowercase word else word
-
--- at least one digit, and nothing else
-abbrev pub is_digits : Word → Bool
-is_digits [] = false
-is_digits (b ∷ word) = list_all is_ascii_digit (b ∷ word)
-
-abbrev pub is_point : ℕ → Bool
-is_point b = b == 46
-
-abbrev pub is_weight_from : Option ℕ → Word → Bool
-is_weight_from None word = is_digits word
-is_weight_from (Some k) word = is_digits (take k word) && is_digits (drop (k + 1) word)
-
--- digits, or digits, a point and digits
-abbrev pub is_weight : Word → Bool
-is_weight word = is_weight_from (position is_point word) word
 
 -- a weight, which has no effect; what follows it
 unfoldable pub weight_at : List Word → Result (List Word) Stop

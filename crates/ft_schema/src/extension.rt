@@ -11,7 +11,6 @@ ghost use Rattle.ft_schema.specs.Schema.{has_any_alias, is_over, extended};
 
 use crate::alias_set::AliasSet;
 use crate::fault::SchemaFault;
-use crate::field_list::is_text;
 use crate::limits::{MAX_FIELDS, MAX_TEXT_FIELDS};
 use ft_base::{Bytes, Field, IndexDef, ListOf, NoMemory, StopWords};
 use std::alloc::Global;
@@ -90,7 +89,7 @@ fn is_over(old: &[Field], new: &[Field]) -> bool
 fn text_count(fields: &[Field]) -> usize
     ensures { result ≡ text_count fields.now }
 {
-    fields.iter().filter(|field| is_text(field.kind)).count()
+    fields.iter().filter(|field| field.kind.is_text()).count()
 }
 
 /// An index with more fields, copied.

@@ -1,12 +1,12 @@
 //! The fields that were read so far, with what it takes to admit one more.
 ghost use Rattle.std.specs.Prelude.{◌≡◌, false, [], ◌∷◌, ◌++◌, length, nat_le, IfOk};
-ghost use Rattle.ft_schema.specs.Fields.{has_alias, text_count, is_text};
+ghost use Rattle.ft_schema.specs.Fields.{has_alias, text_count};
 ghost use Rattle.ft_schema.specs.FieldAliases.{field_aliases};
 ghost use Rattle.ft_schema.specs.declared.limits.TheConstants.{MAX_FIELDS, MAX_TEXT_FIELDS};
 
 use crate::alias_set::AliasSet;
 use crate::limits::{MAX_FIELDS, MAX_TEXT_FIELDS};
-use ft_base::{Field, FieldKind, ListOf, NoMemory};
+use ft_base::{Field, ListOf, NoMemory};
 use std::alloc::Global;
 use std::marker::Model;
 
@@ -73,7 +73,7 @@ impl FieldList {
             texts,
         } = self;
         aliases.add(field.alias.as_slice())?;
-        let texts = texts + usize::from(is_text(field.kind));
+        let texts = texts + usize::from(field.kind.is_text());
         fields.push(field)?;
         Ok(FieldList {
             fields,
@@ -88,11 +88,4 @@ impl FieldList {
     {
         ListOf::from_vec(self.fields)
     }
-}
-
-/// Whether a field of this kind is a TEXT field.
-pub fn is_text(kind: FieldKind) -> bool
-    ensures { result ≡ is_text kind }
-{
-    matches!(kind, FieldKind::Text)
 }

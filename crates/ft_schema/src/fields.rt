@@ -6,7 +6,7 @@ ghost use Rattle.ft_schema.specs.Reading.{parts_at};
 ghost use Rattle.ft_schema.specs.Fields.{kind_by, field_by, field_at, next_field_at, is_at_end, fields_at};
 
 use crate::fault::{Cause, Stop};
-use crate::field_list::{FieldList, is_text};
+use crate::field_list::FieldList;
 use crate::field_options::{FieldOptions, options};
 use crate::names::{Kind, kind_of};
 use crate::reading::{fault, first};
@@ -162,7 +162,7 @@ fn new_kind<'a>(
         Ok(read) => read,
         Err(stop) => return Err(stop),
     };
-    if is_text(kind) && before.is_full_of_texts() {
+    if kind.is_text() && before.is_full_of_texts() {
         return Err(fault(Cause::TooManyFields, from));
     }
     Ok((kind, rest))

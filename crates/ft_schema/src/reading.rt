@@ -1,14 +1,12 @@
 //! Readers over words, one for each reader of `specs/Reading.antt`: what was read and the words after
 //! it, or why reading stops.
-ghost use Rattle.std.specs.Prelude.{◌≡◌, ◌<◌, ◌≤◌, ◌∷◌, [], length, take, map, position, IfOk, IfSome, MatchOption};
-ghost use Rattle.std.specs.Char.{is_ascii_digit};
-ghost use Rattle.std.specs.List.{list_all};
+ghost use Rattle.std.specs.Prelude.{◌≡◌, ◌<◌, ◌≤◌, ◌∷◌, [], length, take, map, IfOk, MatchOption};
 ghost use Rattle.ft_schema.specs.Gives.{Gives};
 ghost use Rattle.ft_schema.specs.declared.fault.Stop.TheVariants.{Fault};
-ghost use Rattle.ft_schema.specs.Reading.{word_at, count_at, is_digits, is_point, is_weight, weight_at, spelled};
+ghost use Rattle.ft_schema.specs.Reading.{word_at, count_at, weight_at, spelled};
 
 use crate::fault::{Cause, Stop};
-use ft_base::{Bytes, ListOf, NoMemory, Words, read_int};
+use ft_base::{Bytes, ListOf, NoMemory, Words, is_weight, read_int};
 use std::alloc::Global;
 
 /// A fault at the first of these words, or at the end of all where there is none.
@@ -80,39 +78,6 @@ pub fn weight<'a>(words: &Words<'a>) -> Result<Words<'a>, Stop>
     } else {
         Err(fault(Cause::BadNumber, words))
     }
-}
-
-/// Whether a word is digits, or digits, a point and digits.
-fn is_weight(word: &[u8]) -> bool
-    ensures { result ≡ is_weight word.now }
-{
-    match point_place(word) {
-        None => is_digits(word),
-        Some(place) => is_digits(&word[..place]) && is_digits(&word[place + 1..]),
-    }
-}
-
-fn point_place(word: &[u8]) -> Option<usize>
-    ensures place { result ≡ position is_point word.now }
-    ensures within { IfSome result (λ k. k < length word.now) }
-{
-    word.iter().position(|byte| *byte == b'.')
-}
-
-/// Whether a word is digits alone, at least one.
-fn is_digits(word: &[u8]) -> bool
-    ensures { result ≡ is_digits word.now }
-{
-    match word {
-        [] => false,
-        [_, ..] => all_digits(word),
-    }
-}
-
-fn all_digits(word: &[u8]) -> bool
-    ensures { result ≡ list_all is_ascii_digit word.now }
-{
-    word.iter().all(|byte| byte.is_ascii_digit())
 }
 
 /// Copies of the first words, as they are or in lower case.

@@ -1,19 +1,31 @@
-//! Against a search that the lists answer otherwise than the documents do: some hundred writes, updates
-//! and searches, each answered by the engine and by a filter over a plain list of documents.
+//! Against an engine that answers otherwise than the documents do: some hundred commands, each answered
+//! by the engine and by a plain machine, which is a list of documents and one of definitions.
 ghost use Rattle.std.specs.Prelude.{◌<◌, ◌≤◌, ◌+◌, length};
 
-use crate::definitions::text_index;
-use crate::tests::{Session, ask, begin};
-use ft_base::{Bytes, Doc, HashRec, IndexDef, NoMemory, put_int};
-use ft_meaning::holds_word;
+use crate::tests::{Session, ask, begin, is_small, spans_of};
+use cmd_parse::{Command, read_command};
+use field_text::tags;
+use ft_base::{Bytes, Doc, FieldKind, HashRec, IndexDef, NoMemory, Words, put_int};
+use ft_meaning::{holds_word, member};
+use ft_schema::extend;
 use std::alloc::Global;
+use std::collections::BTreeSet;
 use std::test::Fail;
 
-/// A key and the value of its field.
+/// A document: its fields t, n and g.
 #[derive(Drop)]
 struct Row {
-    key: u8,
-    value: Vec<u8>,
+    key: Vec<u8>,
+    text: Vec<u8>,
+    number: u8,
+    tags: Vec<u8>,
+}
+
+/// Documents in order of last write, and definitions in order of creation.
+#[derive(Drop)]
+struct Plain {
+    rows: Vec<Row>,
+    defs: Vec<IndexDef>,
 }
 
 /// The next number of a run that looks random.
@@ -31,158 +43,332 @@ fn letter(seed: u64, shift: u32, first: u8, count: u8) -> u8
     first + ((seed >> shift) % u64::from(count)) as u8
 }
 
-/// A text of three words of one letter each.
-fn text(alloc: Global, seed: u64) -> Result<Vec<u8>, NoMemory> {
-    let mut text = Vec::new(alloc);
-    text.push(letter(seed, 40, b'p', 6))?;
-    text.push(b' ')?;
-    text.push(letter(seed, 44, b'p', 6))?;
-    text.push(b'-')?;
-    text.push(letter(seed, 48, b'P', 6))?;
-    Ok(text)
+fn text_of(alloc: Global, letters: &[u8]) -> Result<Vec<u8>, NoMemory> {
+    Vec::from_slice(alloc, letters)
 }
 
-/// The plain list of documents, in order of last write.
-fn write(rows: &mut Vec<Row>, key: u8, value: Vec<u8>) -> Result<(), NoMemory> {
-    rows.retain(|row| row.key != key);
-    rows.push(Row { key, value })?;
+/// What one turn is about.
+#[derive(Drop)]
+struct Turn {
+    kind: u8,
+    key: Vec<u8>,
+    to: Vec<u8>,
+    name: Vec<u8>,
+    schema: u8,
+    word: u8,
+    row: Row,
+}
+
+fn turn_of(alloc: Global, seed: u64) -> Result<Turn, NoMemory> {
+    let (a, b) = (letter(seed, 20, b'a', 3), letter(seed, 23, b'a', 6));
+    let (c, d) = (letter(seed, 26, b'a', 3), letter(seed, 29, b'a', 6));
+    let (x, y) = (letter(seed, 33, b'p', 5), letter(seed, 36, b'P', 5));
+    let (g, h) = (letter(seed, 39, b'A', 3), letter(seed, 41, b'a', 3));
+    Ok(Turn {
+        kind: letter(seed, 48, 0, 16),
+        key: text_of(alloc, &[a, b])?,
+        to: text_of(alloc, &[c, d])?,
+        name: text_of(alloc, &[b'i', letter(seed, 44, b'x', 3)])?,
+        schema: letter(seed, 46, 0, 3),
+        word: x,
+        row: Row {
+            key: text_of(alloc, &[a, b])?,
+            text: text_of(alloc, &[x, b' ', y])?,
+            number: letter(seed, 52, b'0', 12),
+            tags: text_of(alloc, &[g, b',', h])?,
+        },
+    })
+}
+
+/// The words of the turn's command, with one `|` between each two.
+fn line_of(alloc: Global, turn: &Turn) -> Result<Vec<u8>, NoMemory> {
+    let mut line = text_of(alloc, verb(turn.kind))?;
+    match turn.kind {
+        0..=7 => line.extend_from_slice(turn.key.as_slice())?,
+        12 => {}
+        _ => line.extend_from_slice(turn.name.as_slice())?,
+    }
+    match turn.kind {
+        0..=5 => put_fields(&mut line, &turn.row)?,
+        7 => {
+            line.push(b'|')?;
+            line.extend_from_slice(turn.to.as_slice())?;
+        }
+        8 => line.extend_from_slice(schema(turn.schema))?,
+        9 => line.extend_from_slice(b"|SCHEMA|ADD|n|NUMERIC")?,
+        11 => line.extend_from_slice(b"|DD")?,
+        13 => line.extend_from_slice(b"|g")?,
+        14 | 15 => {
+            line.push(b'|')?;
+            line.push(turn.word)?;
+            line.extend_from_slice(b"|NOCONTENT")?;
+        }
+        _ => {}
+    }
+    Ok(line)
+}
+
+fn verb(kind: u8) -> &'static [u8] {
+    match kind {
+        0..=5 => b"HSET|",
+        6 => b"DEL|",
+        7 => b"RENAME|",
+        8 => b"FT.CREATE|",
+        9 => b"FT.ALTER|",
+        10 | 11 => b"FT.DROPINDEX|",
+        12 => b"FT._LIST",
+        13 => b"FT.TAGVALS|",
+        _ => b"FT.SEARCH|",
+    }
+}
+
+/// The words of HSET behind the key.
+fn put_fields(line: &mut Vec<u8>, row: &Row) -> Result<(), NoMemory> {
+    line.extend_from_slice(b"|t|")?;
+    line.extend_from_slice(row.text.as_slice())?;
+    line.extend_from_slice(b"|g|")?;
+    line.extend_from_slice(row.tags.as_slice())?;
+    line.extend_from_slice(b"|n|")?;
+    line.push(row.number)?;
     Ok(())
 }
 
-/// Whether a document of this value holds a word.
-fn holds(alloc: Global, def: &IndexDef, value: &[u8], word: u8) -> Result<bool, NoMemory>
-    requires { length value.now ≤ 1_000 }
+fn schema(which: u8) -> &'static [u8] {
+    match which {
+        0 => b"|SCHEMA|t|TEXT|g|TAG",
+        1 => b"|PREFIX|1|a|SCHEMA|g|TAG|CASESENSITIVE|t|TEXT",
+        _ => b"|SCHEMA|t|TEXT|n|NUMERIC",
+    }
+}
+
+/// What the plain machine answers.
+fn answer(alloc: Global, plain: &mut Plain, turn: Turn, line: &[u8]) -> Result<Vec<u8>, NoMemory> {
+    match turn.kind {
+        0..=5 => {
+            let fresh = remove(plain, turn.key.as_slice()).is_none();
+            plain.rows.push(turn.row)?;
+            text_of(alloc, if fresh { b":3\r\n" } else { b":0\r\n" })
+        }
+        6 => {
+            let there = remove(plain, turn.key.as_slice()).is_some();
+            text_of(alloc, if there { b":1\r\n" } else { b":0\r\n" })
+        }
+        7 => rename(alloc, plain, turn),
+        8 => create(alloc, plain, turn.name.as_slice(), line),
+        9 => alter(alloc, plain, turn.name.as_slice(), line),
+        10 | 11 => drop_from(alloc, plain, turn.name.as_slice(), turn.kind == 11),
+        12 => {
+            let mut names = Vec::new(alloc);
+            for def in plain.defs.as_slice() {
+                names.push(text_of(alloc, def.name.as_slice())?)?;
+            }
+            bulks(alloc, b"*", names.as_slice())
+        }
+        13 => tag_vals(alloc, plain, turn.name.as_slice()),
+        _ => search(alloc, plain, turn.name.as_slice(), turn.word),
+    }
+}
+
+fn remove(plain: &mut Plain, key: &[u8]) -> Option<Row> {
+    let at = plain.rows.iter().position(|row| row.key.as_slice() == key)?;
+    Some(plain.rows.remove(at))
+}
+
+fn rename(alloc: Global, plain: &mut Plain, turn: Turn) -> Result<Vec<u8>, NoMemory> {
+    if !plain
+        .rows
+        .iter()
+        .any(|row| row.key.as_slice() == turn.key.as_slice())
+    {
+        return text_of(alloc, b"-ERR no such key\r\n");
+    }
+    if turn.key.as_slice() != turn.to.as_slice() {
+        let _ = remove(plain, turn.to.as_slice());
+        if let Some(row) = remove(plain, turn.key.as_slice()) {
+            plain.rows.push(Row {
+                key: turn.to,
+                text: row.text,
+                number: row.number,
+                tags: row.tags,
+            })?;
+        }
+    }
+    text_of(alloc, b"+OK\r\n")
+}
+
+fn place_of(plain: &Plain, name: &[u8]) -> Option<usize> {
+    plain
+        .defs
+        .iter()
+        .position(|def| def.name.as_slice() == name)
+}
+
+fn create(alloc: Global, plain: &mut Plain, name: &[u8], line: &[u8]) -> Result<Vec<u8>, NoMemory> {
+    if place_of(plain, name).is_some() {
+        return text_of(alloc, b"-Index already exists\r\n");
+    }
+    let spans = spans_of(alloc, line)?;
+    if is_small(line, spans.as_slice()) {
+        let words = Words::new(line, spans.as_slice());
+        if let Ok(Command::Create(def)) = read_command(alloc, words, 1) {
+            plain.defs.push(def.into_inner())?;
+        }
+    }
+    text_of(alloc, b"+OK\r\n")
+}
+
+fn alter(alloc: Global, plain: &mut Plain, name: &[u8], line: &[u8]) -> Result<Vec<u8>, NoMemory> {
+    let Some(at) = place_of(plain, name) else {
+        return text_of(alloc, b"-Unknown index name\r\n");
+    };
+    let spans = spans_of(alloc, line)?;
+    if is_small(line, spans.as_slice()) && at < plain.defs.len() {
+        let words = Words::new(line, spans.as_slice());
+        if let Ok(Command::Alter { fields, .. }) = read_command(alloc, words, 1) {
+            match extend(alloc, &plain.defs[at], &fields) {
+                Ok(def) => plain.defs[at] = def,
+                Err(_) => return text_of(alloc, b"-ERR duplicate field at word 5\r\n"),
+            }
+        }
+    }
+    text_of(alloc, b"+OK\r\n")
+}
+
+fn drop_from(
+    alloc: Global,
+    plain: &mut Plain,
+    name: &[u8],
+    members: bool,
+) -> Result<Vec<u8>, NoMemory> {
+    let Some(at) = place_of(plain, name) else {
+        return text_of(alloc, b"-Unknown index name\r\n");
+    };
+    if at < plain.defs.len() {
+        let def = plain.defs.remove(at);
+        let mut i = 0;
+        'dropping: while members && i < plain.rows.len() {
+            if is_member(alloc, &def, &plain.rows[i])? {
+                plain.rows.remove(i);
+            } else {
+                i += 1;
+            }
+        }
+    }
+    text_of(alloc, b"+OK\r\n")
+}
+
+/// A document of one field or of all.
+fn doc_of(alloc: Global, row: &Row) -> Result<Doc, NoMemory> {
+    let mut hash = HashRec::new(alloc);
+    hash.set(b"g", Bytes::from_slice(alloc, row.tags.as_slice())?)?;
+    hash.set(b"n", Bytes::from_slice(alloc, &[row.number])?)?;
+    let key = Bytes::from_slice(alloc, row.key.as_slice())?;
+    Ok(Doc { id: 1, key, hash })
+}
+
+fn is_member(alloc: Global, def: &IndexDef, row: &Row) -> Result<bool, NoMemory> {
+    let doc = doc_of(alloc, row)?;
+    Ok(member(def, &doc))
+}
+
+/// Whether a document of this text holds a word.
+fn holds(alloc: Global, def: &IndexDef, text: &[u8], word: u8) -> Result<bool, NoMemory>
+    requires { length text.now ≤ 1_000 }
 {
     let mut hash = HashRec::new(alloc);
-    hash.set(b"t", Bytes::from_slice(alloc, value)?)?;
+    hash.set(b"t", Bytes::from_slice(alloc, text)?)?;
     let key = Bytes::new(alloc);
     holds_word(alloc, def, &[word], &Doc { id: 1, key, hash })
 }
 
-/// What a search has to answer, by a filter over the documents.
-fn filtered(alloc: Global, def: &IndexDef, rows: &[Row], word: u8) -> Result<Vec<u8>, NoMemory> {
+fn search(alloc: Global, plain: &Plain, name: &[u8], word: u8) -> Result<Vec<u8>, NoMemory> {
+    let Some(def) = plain.defs.iter().find(|def| def.name.as_slice() == name) else {
+        return text_of(alloc, b"-Unknown index name\r\n");
+    };
     let mut keys = Vec::new(alloc);
-    for row in rows {
-        let value = row.value.as_slice();
-        if value.len() <= 1_000 && holds(alloc, def, value, word)? {
-            keys.push(row.key)?;
+    for row in plain.rows.as_slice() {
+        let text = row.text.as_slice();
+        if text.len() <= 1_000 && is_member(alloc, def, row)? && holds(alloc, def, text, word)? {
+            keys.push(text_of(alloc, row.key.as_slice())?)?;
         }
     }
-    shown(alloc, keys.as_slice())
-}
-
-/// The reply that shows these keys.
-fn shown(alloc: Global, keys: &[u8]) -> Result<Vec<u8>, NoMemory> {
+    let mut total = Vec::new(alloc);
+    put_int(&mut total, keys.len().min(1_000) as i64)?;
     let mut out = Vec::new(alloc);
     out.push(b'*')?;
     put_int(&mut out, 1 + keys.len().min(10) as i64)?;
     out.extend_from_slice(b"\r\n:")?;
-    put_int(&mut out, keys.len().min(1_000) as i64)?;
+    out.extend_from_slice(total.as_slice())?;
     out.extend_from_slice(b"\r\n")?;
     for key in keys.iter().take(10) {
-        out.extend_from_slice(b"$1\r\n")?;
-        out.push(*key)?;
-        out.extend_from_slice(b"\r\n")?;
+        put_bulk(&mut out, key.as_slice())?;
     }
     Ok(out)
 }
 
-/// Writes one document into both.
-fn write_both(
-    alloc: Global,
-    session: &mut Session,
-    rows: &mut Vec<Row>,
-    seed: u64,
-) -> Result<(), NoMemory> {
-    let key = letter(seed, 33, b'a', 24);
-    let value = text(alloc, seed)?;
-    let mut line = Vec::new(alloc);
-    line.extend_from_slice(b"HSET|")?;
-    line.push(key)?;
-    line.extend_from_slice(b"|t|")?;
-    line.extend_from_slice(value.as_slice())?;
-    ask(alloc, session, line.as_slice())?;
-    write(rows, key, value)
+fn tag_vals(alloc: Global, plain: &Plain, name: &[u8]) -> Result<Vec<u8>, NoMemory> {
+    let Some(def) = plain.defs.iter().find(|def| def.name.as_slice() == name) else {
+        return text_of(alloc, b"-Unknown index name\r\n");
+    };
+    let Some(field) = def
+        .fields
+        .as_slice()
+        .iter()
+        .find(|f| f.alias.as_slice() == b"g".as_slice())
+    else {
+        return text_of(alloc, b"-Unknown field at word 2\r\n");
+    };
+    let FieldKind::Tag { separator, case } = field.kind else {
+        return text_of(alloc, b"-Unknown field at word 2\r\n");
+    };
+    let mut found = BTreeSet::new(alloc);
+    for row in plain.rows.as_slice() {
+        if is_member(alloc, def, row)? {
+            for tag in tags(alloc, row.tags.as_slice(), separator, case)?.as_slice() {
+                found.insert(text_of(alloc, tag.as_slice())?)?;
+            }
+        }
+    }
+    let mut sorted = Vec::new(alloc);
+    for tag in found {
+        sorted.push(tag)?;
+    }
+    bulks(alloc, b"*", sorted.as_slice())
 }
 
-/// Takes a document out of both, or gives its hash to another key.
-fn remove_both(
-    alloc: Global,
-    session: &mut Session,
-    rows: &mut Vec<Row>,
-    seed: u64,
-) -> Result<(), NoMemory> {
-    let key = letter(seed, 33, b'a', 24);
-    let to = letter(seed, 38, b'a', 24);
-    let mut line = Vec::new(alloc);
-    let how = letter(seed, 43, 0, 3);
-    line.extend_from_slice(match how {
-        0 => b"DEL|".as_slice(),
-        1 => b"HDEL|".as_slice(),
-        _ => b"RENAME|".as_slice(),
-    })?;
-    line.push(key)?;
-    line.extend_from_slice(match how {
-        0 => b"|z".as_slice(),
-        1 => b"|t".as_slice(),
-        _ => b"|".as_slice(),
-    })?;
-    if how == 2 {
-        line.push(to)?;
+fn bulks(alloc: Global, mark: &[u8], texts: &[Vec<u8>]) -> Result<Vec<u8>, NoMemory> {
+    let mut out = text_of(alloc, mark)?;
+    put_int(&mut out, texts.len().min(1_000) as i64)?;
+    out.extend_from_slice(b"\r\n")?;
+    for text in texts {
+        put_bulk(&mut out, text.as_slice())?;
     }
-    ask(alloc, session, line.as_slice())?;
-    match rows.iter().position(|row| row.key == key) {
-        Some(at) if how != 2 => {
-            rows.remove(at);
-            Ok(())
-        }
-        Some(at) if key != to => {
-            let row = rows.remove(at);
-            write(rows, to, row.value)
-        }
-        _ => Ok(()),
-    }
+    Ok(out)
 }
 
-/// What the engine answers to a search of one letter in an index.
-fn search(
-    alloc: Global,
-    session: &mut Session,
-    index: &[u8],
-    word: u8,
-) -> Result<Vec<u8>, NoMemory> {
-    let mut line = Vec::new(alloc);
-    line.extend_from_slice(b"FT.SEARCH|")?;
-    line.extend_from_slice(index)?;
-    line.push(b'|')?;
-    line.push(word)?;
-    line.extend_from_slice(b"|NOCONTENT")?;
-    ask(alloc, session, line.as_slice())
+fn put_bulk(out: &mut Vec<u8>, text: &[u8]) -> Result<(), NoMemory> {
+    out.push(b'$')?;
+    put_int(out, text.len().min(1_000) as i64)?;
+    out.extend_from_slice(b"\r\n")?;
+    out.extend_from_slice(text)?;
+    out.extend_from_slice(b"\r\n")
 }
 
 #[test]
-fn answers_as_a_filter_does(rt: HostRuntime) -> Result<(), Fail> {
-    let def = text_index(rt.alloc(), b"ix", b"t", 1)?;
+fn answers_as_a_plain_machine_does(rt: HostRuntime) -> Result<(), Fail> {
     let mut session = begin(rt.alloc())?;
-    let mut rows = Vec::new(rt.alloc());
+    let mut plain = Plain {
+        rows: Vec::new(rt.alloc()),
+        defs: Vec::new(rt.alloc()),
+    };
     let mut seed = 2_026;
-    ask(rt.alloc(), &mut session, b"FT.CREATE|ix|SCHEMA|t|TEXT")?;
-    for turn in 0..400 {
+    for at in 0..600 {
         seed = next(seed);
-        if turn == 200 {
-            ask(rt.alloc(), &mut session, b"FT.CREATE|iy|SCHEMA|t|TEXT")?;
-        }
-        if turn % 8 == 6 {
-            remove_both(rt.alloc(), &mut session, &mut rows, seed)?;
-        } else if turn % 4 != 3 {
-            write_both(rt.alloc(), &mut session, &mut rows, seed)?;
-        } else {
-            let word = letter(seed, 40, b'p', 6);
-            let index: &[u8] = if turn < 200 { b"ix" } else { b"iy" };
-            let reply = search(rt.alloc(), &mut session, index, word)?;
-            let want = filtered(rt.alloc(), &def, rows.as_slice(), word)?;
-            assert_eq!(rt; reply.as_slice(), want.as_slice(), "at {turn}");
-        }
+        let turn = turn_of(rt.alloc(), seed)?;
+        let line = line_of(rt.alloc(), &turn)?;
+        let want = answer(rt.alloc(), &mut plain, turn, line.as_slice())?;
+        let reply = ask(rt.alloc(), &mut session, line.as_slice())?;
+        assert_eq!(rt; reply.as_slice(), want.as_slice(), "at {at}");
     }
     Ok(())
 }

@@ -18,11 +18,11 @@ fn prepare(
     if !is_small(line, spans.as_slice()) {
         return Ok((out, false));
     }
-    let Ok(command) = read_command(Words::new(line, spans.as_slice())) else {
+    let now = session.engine.next();
+    let Ok(command) = read_command(alloc, Words::new(line, spans.as_slice()), now) else {
         return Ok((out, false));
     };
-    let now = session.engine.next();
-    let prepared = session.engine.prepare(now, &command, &mut out);
+    let prepared = session.engine.prepare(now, command, &mut out);
     let writes = prepared.writes();
     if commits {
         session.engine.commit(prepared);
@@ -90,6 +90,17 @@ fn an_abandoned_command_leaves_all_as_it_was(rt: HostRuntime) -> Result<(), Fail
             "-Unknown index name\r\n",
             false,
         ),
+        ("FT.ALTER|ix|SCHEMA|ADD|u|TAG", "+OK\r\n", true),
+        (
+            "FT.ALTER|iy|SCHEMA|ADD|u|TAG",
+            "-Unknown index name\r\n",
+            false,
+        ),
+        ("FT.DROPINDEX|ix", "+OK\r\n", true),
+        ("FT.DROPINDEX|ix|DD", "+OK\r\n", true),
+        ("FT.DROPINDEX|iy", "-Unknown index name\r\n", false),
+        ("FT._LIST", "*1\r\n$2\r\nix\r\n", false),
+        ("FT.TAGVALS|ix|t", "-Unknown field at word 2\r\n", false),
         ("FLUSHALL", "+OK\r\n", true),
     ] {
         let number = session.engine.next();
@@ -154,7 +165,12 @@ fn a_refusal_leaves_all_as_it_was(rt: HostRuntime) -> Result<(), Fail> {
         "HINCRBY|h|t|1",
         "RENAME|i|h",
         "FT.CREATE|ix|SCHEMA|u|TEXT",
-        "FT.CREATE|iy|SCHEMA|u|NUMERIC",
+        "FT.CREATE|iy|SCHEMA|u|WORDS",
+        "FT.ALTER|ix|SCHEMA|ADD|t|TAG",
+        "FT.ALTER|ix|SCHEMA|PUT|u|TAG",
+        "FT.DROPINDEX|ix|KEEP",
+        "FT.DROPINDEX|iy|DD",
+        "FT.TAGVALS|ix|t",
         "FT.SEARCH|iy|red|NOCONTENT",
     ] {
         let reply = ask(rt.alloc(), &mut session, line.as_bytes())?;

@@ -63,7 +63,9 @@ fn the_first_search(rt: HostRuntime) -> Result<(), Fail> {
         ("FT.SEARCH|Idx|hello|NOCONTENT", "*1\r\n:0\r\n"),
         ("FT.SEARCH|idx|hello world|NOCONTENT", "-ERR not built\r\n"),
         ("FT.SEARCH|idx|hello", "-ERR not built\r\n"),
-        ("FT.CREATE|iy|SCHEMA|t|TAG", "-ERR not built\r\n"),
+        ("FT.CREATE|iy|SCHEMA|t|TAG", "+OK\r\n"),
+        ("FT.TAGVALS|iy|t", "*1\r\n$11\r\nhello world\r\n"),
+        ("FT.INFO|iy", "-ERR not built\r\n"),
         ("NOPE", "-ERR unknown command\r\n"),
     ];
     assert_eq!(rt; are_answered(rt.alloc(), &rows)?, true);

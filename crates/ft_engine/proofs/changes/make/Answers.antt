@@ -1,8 +1,14 @@
-use Rattle.std.proofs.Common.{refl, arith}
+use Rattle.std.proofs.Common.{◌∙◌, ap, refl, sym, arith, List}
+use Rattle.ft_base.specs.declared.doc.Doc.{Doc}
+use Rattle.indexed_store.specs.Definitions.{Defined, definitions_of, index_of}
+use Rattle.indexed_store.specs.Removing.{without_members}
 use Rattle.std.specs.Prelude.{◌≡◌, ◌+◌, length}
 use Rattle.ft_engine.specs.Step.{next_number}
-use Rattle.ft_engine.specs.declared.prepared.Change.TheVariants.{Move, Write}
-use Rattle.ft_engine.proofs.PreparingLaws.{created-step, lent-step, made-before, whole-step}
+use Rattle.ft_engine.specs.Preparing.{changed}
+use Rattle.ft_engine.specs.Stands.{state_of}
+use Rattle.ft_engine.specs.declared.prepared.Change.{Change}
+use Rattle.ft_engine.specs.declared.prepared.Change.TheVariants.{Alter, Move, Write}
+use Rattle.ft_engine.proofs.PreparingLaws.{altered-stands, created-step, lent-step, made-before, whole-step}
 use Rattle.ft_engine.proofs.changes.make.Goals as goal
 
 pub settle-requires-clause-kept : goal.settle-requires-clause-kept
@@ -45,3 +51,23 @@ pub returns-in-Create-clause-kept : goal.returns-in-Create-clause-kept
 returns-in-Create-clause-kept c =
     created-step c.args.store.now c.args.change c.in-Create.index c.args.number c.args.store.now.ready c.args.indexes.now.items c.push_index.new.indexes.items c.in-Create.is c.requires.before c.requires.ready c.requires.kept
     c.push_index.ensures.items
+
+pub returns-in-Alter-clause-kept : goal.returns-in-Alter-clause-kept
+returns-in-Alter-clause-kept c =
+    let at = made-before c.args.change (Alter c.in-Alter.index) c.args.number c.in-Alter.is refl c.requires.before in
+    let lent = lent-step c.args.store.now c.as_mut_slice-in-Alter.result.now c.args.indexes.now.items (next_number c.args.number) (c.args.number + 1) c.as_mut_slice-in-Alter.ensures.value at c.requires.kept in
+    let stands = altered-stands c.args.change c.in-Alter.index c.args.number c.args.store.now.space c.args.store.now.ready c.args.indexes.now.items c.in-Alter.is c.requires.ready in
+    whole-step c.args.store.now c.args.indexes.now.len c.args.indexes.now.items c.replace_index.new.indexes (next_number c.args.number) (c.args.number + 1) (omega (arith, c.replace_index.auto.indexes, c.as_mut_slice-in-Alter.ensures.len)) at
+    (c.replace_index.ensures.kept c.args.store.now (c.args.number + 1) stands lent)
+
+pub returns-in-Drop-clause-kept : goal.returns-in-Drop-clause-kept
+returns-in-Drop-clause-kept c = c.drop_index.ensures.kept c.args.store.now (next_number c.args.number) c.requires.kept
+
+pub returns-in-DropMembers-clause-kept : goal.returns-in-DropMembers-clause-kept
+returns-in-DropMembers-clause-kept c = c.drop_members.ensures.kept (next_number c.args.number) c.requires.kept
+
+pub returns-in-DropMembers-clause-state : goal.returns-in-DropMembers-clause-state
+returns-in-DropMembers-clause-state c latest =
+    (ap (λ (docs : List Doc). record { space = docs; definitions = definitions_of c.drop_members.new.indexes.items; latest = latest }) (c.drop_members.ensures.space (next_number c.args.number) c.requires.kept)
+    ∙ ap (λ (ds : List Defined). record { space = without_members (index_of (definitions_of c.args.indexes.now.items) c.in-DropMembers.name.now) c.args.store.now.space; definitions = ds; latest = latest }) c.drop_members.ensures.definitions)
+    ∙ ap (λ (change : Change). changed change c.args.store.now.ready (state_of c.args.store.now c.args.indexes.now.items latest)) (sym c.in-DropMembers.is)

@@ -2,7 +2,8 @@ use Rattle.std.proofs.Common.{sym, subst}
 use Rattle.ft_engine.specs.Machine.{hash_in}
 use Rattle.ft_base.specs.Space.{doc_of}
 use Rattle.ft_meaning.specs.Meaning.{ValuesFit}
-use Rattle.ft_engine.proofs.WritesLaws.{found-fits, in_step-read, left-fits}
+use Rattle.ft_engine.proofs.WritesLaws.{found-fits, left-fits}
+use Rattle.indexed_store.proofs.StepLaws.{in_step-read}
 use Rattle.ft_engine.proofs.hdel.take_fields.Goals as goal
 
 pub returns-in_err-before-clause-kept : goal.returns-in_err-before-clause-kept

@@ -3,7 +3,7 @@ use Rattle.ft_base.specs.Number.{int_of}
 use Rattle.ft_engine.specs.Asking.{first, second}
 use Rattle.ft_engine.specs.Stands.{state_of}
 use Rattle.ft_engine.proofs.PlainLaws.{increment-fits, not-number, overflows, same-field, too-wide, value-fits}
-use Rattle.ft_engine.proofs.WritesLaws.{in_step-read}
+use Rattle.indexed_store.proofs.StepLaws.{in_step-read}
 use Rattle.ft_engine.proofs.hincrby.hincrby.Goals as goal
 
 pub returns-in_default-number_of-clause-does : goal.returns-in_default-number_of-clause-does

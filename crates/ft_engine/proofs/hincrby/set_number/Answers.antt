@@ -2,7 +2,8 @@ use Rattle.std.proofs.Common.{◌<◌, ◌≤◌, ◌∙◌, ap, sym, subst, ari
 use Rattle.ft_base.specs.Hash.{Hash}
 use Rattle.ft_base.specs.declared.limits.TheConstants.{MAX_WORD_BYTES}
 use Rattle.ft_meaning.specs.Meaning.{ValuesFit}
-use Rattle.ft_engine.proofs.WritesLaws.{found-fits, in_step-read, set-filled, set-fits}
+use Rattle.ft_engine.proofs.WritesLaws.{found-fits, set-filled, set-fits}
+use Rattle.indexed_store.proofs.StepLaws.{in_step-read}
 use Rattle.ft_engine.proofs.hincrby.set_number.Goals as goal
 
 pub returns-in_err-hash-clause-kept : goal.returns-in_err-hash-clause-kept

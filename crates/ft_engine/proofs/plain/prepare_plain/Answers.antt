@@ -1,8 +1,9 @@
 use Rattle.std.proofs.Common.{refl}
-use Rattle.cmd_parse.specs.declared.command.Verb.TheVariants.{Del, Flushall}
+use Rattle.cmd_parse.specs.declared.command.Verb.TheVariants.{Del, DropIndex, Flushall, ListIndexes, TagVals}
 use Rattle.ft_engine.specs.Stands.{state_of}
+use Rattle.ft_engine.proofs.IndexCommandLaws.{ids-above, list-told}
 use Rattle.ft_engine.proofs.PlainLaws.{of_verb}
-use Rattle.ft_engine.proofs.WritesLaws.{in_step-later, in_step-read}
+use Rattle.indexed_store.proofs.StepLaws.{in_step-later, in_step-read}
 use Rattle.ft_engine.proofs.plain.prepare_plain.Goals as goal
 
 pub returns-in-Del-clause-does : goal.returns-in-Del-clause-does
@@ -18,6 +19,30 @@ returns-in-Flushall-clause-does c latest =
 
 pub returns-in-Flushall-clause-kept : goal.returns-in-Flushall-clause-kept
 returns-in-Flushall-clause-kept c = in_step-later c.args.store.now c.args.indexes.now c.args.number c.requires.kept
+
+pub returns-in-DropIndex-clause-does : goal.returns-in-DropIndex-clause-does
+returns-in-DropIndex-clause-does c latest =
+    of_verb c.args.verb DropIndex c.args.args.now c.args.number _ _ _ c.in-DropIndex.is (c.drop_named.ensures.does c.args.number (state_of c.args.store.now c.args.indexes.now latest) c.args.store.now.ready refl)
+
+pub returns-in-DropIndex-clause-kept : goal.returns-in-DropIndex-clause-kept
+returns-in-DropIndex-clause-kept c = in_step-later c.args.store.now c.args.indexes.now c.args.number c.requires.kept
+
+pub returns-in-ListIndexes-clause-does : goal.returns-in-ListIndexes-clause-does
+returns-in-ListIndexes-clause-does c latest =
+    of_verb c.args.verb ListIndexes c.args.args.now c.args.number _ _ _ c.in-ListIndexes.is (list-told c.args.args.now c.args.indexes.now c.args.number (state_of c.args.store.now c.args.indexes.now latest) _ c.names_of_indexes.result refl c.names_of_indexes.ensures.reply c.put_made.ensures.told)
+
+pub returns-in-ListIndexes-clause-kept : goal.returns-in-ListIndexes-clause-kept
+returns-in-ListIndexes-clause-kept c = in_step-later c.args.store.now c.args.indexes.now c.args.number c.requires.kept
+
+pub answer_tag_vals-requires-clause-ids : goal.answer_tag_vals-requires-clause-ids
+answer_tag_vals-requires-clause-ids c = ids-above 0 c.args.store.now.space c.requires.kept.documents.rise
+
+pub returns-in-TagVals-clause-does : goal.returns-in-TagVals-clause-does
+returns-in-TagVals-clause-does c latest =
+    of_verb c.args.verb TagVals c.args.args.now c.args.number _ _ _ c.in-TagVals.is (c.answer_tag_vals.ensures.does c.args.number (state_of c.args.store.now c.args.indexes.now latest) refl refl)
+
+pub returns-in-TagVals-clause-kept : goal.returns-in-TagVals-clause-kept
+returns-in-TagVals-clause-kept c = in_step-read c.args.store.now c.answer_tag_vals.new.store c.args.indexes.now c.args.number c.answer_tag_vals.ensures.space c.answer_tag_vals.ensures.last c.requires.kept
 
 pub returns-in_default : goal.returns-in_default
 returns-in_default c = record {

@@ -1,6 +1,6 @@
 use Rattle.std.proofs.Common.{◌∙◌, ap, arith, inl, refl}
 use Rattle.std.proofs.lemmas.List.{nil_from_length}
-use Rattle.ft_engine.specs.Stands.{definitions_of}
+use Rattle.indexed_store.specs.Definitions.{definitions_of}
 use Rattle.ft_engine.proofs.Spellings.{ok_written}
 use Rattle.ft_engine.proofs.CountingLaws.{emptied, flushed-nothing}
 use Rattle.ft_engine.proofs.removals.flush.Goals as goal

@@ -2,7 +2,8 @@ use Rattle.std.specs.Prelude.{◌<◌, length}
 use Rattle.std.proofs.Common.{sym, subst}
 use Rattle.ft_base.specs.Hash.{Hash}
 use Rattle.ft_meaning.specs.Meaning.{ValuesFit}
-use Rattle.ft_engine.proofs.WritesLaws.{found-filled, found-fits, in_step-read}
+use Rattle.ft_engine.proofs.WritesLaws.{found-filled, found-fits}
+use Rattle.indexed_store.proofs.StepLaws.{in_step-read}
 use Rattle.ft_engine.proofs.rename.copy_under.Goals as goal
 
 pub returns-in_err-hash-clause-kept : goal.returns-in_err-hash-clause-kept

@@ -5,7 +5,7 @@ use Rattle.ft_engine.specs.Asking.{first, second}
 use Rattle.ft_engine.specs.Stands.{state_of}
 use Rattle.ft_engine.proofs.PlainLaws.{moved, renamed, renamed-same, same-words}
 use Rattle.ft_engine.proofs.Spellings.{ok_written}
-use Rattle.ft_engine.proofs.WritesLaws.{in_step-later}
+use Rattle.indexed_store.proofs.StepLaws.{in_step-later}
 use Rattle.ft_engine.proofs.rename.rename.Goals as goal
 
 pub returns-then-not-is_there-clause-kept : goal.returns-then-not-is_there-clause-kept

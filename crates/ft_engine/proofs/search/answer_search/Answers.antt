@@ -1,7 +1,8 @@
 use Rattle.std.specs.Prelude.{◌<◌, ◌^◌}
 use Rattle.std.proofs.Common.{sym}
 use Rattle.ft_index.specs.Index.{Index, IsIndex}
-use Rattle.ft_engine.proofs.SearchLaws.{named-has, searches-found, searches-none}
+use Rattle.indexed_store.proofs.NamedLaws.{named-has}
+use Rattle.ft_engine.proofs.SearchLaws.{searches-found, searches-none}
 use Rattle.ft_engine.proofs.search.answer_search.Goals as goal
 
 pub returns-in_default-clause-does : goal.returns-in_default-clause-does

@@ -3,11 +3,14 @@ use Rattle.cmd_parse.specs.Read.{command_of}
 use Rattle.cmd_parse.specs.declared.command.Command.{Command}
 use Rattle.ft_engine.specs.Stands.{state_of}
 use Rattle.ft_engine.specs.Step.{Does}
-use Rattle.ft_engine.proofs.WritesLaws.{in_step-later, in_step-read}
+use Rattle.indexed_store.proofs.StepLaws.{in_step-later, in_step-read}
 use Rattle.ft_engine.proofs.step.prepare_command.Goals as goal
 
-pub returns-in-CreateText-clause-kept : goal.returns-in-CreateText-clause-kept
-returns-in-CreateText-clause-kept c = in_step-read c.args.store.now c.create.new.store c.args.indexes.now c.args.number c.create.ensures.space c.create.ensures.last c.requires.kept
+pub returns-in-Create-clause-kept : goal.returns-in-Create-clause-kept
+returns-in-Create-clause-kept c = in_step-read c.args.store.now c.create.new.store c.args.indexes.now c.args.number c.create.ensures.space c.create.ensures.last c.requires.kept
+
+pub returns-in-Alter-clause-kept : goal.returns-in-Alter-clause-kept
+returns-in-Alter-clause-kept c = in_step-read c.args.store.now c.alter.new.store c.args.indexes.now c.args.number c.alter.ensures.space c.alter.ensures.last c.requires.kept
 
 pub returns-in-SearchWord-clause-does : goal.returns-in-SearchWord-clause-does
 returns-in-SearchWord-clause-does c latest =

@@ -6,6 +6,7 @@ use Rattle.std.specs.Str.{bytes_eq}
 use Rattle.term_dict.specs.Terms.{entries_of}
 use Rattle.ft_index.proofs.AddingLaws.{grown, added-next, rest-distinct, front-later}
 use Rattle.ft_index.proofs.CollectedLaws.{same_key}
+use Rattle.ft_index.proofs.GainsLaws.{gains-again}
 use Rattle.ft_index.proofs.adding.add_all.Goals as goal
 
 pub returns-clause-some : goal.returns-clause-some
@@ -35,9 +36,16 @@ loop-word-preserved c =
       before = c.add.ensures.before;
       event = c.add.ensures.event ∙ c.loop-word.invariant.event;
       next = omega (arith, c.add.ensures.next, c.loop-word.invariant.next);
+      gains = gains-again c.args.terms.now c.loop-word.terms c.add.new.terms c.args.markers.now c.loop-word.markers c.add.new.markers c.loop-word.invariant.event c.loop-word.invariant.next c.add.ensures.next
+          c.loop-word.invariant.gains c.add.ensures.gains;
     }
 
 pub add-requires-clause-later : goal.add-requires-clause-later
 add-requires-clause-later c =
     let added = subst (λ (left : Collected). AreAddedBut left c.args.found.entries c.args.id c.args.terms.now c.loop-word.terms) c.in-Some.ensures.steps c.loop-word.invariant.added in
     front-later c.in-Some.word c.in-Some.codes c.next.new.self c.args.found.entries c.args.id c.args.terms.now c.loop-word.terms _ c.as_slice.ensures.value added c.requires.later
+
+pub returns-in_err-add-clause-gains : goal.returns-in_err-add-clause-gains
+returns-in_err-add-clause-gains c =
+    gains-again c.args.terms.now c.loop-word.terms c.add.new.terms c.args.markers.now c.loop-word.markers c.add.new.markers c.loop-word.invariant.event c.loop-word.invariant.next c.add.ensures.next
+    c.loop-word.invariant.gains c.add.ensures.gains

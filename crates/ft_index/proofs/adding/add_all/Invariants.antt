@@ -2,7 +2,7 @@ use Rattle.std.proofs.Common.{◌≡◌, ◌≤◌}
 use Rattle.std.specs.List.{IsDistinct}
 use Rattle.std.specs.Map.{keys_of}
 use Rattle.ft_index.specs.Collected.{AreAddedBut, AreMet}
-use Rattle.ft_index.specs.Index.{AreBefore, AreLists}
+use Rattle.ft_index.specs.Kept.{AreBefore, AreLists, GainsMarkers}
 use Rattle.ft_index.proofs.CollectedLaws.{same_key}
 use Rattle.ft_index.proofs.adding.add_all.Given as goal
 
@@ -18,4 +18,5 @@ invariant-loop-word l = record {
   before : AreBefore l.markers l.terms;
   event : l.markers.event ≡ l.fn.markers.event;
   next : l.fn.markers.next ≤ l.markers.next;
+  gains : GainsMarkers l.fn.terms l.terms l.fn.markers l.markers;
 }

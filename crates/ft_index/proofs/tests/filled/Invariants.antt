@@ -1,5 +1,5 @@
 use Rattle.std.proofs.Common.{◌≤◌}
-use Rattle.ft_index.specs.Index.{AreBefore}
+use Rattle.ft_index.specs.Kept.{AreBefore}
 use Rattle.ft_index.proofs.tests.filled.Given as goal
 
 -- the next document may be written

@@ -2,7 +2,9 @@ use Rattle.std.proofs.Common.{inr, ap, arith, false, subst, sym, drop, ◌∙◌
 use Rattle.std.specs.Prelude.{◌≡◌, Bool, List, length}
 use Rattle.std.proofs.lemmas.List.{take_at}
 use Rattle.ft_base.specs.declared.doc.Doc.{Doc}
-use Rattle.ft_engine.specs.Stands.{AreWritten, InStep, Stands, definitions_of, unused}
+use Rattle.indexed_store.specs.Standing.{AreWritten, InStep}
+use Rattle.ft_engine.specs.Stands.{Stands, unused}
+use Rattle.indexed_store.specs.Definitions.{definitions_of}
 use Rattle.ft_engine.proofs.PreparingLaws.{changes-something}
 use Rattle.ft_engine.proofs.engine.Engine.prepare.Goals as goal
 

@@ -1,34 +1,66 @@
-use Rattle.std.proofs.Common.{◌≡◌, ◌<◌, ◌++◌, ◌∙◌, ℕ, List, Some, ap, sym, subst, refl}
-use Rattle.doc_table.specs.Table.{Table}
-use Rattle.term_dict.specs.Terms.{entries_of}
-use Rattle.ft_index.specs.Hits.{codes, entry}
-use Rattle.ft_index.specs.Index.{AreBefore, Index, Indexes}
+-- A document that is no member changes nothing that is seen; a member enters the lists.
+use Rattle.std.proofs.Common.{◌≡◌, ◌<◌, ◌∙◌, ◌⊎◌, Some, ap, sym, subst, inl, inr, refl, arith}
+use Rattle.ft_index.specs.Fits.{fit_of}
+use Rattle.ft_index.specs.Index.{Index, Indexes}
+use Rattle.ft_index.specs.Kept.{AreBefore, GainsMarkers}
 use Rattle.ft_index.specs.contracts.index.FtIndex.{the_view}
-use Rattle.ft_index.proofs.IndexLaws.{awaiting, seen, unseen}
+use Rattle.ft_index.specs.declared.ready.Fit.{Fit}
+use Rattle.ft_index.specs.declared.ready.Fit.TheVariants.{Member, NoPrefix, Failed}
+use Rattle.ft_index.specs.declared.ready.Ready.{Ready}
+use Rattle.ft_index.proofs.GainsLaws.{gains-none}
+use Rattle.ft_index.proofs.IndexLaws.{unseen}
+use Rattle.ft_index.proofs.MemberLaws.{indexes-same, seen-member, seen-other}
 use Rattle.ft_index.proofs.index.FtIndex.prepare.Goals as goal
 
-pub returns-in_err-prepare-clause-before : goal.returns-in_err-prepare-clause-before
-returns-in_err-prepare-clause-before c = subst (λ (i : Index). AreBefore c.args.markers.now i.terms) (sym c.self.view_is) c.requires.markers
+no-member : (fit : Fit) → (fit ≡ NoPrefix) ⊎ (fit ≡ Failed) → fit ≡ Member → ⊥
+no-member fit is member = elim is [ inl n ↦ cc (n, member) | inr f ↦ cc (f, member) ]
 
-pub add_all-requires-clause-before : goal.add_all-requires-clause-before
-add_all-requires-clause-before c = subst (λ (i : Index). AreBefore c.args.markers.now i.terms) (sym c.self.view_is) c.requires.markers
+pub returns-in-NoPrefix : goal.returns-in-NoPrefix
+returns-in-NoPrefix c =
+    let inside = the_view c.self.inside in
+    let ready : Ready = record { id = c.args.doc.now.id; fit = c.fit_of-fit.result } in
+    let now : Index = record inside { waits = Some ready } in
+    let other : fit_of inside.def c.args.doc.now ≡ Member → ⊥ = λ is. no-member c.fit_of-fit.result c.in-NoPrefix.is (c.fit_of-fit.ensures ∙ is) in
+    record {
+      unseen = λ docs stands. indexes-same inside now docs refl refl refl (subst (λ (i : Index). Indexes i docs) (sym c.self.view_is) stands);
+      live = ap (λ (i : Index). i.table.live) c.self.view_is;
+      def = ap (λ (i : Index). i.def) c.self.view_is;
+      failures = ap (λ (i : Index). i.failures) c.self.view_is;
+      ready = ap (λ (f : Fit). record { id = c.args.doc.now.id; fit = f }) (c.fit_of-fit.ensures ∙ ap (λ (i : Index). fit_of i.def c.args.doc.now) c.self.view_is);
+      waits = refl;
+      seen = λ docs stands.
+          seen-other inside now ready c.args.doc.now docs refl refl refl refl c.fit_of-fit.ensures other (subst (λ (i : Index). Indexes i docs) (sym c.self.view_is) stands);
+      last = omega (arith, c.requires.id, ap (λ (i : Index). i.table.last) c.self.view_is);
+      sound = record { kept = c.self.invariant.0.kept; waits = λ is. absurd (no-member c.fit_of-fit.result c.in-NoPrefix.is is); counted = c.self.invariant.0.counted };
+      before = subst (λ (i : Index). AreBefore c.args.markers.now i.terms) (sym c.self.view_is) c.requires.markers;
+      gains = subst (λ (i : Index). GainsMarkers i.terms inside.terms c.args.markers.now c.args.markers.now) c.self.view_is (gains-none inside.terms c.args.markers.now c.args.markers.now);
+      event = refl;
+      next = omega arith;
+    }
 
-pub returns-in_err-add_all-clause-unseen : goal.returns-in_err-add_all-clause-unseen
-returns-in_err-add_all-clause-unseen c docs stands =
-    unseen (the_view c.self.inside) _ c.args.doc.now.id docs refl (ap (λ (t : Table). t.live) c.in_ok-prepare.ensures.ok) c.in_err-add_all.ensures.some
-    c.self.invariant.0 (subst (λ (i : Index). i.table.last < c.args.doc.now.id) (sym c.self.view_is) c.requires.id) (subst (λ (i : Index). Indexes i docs) (sym c.self.view_is) stands)
+pub enter-requires-clause-markers : goal.enter-requires-clause-markers
+enter-requires-clause-markers c = subst (λ (i : Index). AreBefore c.args.markers.now i.terms) (sym c.self.view_is) c.requires.markers
+
+pub returns-in_err-enter-clause-unseen : goal.returns-in_err-enter-clause-unseen
+returns-in_err-enter-clause-unseen c docs stands =
+    let inside = the_view c.self.inside in
+    let before : Indexes inside docs = subst (λ (i : Index). Indexes i docs) (sym c.self.view_is) stands in
+    let later : inside.table.last < c.args.doc.now.id = subst (λ (i : Index). i.table.last < c.args.doc.now.id) (sym c.self.view_is) c.requires.id in
+    unseen inside _ c.args.doc.now.id _ refl c.in_err-enter.ensures.live c.in_err-enter.ensures.grown c.self.invariant.0.kept later before
 
 pub returns-clause-unseen : goal.returns-clause-unseen
 returns-clause-unseen c docs stands =
-    unseen (the_view c.self.inside) _ c.args.doc.now.id docs refl (ap (λ (t : Table). t.live) c.in_ok-prepare.ensures.ok) c.add_all.ensures.some
-    c.self.invariant.0 (subst (λ (i : Index). i.table.last < c.args.doc.now.id) (sym c.self.view_is) c.requires.id) (subst (λ (i : Index). Indexes i docs) (sym c.self.view_is) stands)
+    let inside = the_view c.self.inside in
+    let before : Indexes inside docs = subst (λ (i : Index). Indexes i docs) (sym c.self.view_is) stands in
+    let later : inside.table.last < c.args.doc.now.id = subst (λ (i : Index). i.table.last < c.args.doc.now.id) (sym c.self.view_is) c.requires.id in
+    unseen inside _ c.args.doc.now.id _ refl c.enter.ensures.live c.enter.ensures.grown c.self.invariant.0.kept later before
 
 pub returns-clause-seen : goal.returns-clause-seen
 returns-clause-seen c docs stands =
-    let inside = c.self.inside in
-    let doc = c.args.doc.now in
-    let key : c.prepare.new.self ≡ awaiting doc inside.table = c.in_ok-prepare.ensures.ok ∙ ap (λ (key : List ℕ). record inside.table { ready = Some (doc.id, key); last = doc.id }) c.as_slice.ensures in
-    let entries : (word : List ℕ) → entries_of c.add_all.new.terms word ≡ entries_of inside.terms word ++ entry doc.id (codes inside.def word doc) =
-    λ word. c.in_ok-add_all.ensures.ok word ∙ ap (λ (found : List ℕ). entries_of inside.terms word ++ entry doc.id found) (c.in_ok-found.ensures.codes word) in
-    seen (the_view inside) (record { def = inside.def; table = c.prepare.new.self; terms = c.add_all.new.terms }) doc docs refl key entries
-    c.self.invariant.0 (subst (λ (i : Index). i.table.last < doc.id) (sym c.self.view_is) c.requires.id) (subst (λ (i : Index). Indexes i docs) (sym c.self.view_is) stands)
+    let inside = the_view c.self.inside in
+    let ready : Ready = record { id = c.args.doc.now.id; fit = c.fit_of-fit.result } in
+    let now : Index = record inside { table = c.enter.new.table; terms = c.enter.new.terms; waits = Some ready } in
+    let before : Indexes inside docs = subst (λ (i : Index). Indexes i docs) (sym c.self.view_is) stands in
+    let later : inside.table.last < c.args.doc.now.id = subst (λ (i : Index). i.table.last < c.args.doc.now.id) (sym c.self.view_is) c.requires.id in
+    seen-member inside now ready c.args.doc.now docs refl c.in_ok-enter.ensures.waits c.in_ok-enter.ensures.entries refl c.fit_of-fit.ensures (sym c.fit_of-fit.ensures ∙ c.in-Member.is)
+    c.self.invariant.0.kept later before

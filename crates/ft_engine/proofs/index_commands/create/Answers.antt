@@ -1,0 +1,26 @@
+use Rattle.std.proofs.Common.{◌≡◌, ◌∙◌, ap, sym, arith, length, List, ℕ}
+use Rattle.std.specs.Prelude.{is_some}
+use Rattle.std.proofs.lemmas.List.{length-map}
+use Rattle.ft_base.specs.declared.doc.Doc.{Doc}
+use Rattle.indexed_store.specs.Definitions.{Defined, defined, failures_over, index_of}
+use Rattle.ft_engine.proofs.IndexCommandLaws.{create-done, create-full, create-taken, named-known}
+use Rattle.ft_engine.proofs.Spellings.{ok_written}
+use Rattle.ft_engine.proofs.index_commands.create.Goals as goal
+
+pub returns-then-is_some-clause-does : goal.returns-then-is_some-clause-does
+returns-then-is_some-clause-does c state waits space same =
+    let known = named-known c.args.indexes.now state.definitions c.as_slice.result.now c.index_named.result same c.index_named.ensures ∙ (sym c.is_some.ensures ∙ c.if-is_some.true) in
+    create-taken c.args.def c.args.number state _ (ap (λ (w : List ℕ). is_some (index_of state.definitions w)) (sym c.as_slice.ensures) ∙ known) c.put_fault.ensures.fault
+
+pub returns-then-indexes-ge-MOST_INDEXES-clause-does : goal.returns-then-indexes-ge-MOST_INDEXES-clause-does
+returns-then-indexes-ge-MOST_INDEXES-clause-does c state waits space same =
+    let known = named-known c.args.indexes.now state.definitions c.as_slice.result.now c.index_named.result same c.index_named.ensures ∙ (sym c.is_some.ensures ∙ c.if-is_some.false) in
+    let many : length state.definitions ≡ length c.args.indexes.now = ap (λ (defs : List Defined). length defs) same ∙ length-map c.args.indexes.now defined in
+    create-full c.args.def c.args.number state _ (ap (λ (w : List ℕ). is_some (index_of state.definitions w)) (sym c.as_slice.ensures) ∙ known) (omega (arith, many, c.if-indexes-ge-MOST_INDEXES.true)) c.put_fault-then-indexes-ge-MOST_INDEXES.ensures.fault
+
+pub returns-in-Ok-clause-does : goal.returns-in-Ok-clause-does
+returns-in-Ok-clause-does c state waits space same =
+    let known = named-known c.args.indexes.now state.definitions c.as_slice.result.now c.index_named.result same c.index_named.ensures ∙ (sym c.is_some.ensures ∙ c.if-is_some.false) in
+    let many : length state.definitions ≡ length c.args.indexes.now = ap (λ (defs : List Defined). length defs) same ∙ length-map c.args.indexes.now defined in
+    create-done c.args.def c.args.number state _ c.in-Ok.index (ap (λ (w : List ℕ). is_some (index_of state.definitions w)) (sym c.as_slice.ensures) ∙ known) (omega (arith, many, c.if-indexes-ge-MOST_INDEXES.false)) c.in-Ok.ensures.def
+    (c.in-Ok.ensures.failures ∙ ap (λ (docs : List Doc). failures_over c.args.def docs 0) (sym space)) (ok_written _ _ c.requires.empty c.put_short.ensures.text)

@@ -1,7 +1,0 @@
-use Rattle.std.specs.Prelude.{◌≡◌, ◌++◌, map, take, drop}
-use Rattle.ft_engine.specs.Indexing.{settled}
-use Rattle.ft_engine.proofs.indexes.commit_all.Given as goal
-
--- the indexes so far are settled, and the others are as they were
-abbrev pub invariant-loop-index : goal.invariant-loop-index
-invariant-loop-index l = l.indexes ≡ map (settled l.replaced) (take l.index-index l.fn.indexes) ++ drop l.index-index l.fn.indexes

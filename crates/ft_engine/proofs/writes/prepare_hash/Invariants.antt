@@ -1,5 +1,0 @@
-use Rattle.ft_engine.proofs.writes.prepare_hash.Given as goal
-
--- the documents of the store
-abbrev pub ghost-prepare_write : goal.ghost-prepare_write
-ghost-prepare_write a = a.store.now.space

@@ -1,0 +1,11 @@
+pub mod LeastLaws
+pub mod EntryLaws
+pub mod LeafLaws
+pub mod CodeLaws
+pub mod LoopLaws
+pub mod PlaceLaws
+pub mod PhraseLaws
+pub mod Layers
+pub mod PartLaws
+pub mod SeekLaws
+pub mod ShelfLaws

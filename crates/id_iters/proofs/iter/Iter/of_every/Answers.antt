@@ -1,0 +1,5 @@
+use Rattle.id_iters.proofs.SeekLaws.{and_ready}
+use Rattle.id_iters.proofs.iter.Iter.of_every.Goals as goal
+
+pub returns-clause-ready : goal.returns-clause-ready
+returns-clause-ready c = λ held from ready. and_ready held c.args.parts from ready

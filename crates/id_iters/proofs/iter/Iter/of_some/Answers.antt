@@ -1,0 +1,5 @@
+use Rattle.id_iters.proofs.SeekLaws.{or_ready}
+use Rattle.id_iters.proofs.iter.Iter.of_some.Goals as goal
+
+pub returns-clause-ready : goal.returns-clause-ready
+returns-clause-ready c = λ held from ready. or_ready held c.args.parts from ready

@@ -1,0 +1,24 @@
+use Rattle.std.proofs.Common.{◌≡◌, List, ℕ, map, sym, ap, ◌∙◌, subst, IfOk}
+use Rattle.phrase_match.specs.Phrase.{AllEqualOrApart, AllRise}
+use Rattle.id_iters.specs.Entries.{codes_at, stand_together}
+use Rattle.id_iters.specs.Leaves.{word_entries}
+use Rattle.id_iters.specs.declared.leaf.Leaf.{Leaf}
+use Rattle.id_iters.proofs.PhraseLaws.{codes_are, words_apart, words_rise}
+use Rattle.id_iters.proofs.phrase.PhraseIter.stands.Goals as goal
+
+pub stand_together-requires-clause-rising : goal.stand_together-requires-clause-rising
+stand_together-requires-clause-rising g c =
+    subst (λ (l : List (List ℕ)). AllRise l) (sym (c.as_slice-2.ensures ∙ c.in_ok-codes.ensures ∙ ap (λ (l : List Leaf). map (λ (word : Leaf). codes_at (word_entries (g.T.Lists.held c.args.lists.now) word.list) c.args.id) l) c.as_slice.ensures))
+    (words_rise (g.T.Lists.held c.args.lists.now) c.requires.lists c.args.id c.requires.live c.args.self.now.words)
+
+pub stand_together-requires-clause-apart : goal.stand_together-requires-clause-apart
+stand_together-requires-clause-apart g c =
+    subst (λ (l : List (List ℕ)). AllEqualOrApart l) (sym (c.as_slice-2.ensures ∙ c.in_ok-codes.ensures ∙ ap (λ (l : List Leaf). map (λ (word : Leaf). codes_at (word_entries (g.T.Lists.held c.args.lists.now) word.list) c.args.id) l) c.as_slice.ensures))
+    (words_apart (g.T.Lists.held c.args.lists.now) c.requires.lists c.args.id c.requires.live c.args.self.now.words)
+
+pub returns : goal.returns
+returns g c =
+    subst (λ (l : List (List ℕ)). IfOk c.stand_together.result (λ answer. answer ≡ stand_together c.args.self.now.fields c.args.self.now.slop c.args.self.now.in_order l))
+    (c.as_slice-2.ensures ∙ c.in_ok-codes.ensures ∙ ap (λ (l : List Leaf). map (λ (word : Leaf). codes_at (word_entries (g.T.Lists.held c.args.lists.now) word.list) c.args.id) l) c.as_slice.ensures
+    ∙ codes_are (g.T.Lists.held c.args.lists.now) c.args.id c.args.self.now.words)
+    c.stand_together.ensures

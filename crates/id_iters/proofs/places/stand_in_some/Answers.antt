@@ -1,0 +1,9 @@
+use Rattle.std.proofs.Common.{arith, sym}
+use Rattle.id_iters.specs.Entries.{field_of, stand_in}
+use Rattle.id_iters.proofs.CodeLaws.{none_passes}
+use Rattle.id_iters.proofs.places.stand_in_some.Goals as goal
+
+pub returns : goal.returns
+returns c =
+    sym (none_passes (λ code. stand_in c.args.fields.now c.args.slop c.args.in_order c.args.words.now (field_of code)) c.args.codes.now
+    (λ k h. c.codes.invariant.none k (omega (arith, h, c.codes-test.false))))

@@ -1,0 +1,81 @@
+//! The names of an index's lists.
+ghost use Rattle.std.specs.Prelude.{◌≡◌, ◌≤◌, IfSome};
+ghost use Rattle.std.specs.Option.{option_copied};
+ghost use Rattle.id_iters.specs.Leaves.{word_list};
+ghost use Rattle.id_iters.specs.Places.{FitsList, IsSoundIn};
+
+use crate::lists::Lists;
+use ft_base::{Bytes, Steps};
+use inverted_list::{List, Marker, Place};
+use posting_block::{Payload, TextHit};
+use std::sync::ledger::Ledger;
+
+/// Which list: that of a word, of a tag of a field, or of a range of a field's numbers by its least number.
+#[derive(Drop)]
+pub enum ListName {
+    Word { text: Bytes },
+    Tag { field: u16, text: Bytes },
+    Range { field: u16, low: i64 },
+}
+
+impl ListName {
+    /// A place in the list behind the ids up to `after`. A hint that is such a place is answered as it is.
+    pub fn open_at<T: Lists, L: Ledger>(
+        &self,
+        lists: &T,
+        hint: Option<Place>,
+        after: u64,
+        steps: &mut Steps<L>,
+    ) -> Place
+        requires { IfSome hint (λ place. FitsList (T.held lists.now) self.now place) }
+        ensures fits { FitsList (T.held lists.now) self.now result }
+        ensures last { result.last ≡ after }
+        ensures counts { steps.old ≤ steps.new }
+    {
+        match self {
+            ListName::Word { text } => open_in(lists.text(text.as_slice()), hint, after, steps),
+            ListName::Tag { field, text } => {
+                open_in(lists.tag(*field, text.as_slice()), hint, after, steps)
+            }
+            ListName::Range { field, low } => open_in(
+                lists.range(*field, *low),
+                hint,
+                after,
+                steps,
+            ),
+        }
+    }
+
+    /// The list, where it is that of a word and there is one.
+    pub(crate) fn word_list<'a, T: Lists>(&self, lists: &'a T) -> Option<&'a List<TextHit>>
+        ensures { option_copied result ≡ word_list (T.held lists.now) self.now }
+    {
+        match self {
+            ListName::Word { text } => lists.text(text.as_slice()),
+            _ => None,
+        }
+    }
+}
+
+// A place in the list, where there is one, behind the ids up to `after`.
+fn open_in<P: Payload, L: Ledger>(
+    list: Option<&List<P>>,
+    hint: Option<Place>,
+    after: u64,
+    steps: &mut Steps<L>,
+) -> Place
+    requires { IfSome hint (λ place. IsSoundIn (option_copied list) place) }
+    ensures sound { IsSoundIn (option_copied list.entry) result }
+    ensures last { result.last ≡ after }
+    ensures counts { steps.old ≤ steps.new }
+{
+    match list {
+        Some(list) => list.open_at(hint, after, steps),
+        None => Place {
+            marker: Marker { event: 0, nth: 0 },
+            block: 0,
+            at: 0,
+            last: after,
+        },
+    }
+}

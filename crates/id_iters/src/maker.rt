@@ -1,0 +1,90 @@
+//! Iterators made of their parts.
+ghost use Rattle.std.specs.Prelude.{◌≡◌, not, true, false, ℕ, map, IfOk};
+ghost use Rattle.std.specs.List.{All};
+ghost use Rattle.id_iters.specs.Held.{Held};
+ghost use Rattle.id_iters.specs.Leaves.{leaf_has, phrase_ids};
+ghost use Rattle.id_iters.specs.Places.{LeafReady, LeavesReady};
+ghost use Rattle.id_iters.specs.Ready.{Ready, AheadReady};
+ghost use Rattle.id_iters.specs.Sets.{about, about_ahead, all_have, any_has};
+
+use crate::iter::{Ahead, Iter};
+use crate::leaf::Leaf;
+use crate::phrase::PhraseIter;
+use ft_base::{ListOf, NoMemory};
+use std::alloc::Global;
+
+impl Iter {
+    /// The ids of a leaf.
+    pub fn of_leaf(leaf: Leaf) -> Iter
+        ensures set { (held : Held) → (about held result).has ≡ leaf_has held leaf }
+        ensures ready { (held : Held) (from : ℕ)
+            → LeafReady held leaf from → Ready held result from }
+    {
+        Iter::Leaf(leaf)
+    }
+
+    /// The ids where the words of a phrase stand together.
+    pub fn of_phrase(phrase: PhraseIter) -> Iter
+        ensures set { (held : Held) → (about held result).has ≡ phrase_ids held phrase }
+        ensures ready { (held : Held) (from : ℕ)
+            → LeavesReady held phrase.words from → Ready held result from }
+    {
+        Iter::Phrase(phrase)
+    }
+
+    /// The ids that every part has.
+    pub fn of_every(parts: ListOf<Iter>) -> Iter
+        ensures set { (held : Held) → (about held result).has ≡ all_have (map (about held) parts) }
+        ensures ready { (held : Held) (from : ℕ)
+            → All (λ part. Ready held part from) parts → Ready held result from }
+    {
+        Iter::And(parts)
+    }
+
+    /// The ids that some part has.
+    pub fn of_some(parts: ListOf<Ahead>) -> Iter
+        ensures set { (held : Held)
+            → (about held result).has ≡ any_has (map (about_ahead held) parts) }
+        ensures ready { (held : Held) (from : ℕ)
+            → All (λ part. AheadReady held part from) parts → Ready held result from }
+    {
+        Iter::Or(parts)
+    }
+
+    /// The ids that the part has not.
+    pub fn of_other(alloc: Global, part: Iter) -> Result<Iter, NoMemory>
+        ensures set { IfOk result (λ made. (held : Held)
+            → (about held made).has ≡ (λ id. not ((about held part).has id))) }
+        ensures ready { IfOk result (λ made. (held : Held) (from : ℕ)
+            → Ready held part from → Ready held made from) }
+    {
+        let ahead = Ahead::new(part);
+        let boxed = Box::new(alloc, ahead)?;
+        Ok(Iter::Not(boxed))
+    }
+
+    /// All ids, whatever the part has.
+    pub fn of_optional(alloc: Global, part: Iter) -> Result<Iter, NoMemory>
+        ensures set { IfOk result (λ made. (held : Held)
+            → (about held made).has ≡ (λ id. true)) }
+        ensures ready { IfOk result (λ made. (held : Held) (from : ℕ) → Ready held made from) }
+    {
+        Ok(Iter::Optional(Box::new(alloc, part)?))
+    }
+
+    /// All ids.
+    pub fn of_all() -> Iter
+        ensures set { (held : Held) → (about held result).has ≡ (λ id. true) }
+        ensures ready { (held : Held) (from : ℕ) → Ready held result from }
+    {
+        Iter::All
+    }
+
+    /// No id.
+    pub fn of_none() -> Iter
+        ensures set { (held : Held) → (about held result).has ≡ (λ id. false) }
+        ensures ready { (held : Held) (from : ℕ) → Ready held result from }
+    {
+        Iter::Empty
+    }
+}

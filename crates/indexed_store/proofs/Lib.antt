@@ -1,0 +1,5 @@
+pub mod DroppingLaws
+pub mod FillingLaws
+pub mod IndexingLaws
+pub mod NamedLaws
+pub mod StepLaws

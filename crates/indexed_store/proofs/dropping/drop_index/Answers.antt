@@ -1,0 +1,15 @@
+use Rattle.std.proofs.Common.{◌∙◌, ap, arith}
+use Rattle.std.specs.Prelude.{length}
+use Rattle.indexed_store.specs.Definitions.{definitions_of}
+use Rattle.indexed_store.proofs.DroppingLaws.{in_step-others}
+use Rattle.indexed_store.proofs.NamedLaws.{others-defined, others-fewer}
+use Rattle.indexed_store.proofs.dropping.drop_index.Goals as goal
+
+pub returns-clause-definitions : goal.returns-clause-definitions
+returns-clause-definitions c = ap definitions_of c.take_index.ensures.others ∙ others-defined c.args.indexes.now.items c.args.name.now
+
+pub returns-clause-kept : goal.returns-clause-kept
+returns-clause-kept c store next step = in_step-others store c.args.indexes.now.items c.take_index.new.indexes.items c.args.name.now next c.take_index.ensures.others step
+
+pub returns-clause-fewer : goal.returns-clause-fewer
+returns-clause-fewer c = omega (arith, ap length c.take_index.ensures.others, others-fewer c.args.indexes.now.items c.args.name.now)

@@ -1,0 +1,16 @@
+use Rattle.std.specs.Prelude.{◌≡◌, ℕ, map, length}
+use Rattle.indexed_store.specs.Definitions.{definitions_of}
+use Rattle.indexed_store.specs.Removing.{without_keys}
+use Rattle.indexed_store.specs.Standing.{InStep}
+use Rattle.indexed_store.proofs.dropping.remove_live.Given as goal
+
+-- what is left to remove are the rows that are still live
+abbrev pub invariant-removing : goal.invariant-removing
+invariant-removing l = record {
+  left : without_keys l.store.space (map (λ row. row.1) l.rest.table.live) ≡ without_keys l.fn.store.space (map (λ row. row.1) l.fn.dropped.table.live);
+  kept : (next : ℕ) → InStep l.fn.store l.fn.indexes next → InStep l.store l.indexes next;
+  definitions : definitions_of l.indexes ≡ definitions_of l.fn.indexes;
+}
+
+abbrev pub decreases-removing : goal.decreases-removing
+decreases-removing l = length l.rest.table.live

@@ -1,0 +1,24 @@
+use Rattle.std.specs.Prelude.{◌≡◌, ◌<◌, ◌≤◌, length}
+use Rattle.indexed_store.specs.Definitions.{failures_over}
+use Rattle.indexed_store.specs.Filling.{beyond, upto}
+use Rattle.ft_index.specs.Kept.{AreBefore}
+use Rattle.ft_index.specs.Index.{Indexes, IsIndex}
+use Rattle.indexed_store.proofs.filling.fill.Given as goal
+
+-- the index has the documents with ids so far
+abbrev pub invariant-filling : goal.invariant-filling
+invariant-filling l = record {
+  stands : Indexes l.index (upto l.after l.fn.store.space);
+  indexed : l.index.table.last ≤ l.after;
+  earlier : l.after < l.fn.markers.event;
+  sound : IsIndex l.index;
+  before : AreBefore l.markers l.index.terms;
+  failures : l.index.failures ≡ failures_over l.fn.index.def (upto l.after l.fn.store.space) l.fn.index.failures;
+  def : l.index.def ≡ l.fn.index.def;
+  space : l.store.space ≡ l.fn.store.space;
+  last : l.store.last ≡ l.fn.store.last;
+  event : l.markers.event ≡ l.fn.markers.event;
+}
+
+abbrev pub decreases-filling : goal.decreases-filling
+decreases-filling l = length (beyond l.after l.fn.store.space)

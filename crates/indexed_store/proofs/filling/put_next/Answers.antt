@@ -1,0 +1,63 @@
+use Rattle.std.specs.Prelude.{◌≡◌, ◌∷◌, ℕ, List, [], Some, length}
+use Rattle.std.proofs.lemmas.List.Sums.{fold-append}
+use Rattle.ft_base.specs.declared.definition.IndexDef.{IndexDef}
+use Rattle.ft_index.specs.Fits.{fit_of}
+use Rattle.ft_meaning.specs.Member.{failures_with}
+use Rattle.indexed_store.specs.Definitions.{Defined, failures_over}
+use Rattle.indexed_store.proofs.StepLaws.{defined-committed}
+use Rattle.std.proofs.Common.{◌∙◌, ap, sym, subst, arith}
+use Rattle.ft_base.specs.declared.doc.Doc.{Doc}
+use Rattle.indexed_store.specs.Filling.{beyond, upto}
+use Rattle.ft_index.specs.Index.{Index, Indexes, IsIndex}
+use Rattle.ft_index.proofs.MemberLaws.{index-committed}
+use Rattle.ft_index.specs.declared.ready.Ready.{Ready}
+use Rattle.ft_meaning.specs.Meaning.{ValuesFit}
+use Rattle.indexed_store.proofs.FillingLaws.{found-value, next-found, none-next}
+use Rattle.indexed_store.proofs.filling.put_next.Goals as goal
+
+pub prepare-requires-clause-id : goal.prepare-requires-clause-id
+prepare-requires-clause-id c =
+    let next = next-found c.args.after c.args.store.now.space c.in-Some.doc.now c.requires.documents.rise (sym c.in-Some.ensures.found) in
+    omega (arith, next.later, c.requires.last)
+
+pub prepare-requires-clause-values : goal.prepare-requires-clause-values
+prepare-requires-clause-values c = found-value (λ (doc : Doc). ValuesFit doc.hash) c.args.after c.args.store.now.space c.in-Some.doc.now c.requires.documents.fit (sym c.in-Some.ensures.found)
+
+pub returns-in_default-clause-end : goal.returns-in_default-clause-end
+returns-in_default-clause-end c = none-next c.args.after c.args.store.now.space (sym c.in_default.ensures.found)
+
+pub returns-clause-stands : goal.returns-clause-stands
+returns-clause-stands c =
+    let next = next-found c.args.after c.args.store.now.space c.in-Some.doc.now c.requires.documents.rise (sym c.in-Some.ensures.found) in
+    let seen = c.in_ok-ready.ensures.seen (upto c.args.after c.args.store.now.space) c.requires.stands in
+    subst (λ (index : Index). Indexes index (upto c.in_ok-ready.ready.id c.args.store.now.space)) (sym c.commit.ensures)
+    (subst (Indexes _) (sym (ap (λ (id : ℕ). upto id c.args.store.now.space) (ap (λ (r : Ready). r.id) c.in_ok-ready.ensures.ready) ∙ next.first)) seen)
+
+pub returns-clause-earlier : goal.returns-clause-earlier
+returns-clause-earlier c =
+    let next = next-found c.args.after c.args.store.now.space c.in-Some.doc.now c.requires.documents.rise (sym c.in-Some.ensures.found) in
+    omega (arith, (ap (λ (r : Ready). r.id) c.in_ok-ready.ensures.ready), next.within, c.requires.documents.earlier)
+
+pub returns-clause-fewer : goal.returns-clause-fewer
+returns-clause-fewer c =
+    let next = next-found c.args.after c.args.store.now.space c.in-Some.doc.now c.requires.documents.rise (sym c.in-Some.ensures.found) in
+    let same : length (beyond c.in_ok-ready.ready.id c.args.store.now.space) ≡ length (beyond c.in-Some.doc.now.id c.args.store.now.space) = ap (λ (id : ℕ). length (beyond id c.args.store.now.space)) (ap (λ (r : Ready). r.id) c.in_ok-ready.ensures.ready) in
+    omega (arith, same, ap length next.others)
+
+pub returns-clause-sound : goal.returns-clause-sound
+returns-clause-sound c =
+    let new = c.prepare.new.self in
+    subst IsIndex (sym c.commit.ensures) (index-committed new c.prepare.ensures.sound)
+
+pub returns-clause-failures : goal.returns-clause-failures
+returns-clause-failures c first before =
+    let next = next-found c.args.after c.args.store.now.space c.in-Some.doc.now c.requires.documents.rise (sym c.in-Some.ensures.found) in
+    let def = c.args.index.now.def in
+    let docs = c.args.store.now.space in
+    let waits = c.in_ok-ready.ensures.waits ∙ ap Some (c.in_ok-ready.ensures.ready ∙ ap (λ (d : IndexDef). record { id = c.in-Some.doc.now.id; fit = fit_of d c.in-Some.doc.now }) (sym c.prepare.ensures.def)) in
+    let counted : c.commit.new.self.failures ≡ failures_with def c.in-Some.doc.now (failures_over def (upto c.args.after docs) first) =
+    ap (λ (index : Index). index.failures) c.commit.ensures
+    ∙ (ap (λ (d : Defined). d.failures) (defined-committed c.prepare.new.self c.in-Some.doc.now c.in-Some.doc.now.id waits)
+    ∙ (ap (λ (d : IndexDef). failures_with d c.in-Some.doc.now c.prepare.new.self.failures) c.prepare.ensures.def ∙ ap (failures_with def c.in-Some.doc.now) (c.prepare.ensures.failures ∙ before))) in
+    let same = ap (λ (r : Ready). upto r.id docs) c.in_ok-ready.ensures.ready ∙ next.first in
+    counted ∙ (sym (fold-append (λ count doc. failures_with def doc count) first (upto c.args.after docs) (c.in-Some.doc.now ∷ [])) ∙ sym (ap (λ (ds : List Doc). failures_over def ds first) same))

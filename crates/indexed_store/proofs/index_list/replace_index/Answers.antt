@@ -1,0 +1,25 @@
+use Rattle.std.specs.Prelude.{ℕ, List, position}
+use Rattle.std.proofs.Common.{◌∙◌, ap, sym}
+use Rattle.ft_base.specs.declared.definition.IndexDef.{IndexDef}
+use Rattle.indexed_store.specs.Named.{is_named}
+use Rattle.indexed_store.specs.Standing.{IndexStands, markers_at}
+use Rattle.indexed_store.proofs.IndexingLaws.{all-set}
+use Rattle.indexed_store.proofs.NamedLaws.{place-is, replaced-none, replaced-one}
+use Rattle.indexed_store.proofs.index_list.replace_index.Goals as goal
+
+pub returns-in-Some-clause-definitions : goal.returns-in-Some-clause-definitions
+returns-in-Some-clause-definitions c =
+    replaced-one c.args.indexes.now c.args.index c.in-Some.place
+    (ap (λ (name : List ℕ). position (is_named name) c.args.indexes.now) (sym (c.as_slice.ensures ∙ ap (λ (d : IndexDef). d.name) c.def.ensures.def)) ∙ (sym c.place_of.ensures ∙ c.in-Some.is))
+
+pub returns-in-Some-clause-kept : goal.returns-in-Some-clause-kept
+returns-in-Some-clause-kept c store next stands step = record {
+  last = step.last;
+  documents = step.documents;
+  stand = all-set (IndexStands store.space next (markers_at next)) c.args.indexes.now c.in-Some.place c.args.index (place-is (is_named _) c.args.indexes.now c.in-Some.place (sym c.in-Some.ensures)).1 stands (λ k d apart short. step.stand k d short);
+}
+
+pub returns-in_default-clause-definitions : goal.returns-in_default-clause-definitions
+returns-in_default-clause-definitions c =
+    replaced-none c.args.indexes.now c.args.index
+    (ap (λ (name : List ℕ). position (is_named name) c.args.indexes.now) (sym (c.as_slice.ensures ∙ ap (λ (d : IndexDef). d.name) c.def.ensures.def)) ∙ sym c.in_default.ensures)

@@ -1,0 +1,22 @@
+use Rattle.std.proofs.Common.{sym, subst, ap, ◌∙◌}
+use Rattle.std.specs.Prelude.{List}
+use Rattle.ft_index.specs.Index.{Index}
+use Rattle.hash_store.specs.Store.{Store}
+use Rattle.indexed_store.specs.Standing.{InStep}
+use Rattle.indexed_store.specs.Definitions.{definitions_of}
+use Rattle.indexed_store.proofs.StepLaws.{definitions-killed, in_step-absent, in_step-erased}
+use Rattle.indexed_store.proofs.removals.remove.Goals as goal
+
+pub returns-in-Some-clause-kept : goal.returns-in-Some-clause-kept
+returns-in-Some-clause-kept c next step =
+    subst (λ (indexes : List Index). InStep c.erase.new.self indexes next) (sym c.kill_all.ensures)
+    (in_step-erased c.args.store.now c.erase.new.self c.args.key.now c.in-Some.id c.args.indexes.now next (ap (λ (s : Store). s.space) c.erase.ensures.gone) (ap (λ (s : Store). s.last) c.erase.ensures.gone)
+    (sym c.in-Some.is ∙ c.erase.ensures.was) step)
+
+pub returns-in_default-clause-kept : goal.returns-in_default-clause-kept
+returns-in_default-clause-kept c next step =
+    in_step-absent c.args.store.now c.erase.new.self c.args.key.now c.args.indexes.now next (ap (λ (s : Store). s.space) c.erase.ensures.gone) (ap (λ (s : Store). s.last) c.erase.ensures.gone)
+    (sym c.in_default.is ∙ c.erase.ensures.was) step
+
+pub returns-in-Some-clause-definitions : goal.returns-in-Some-clause-definitions
+returns-in-Some-clause-definitions c = ap definitions_of c.kill_all.ensures ∙ definitions-killed c.in-Some.id c.args.indexes.now

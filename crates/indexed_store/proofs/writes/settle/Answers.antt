@@ -1,0 +1,13 @@
+use Rattle.std.proofs.Common.{◌∙◌, ap}
+use Rattle.indexed_store.specs.Definitions.{definitions_of}
+use Rattle.indexed_store.proofs.StepLaws.{all-settled, settled-step}
+use Rattle.indexed_store.proofs.writes.settle.Goals as goal
+
+pub returns-clause-kept : goal.returns-clause-kept
+returns-clause-kept c =
+    settled-step c.args.store.now c.commit_put-replaced.new.self c.args.indexes.now c.commit_all.new.indexes c.args.put c.args.number c.args.store.now.ready c.commit_put-replaced.result c.requires.documents c.requires.kept
+    c.requires.waits c.commit_put-replaced.ensures.replaced c.commit_put-replaced.ensures.written c.commit_all.ensures
+
+pub returns-clause-definitions : goal.returns-clause-definitions
+returns-clause-definitions c =
+    ap definitions_of c.commit_all.ensures ∙ all-settled c.args.put c.args.number c.args.store.now.space c.args.store.now.ready c.commit_put-replaced.result c.args.indexes.now c.requires.waits

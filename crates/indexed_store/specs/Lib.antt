@@ -1,0 +1,7 @@
+pub mod Definitions
+pub mod Filling
+pub mod Indexing
+pub mod Named
+pub mod Removing
+pub mod Standing
+pub mod Writing

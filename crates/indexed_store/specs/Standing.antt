@@ -1,0 +1,35 @@
+-- How indexes stand for the documents of a store.
+use Rattle.std.specs.Prelude.{◌<◌, ℕ, List, map, length}
+use Rattle.std.specs.List.{All}
+use Rattle.ft_base.specs.declared.doc.Doc.{Doc}
+use Rattle.ft_index.specs.Index.{Index, Indexes, IsIndex}
+use Rattle.ft_index.specs.Kept.{AreBefore}
+use Rattle.ft_meaning.specs.Meaning.{ValuesFit}
+use Rattle.hash_store.specs.Store.{Store}
+use Rattle.inverted_list.specs.Listing.{RisesAbove, last_id}
+use Rattle.inverted_list.specs.declared.marker.Markers.{Markers}
+
+-- the markers that an event gives first
+abbrev pub markers_at : ℕ → Markers
+markers_at event = record { event = event; next = 0 }
+
+-- One index stands for the documents: its live ids are those of its members, and the live entries of each word's list are
+-- those of the members that have the word. Its ids and its markers are of earlier events.
+pub record IndexStands (space : List Doc) (next : ℕ) (markers : Markers) (index : Index) : Type 0 where
+  pub documents : Indexes index space
+  pub sound : IsIndex index
+  pub earlier : index.table.last < next
+  pub before : AreBefore markers index.terms
+
+-- The ids of the documents rise, and are those of earlier events. No hash is without fields.
+pub record AreWritten (space : List Doc) (next : ℕ) : Type 0 where
+  pub rise : RisesAbove 0 (map (λ (doc : Doc). (doc.id, doc.key)) space)
+  pub earlier : last_id 0 (map (λ (doc : Doc). (doc.id, doc.key)) space) < next
+  pub fit : All (λ (doc : Doc). ValuesFit doc.hash) space
+  pub filled : All (λ (doc : Doc). 0 < length doc.hash) space
+
+-- The documents of a store are of events before this one, and each index stands for them.
+pub record InStep (store : Store) (indexes : List Index) (next : ℕ) : Type 0 where
+  pub last : store.last < next
+  pub documents : AreWritten store.space next
+  pub stand : All (IndexStands store.space next (markers_at next)) indexes

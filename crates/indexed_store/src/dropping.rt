@@ -1,0 +1,55 @@
+//! An index is dropped. It takes no memory.
+ghost use Rattle.std.specs.Prelude.{◌≡◌, ◌≤◌, ℕ, map, length, vec_capacity};
+ghost use Rattle.hash_store.specs.Store.{Store};
+ghost use Rattle.indexed_store.specs.Definitions.{definitions_of, index_of, without_index};
+ghost use Rattle.indexed_store.specs.Removing.{without_keys, without_members};
+ghost use Rattle.indexed_store.specs.Standing.{InStep};
+
+use crate::index_list::take_index;
+use crate::removals::remove;
+use ft_index::FtIndex;
+use hash_store::HashStore;
+
+/// Takes the index of a name out. The documents stay.
+pub fn drop_index(indexes: &mut Vec<FtIndex>, name: &[u8])
+    ensures definitions { definitions_of indexes.new.items
+        ≡ without_index (definitions_of indexes.old.items) name.now }
+    ensures kept { (store : Store) (next : ℕ)
+        → InStep store indexes.old.items next → InStep store indexes.new.items next }
+    ensures fewer { length indexes.new.items ≤ length indexes.old.items }
+    ensures capacity { vec_capacity indexes.old ≤ vec_capacity indexes.new }
+{
+    let _ = take_index(indexes, name);
+}
+
+/// Takes the index of a name out, and the documents that are its members.
+pub fn drop_members(store: &mut HashStore, indexes: &mut Vec<FtIndex>, name: &[u8])
+    ensures space { (next : ℕ) → InStep store.old indexes.old.items next → store.new.space
+        ≡ without_members (index_of (definitions_of indexes.old.items) name.now) store.old.space }
+    ensures definitions { definitions_of indexes.new.items
+        ≡ without_index (definitions_of indexes.old.items) name.now }
+    ensures kept { (next : ℕ)
+        → InStep store.old indexes.old.items next → InStep store.new indexes.new.items next }
+    ensures fewer { length indexes.new.items ≤ length indexes.old.items }
+    ensures capacity { vec_capacity indexes.old ≤ vec_capacity indexes.new }
+{
+    if let Some(index) = take_index(indexes, name) {
+        remove_live(store, indexes.as_mut_slice(), index);
+    }
+}
+
+/// Takes the documents of an index's live rows out.
+fn remove_live(store: &mut HashStore, indexes: &mut [FtIndex], dropped: FtIndex)
+    ensures space { store.new.space
+        ≡ without_keys store.old.space (map (λ row. row.1) dropped.table.live) }
+    ensures kept { (next : ℕ) → InStep store.old indexes.old next → InStep store.new indexes.new next }
+    ensures definitions { definitions_of indexes.new ≡ definitions_of indexes.old }
+{
+    let mut rest = dropped;
+    'removing: while let Some(id) = rest.table().next_live(0) {
+        if let Some(key) = rest.table().key_of(id) {
+            remove(store, indexes, key);
+        }
+        rest.kill(id);
+    }
+}

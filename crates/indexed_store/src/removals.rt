@@ -1,0 +1,33 @@
+//! Documents leave the store and each index. It takes no memory.
+ghost use Rattle.std.specs.Prelude.{◌≡◌, ℕ};
+ghost use Rattle.ft_base.specs.Space.{erase};
+ghost use Rattle.indexed_store.specs.Definitions.{definitions_of};
+ghost use Rattle.indexed_store.specs.Removing.{without_keys};
+ghost use Rattle.indexed_store.specs.Standing.{InStep};
+
+use crate::indexes::kill_all;
+use ft_base::Words;
+use ft_index::FtIndex;
+use hash_store::HashStore;
+
+/// Takes the documents of the keys out.
+pub fn remove_all(store: &mut HashStore, indexes: &mut [FtIndex], keys: &Words<'_>)
+    ensures space { store.new.space ≡ without_keys store.old.space keys.now }
+    ensures kept { (next : ℕ) → InStep store.old indexes.old next → InStep store.new indexes.new next }
+    ensures definitions { definitions_of indexes.new ≡ definitions_of indexes.old }
+{
+    for i in 0..keys.len() {
+        remove(store, indexes, keys.word(i));
+    }
+}
+
+/// Takes a key's document out of the store and of each index.
+pub fn remove(store: &mut HashStore, indexes: &mut [FtIndex], key: &[u8])
+    ensures space { store.new.space ≡ erase store.old.space key.now }
+    ensures kept { (next : ℕ) → InStep store.old indexes.old next → InStep store.new indexes.new next }
+    ensures definitions { definitions_of indexes.new ≡ definitions_of indexes.old }
+{
+    if let Some(id) = store.erase(key) {
+        kill_all(indexes, id);
+    }
+}

@@ -1,0 +1,70 @@
+-- The two halves of entries, as an entry comes to one of them.
+use Rattle.std.proofs.Common.{◌≡◌, ℕ, ℤ, ◌+◌, ◌<◌, true, false, [], length, take, get_or, ap, sym, subst, ◌∙◌}
+use Rattle.std.specs.Prelude.{int_lt, int_le}
+use Rattle.posting_block.specs.declared.hits.NumHit.{NumHit}
+use Rattle.std.specs.List.{filter}
+use Rattle.inverted_list.specs.declared.marker.Marker.{Marker}
+use Rattle.inverted_list.specs.declared.marker.Markers.{Markers}
+use Rattle.inverted_list.specs.Listing.{Listing, with_entry, marker_of}
+use Rattle.numeric_ranges.specs.Added.{marker_after}
+use Rattle.numeric_ranges.specs.declared.row.Row.{Row}
+use Rattle.numeric_ranges.specs.Rows.{Knows, AreFilled, AreHalves, IsInside}
+use Rattle.numeric_ranges.specs.Values.{Entries, values, cut_of}
+use Rattle.numeric_ranges.proofs.HalfLaws.{half_more, half_same}
+use Rattle.numeric_ranges.proofs.ValueLaws.{le_from_lt, le_from_not_lt}
+
+pub filled_left : (left right : Row) (es : Entries) (k : ℕ) (e : ℕ × NumHit) (below above new : Row) → k < length es → e ≡ get_or es k e
+    → int_lt e.1.value right.low ≡ true → AreFilled left right (take k es) below above → new.low ≡ below.low → new.list ≡ with_entry below.list e.0 e.1
+    → (Knows below.spread below.list.entries → Knows new.spread new.list.entries) → AreFilled left right (take (k + 1) es) new above
+filled_left left right es k e below above new h is less f low more knows = record {
+  low = low ∙ f.low;
+  cut = f.cut;
+  left_list = half_more (λ x. int_lt x.1.value right.low) es k e below.list new.list left.list.marker h is less f.left_list more;
+  right_list = half_same (λ x. int_le right.low x.1.value) es k e above.list right.list.marker h is (le_from_lt e.1.value right.low less) f.right_list;
+  knows_left = knows f.knows_left;
+  knows_right = f.knows_right;
+}
+
+pub filled_right : (left right : Row) (es : Entries) (k : ℕ) (e : ℕ × NumHit) (below above new : Row) → k < length es → e ≡ get_or es k e
+    → int_lt e.1.value right.low ≡ false → AreFilled left right (take k es) below above → new.low ≡ above.low → new.list ≡ with_entry above.list e.0 e.1
+    → (Knows above.spread above.list.entries → Knows new.spread new.list.entries) → AreFilled left right (take (k + 1) es) below new
+filled_right left right es k e below above new h is apart f low more knows = record {
+  low = f.low;
+  cut = low ∙ f.cut;
+  left_list = half_same (λ x. int_lt x.1.value right.low) es k e below.list left.list.marker h is apart f.left_list;
+  right_list = half_more (λ x. int_le right.low x.1.value) es k e above.list new.list right.list.marker h is (le_from_not_lt e.1.value right.low apart) f.right_list more;
+  knows_left = f.knows_left;
+  knows_right = knows f.knows_right;
+}
+
+pub filled_along : (left right : Row) (es : Entries) (below above b a : Row) → below ≡ b → above ≡ a → AreFilled left right es b a → AreFilled left right es below above
+filled_along left right es below above b a p q f =
+    subst (λ (x : Row). AreFilled left right es x above) (sym p) (subst (λ (x : Row). AreFilled left right es b x) (sym q) f)
+
+-- two filled rows are the halves of one
+pub halves_from : (row : Row) (es slice : Entries) (markers : Markers) (left right below above : Row) (cut : ℤ) (first second : Marker)
+    → slice ≡ es → left.low ≡ row.low → right.low ≡ cut → cut ≡ cut_of (values es) → IsInside cut (values es)
+    → left.list ≡ record { marker = first; entries = [] } → right.list ≡ record { marker = second; entries = [] }
+    → first ≡ marker_of markers → second ≡ marker_of (marker_after markers) → AreFilled left right slice below above → AreHalves row es markers below above
+halves_from row es slice markers left right below above cut first second same low at is inside l r m n f =
+    let here : right.low ≡ cut_of (values es) = at ∙ is in
+    let one : left.list.marker ≡ marker_of markers = ap (λ (x : Listing NumHit). x.marker) l ∙ m in
+    let two : right.list.marker ≡ marker_of (marker_after markers) = ap (λ (x : Listing NumHit). x.marker) r ∙ n in
+    record {
+      low = f.low ∙ low;
+      cut = f.cut ∙ here;
+      inside = subst (λ (v : ℤ). IsInside v (values es)) is inside;
+      left_list = f.left_list
+          ∙ (ap (λ (k : Marker). record { marker = k; entries = filter (λ e. int_lt e.1.value right.low) slice }) one
+          ∙ (ap (λ (v : ℤ). record { marker = marker_of markers; entries = filter (λ e. int_lt e.1.value v) slice }) here
+          ∙ ap (λ (xs : Entries). record { marker = marker_of markers; entries = filter (λ e. int_lt e.1.value (cut_of (values es))) xs }) same));
+      right_list = f.right_list
+          ∙ (ap (λ (k : Marker). record { marker = k; entries = filter (λ e. int_le right.low e.1.value) slice }) two
+          ∙ (ap (λ (v : ℤ). record { marker = marker_of (marker_after markers); entries = filter (λ e. int_le v e.1.value) slice }) here
+          ∙ ap (λ (xs : Entries). record { marker = marker_of (marker_after markers); entries = filter (λ e. int_le (cut_of (values es)) e.1.value) xs }) same));
+      knows_left = f.knows_left;
+      knows_right = f.knows_right;
+    }
+
+pub next_marker_is : (old new : Markers) → new.next ≡ old.next + 1 → new.event ≡ old.event → marker_of new ≡ marker_of (marker_after old)
+next_marker_is old new next event = ap {B = Marker} (λ (n : ℕ). record { event = new.event; nth = n }) next ∙ ap {B = Marker} (λ (n : ℕ). record { event = n; nth = old.next + 1 }) event

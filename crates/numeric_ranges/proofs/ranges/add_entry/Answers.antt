@@ -1,0 +1,180 @@
+use Rattle.std.proofs.Common.{◌≡◌, ◌++◌, ◌∷◌, [], ◌+◌, ◌-◌, ℕ, List, suc, set, true, false, refl, IfSome, IfNone, Option, ap, sym, subst, ◌∙◌, arith, rules}
+use Rattle.std.specs.List.{insert}
+use mir.Syntax.{w64}
+use mir.Val.{SFits}
+use Rattle.numeric_ranges.specs.declared.row.Row.{Row}
+use Rattle.numeric_ranges.specs.declared.spread.Spread.{Spread}
+use Rattle.numeric_ranges.specs.Values.{splits}
+use Rattle.numeric_ranges.specs.Rows.{Knows}
+use Rattle.numeric_ranges.proofs.AddLaws.{AddsWell, reached_at, row_same, above_at, ids_at, add_plain, add_split}
+use Rattle.numeric_ranges.proofs.ranges.add_entry.Goals as goal
+
+pub grown-requires-clause-below : goal.grown-requires-clause-below
+grown-requires-clause-below c =
+    let items = c.args.rows.now.items in
+    let id = c.args.id in
+    let hit = c.args.hit.now in
+    let at = c.reach-at.result - 1 in
+    let f : SFits w64 c.args.hit.now.value = search rules in
+    let where_at = reached_at items c.as_slice.result.now c.args.hit.now.value c.reach-at.result c.as_slice.ensures.value c.reach-at.ensures.reach c.reach-at.ensures.within f c.requires.held in
+    let less = where_at.1 in
+    above_at items at c.index.result.now id c.requires.above less c.index.ensures
+
+pub append-requires : goal.append-requires
+append-requires c =
+    let items = c.args.rows.now.items in
+    let id = c.args.id in
+    let hit = c.args.hit.now in
+    let at = c.reach-at.result - 1 in
+    let f : SFits w64 c.args.hit.now.value = search rules in
+    let where_at = reached_at items c.as_slice.result.now c.args.hit.now.value c.reach-at.result c.as_slice.ensures.value c.reach-at.ensures.reach c.reach-at.ensures.within f c.requires.held in
+    let less = where_at.1 in
+    above_at items at c.index_mut-row.result.now id c.requires.above less c.index_mut-row.ensures.value
+
+pub halves_of-requires-clause-below : goal.halves_of-requires-clause-below
+halves_of-requires-clause-below c =
+    let items = c.args.rows.now.items in
+    let id = c.args.id in
+    let hit = c.args.hit.now in
+    let at = c.reach-at.result - 1 in
+    let f : SFits w64 c.args.hit.now.value = search rules in
+    let where_at = reached_at items c.as_slice.result.now c.args.hit.now.value c.reach-at.result c.as_slice.ensures.value c.reach-at.ensures.reach c.reach-at.ensures.within f c.requires.held in
+    let less = where_at.1 in
+    above_at items at c.index-in-None.result.now id c.requires.above less c.index-in-None.ensures
+
+pub halves_of-requires-clause-rises : goal.halves_of-requires-clause-rises
+halves_of-requires-clause-rises c =
+    let items = c.args.rows.now.items in
+    let id = c.args.id in
+    let hit = c.args.hit.now in
+    let at = c.reach-at.result - 1 in
+    let f : SFits w64 c.args.hit.now.value = search rules in
+    let where_at = reached_at items c.as_slice.result.now c.args.hit.now.value c.reach-at.result c.as_slice.ensures.value c.reach-at.ensures.reach c.reach-at.ensures.within f c.requires.held in
+    let less = where_at.1 in
+    ids_at items at c.index-in-None.result.now c.requires.held less c.index-in-None.ensures
+
+pub returns-in_ok-append-in-Some-clause-ok : goal.returns-in_ok-append-in-Some-clause-ok
+returns-in_ok-append-in-Some-clause-ok c =
+    let items = c.args.rows.now.items in
+    let id = c.args.id in
+    let hit = c.args.hit.now in
+    let at = c.reach-at.result - 1 in
+    let f : SFits w64 c.args.hit.now.value = search rules in
+    let where_at = reached_at items c.as_slice.result.now c.args.hit.now.value c.reach-at.result c.as_slice.ensures.value c.reach-at.ensures.reach c.reach-at.ensures.within f c.requires.held in
+    let less = where_at.1 in
+    let row = c.index_mut-row.result.now in
+    let same = row_same items at c.index.result.now row less c.index.ensures c.index_mut-row.ensures.value in
+    let whole = subst (λ (o : Option Spread). IfSome o (λ _. splits (c.index.result.now.list.entries ++ (id, hit) ∷ []) ≡ false)) c.in-Some.is c.in_ok-spread.ensures.whole in
+    let knows = subst (λ (o : Option Spread). IfSome o (λ s. Knows s (c.index.result.now.list.entries ++ (id, hit) ∷ []))) c.in-Some.is c.in_ok-spread.ensures.some in
+    let new : Row = record { low = row.low; list = c.append.new.self; spread = c.in-Some.spread } in
+    let well = add_plain items at id hit c.args.markers.now row new c.requires.held where_at.0 less c.index_mut-row.ensures.value
+    (subst (λ (r : Row). splits (r.list.entries ++ (id, hit) ∷ []) ≡ false) same whole)
+    (above_at items at row id c.requires.above less c.index_mut-row.ensures.value) refl c.in_ok-append-in-Some.ensures.ok
+    (subst (λ (r : Row). Knows c.in-Some.spread (r.list.entries ++ (id, hit) ∷ [])) same knows) in
+    well.ok
+
+pub returns-in_ok-append-in-Some-clause-held : goal.returns-in_ok-append-in-Some-clause-held
+returns-in_ok-append-in-Some-clause-held c =
+    let items = c.args.rows.now.items in
+    let id = c.args.id in
+    let hit = c.args.hit.now in
+    let at = c.reach-at.result - 1 in
+    let f : SFits w64 c.args.hit.now.value = search rules in
+    let where_at = reached_at items c.as_slice.result.now c.args.hit.now.value c.reach-at.result c.as_slice.ensures.value c.reach-at.ensures.reach c.reach-at.ensures.within f c.requires.held in
+    let less = where_at.1 in
+    let row = c.index_mut-row.result.now in
+    let same = row_same items at c.index.result.now row less c.index.ensures c.index_mut-row.ensures.value in
+    let whole = subst (λ (o : Option Spread). IfSome o (λ _. splits (c.index.result.now.list.entries ++ (id, hit) ∷ []) ≡ false)) c.in-Some.is c.in_ok-spread.ensures.whole in
+    let knows = subst (λ (o : Option Spread). IfSome o (λ s. Knows s (c.index.result.now.list.entries ++ (id, hit) ∷ []))) c.in-Some.is c.in_ok-spread.ensures.some in
+    let new : Row = record { low = row.low; list = c.append.new.self; spread = c.in-Some.spread } in
+    let well = add_plain items at id hit c.args.markers.now row new c.requires.held where_at.0 less c.index_mut-row.ensures.value
+    (subst (λ (r : Row). splits (r.list.entries ++ (id, hit) ∷ []) ≡ false) same whole)
+    (above_at items at row id c.requires.above less c.index_mut-row.ensures.value) refl c.in_ok-append-in-Some.ensures.ok
+    (subst (λ (r : Row). Knows c.in-Some.spread (r.list.entries ++ (id, hit) ∷ [])) same knows) in
+    well.held
+
+pub returns-in_ok-append-in-Some-clause-parts : goal.returns-in_ok-append-in-Some-clause-parts
+returns-in_ok-append-in-Some-clause-parts c =
+    let items = c.args.rows.now.items in
+    let id = c.args.id in
+    let hit = c.args.hit.now in
+    let at = c.reach-at.result - 1 in
+    let f : SFits w64 c.args.hit.now.value = search rules in
+    let where_at = reached_at items c.as_slice.result.now c.args.hit.now.value c.reach-at.result c.as_slice.ensures.value c.reach-at.ensures.reach c.reach-at.ensures.within f c.requires.held in
+    let less = where_at.1 in
+    let row = c.index_mut-row.result.now in
+    let same = row_same items at c.index.result.now row less c.index.ensures c.index_mut-row.ensures.value in
+    let whole = subst (λ (o : Option Spread). IfSome o (λ _. splits (c.index.result.now.list.entries ++ (id, hit) ∷ []) ≡ false)) c.in-Some.is c.in_ok-spread.ensures.whole in
+    let knows = subst (λ (o : Option Spread). IfSome o (λ s. Knows s (c.index.result.now.list.entries ++ (id, hit) ∷ []))) c.in-Some.is c.in_ok-spread.ensures.some in
+    let new : Row = record { low = row.low; list = c.append.new.self; spread = c.in-Some.spread } in
+    let well = add_plain items at id hit c.args.markers.now row new c.requires.held where_at.0 less c.index_mut-row.ensures.value
+    (subst (λ (r : Row). splits (r.list.entries ++ (id, hit) ∷ []) ≡ false) same whole)
+    (above_at items at row id c.requires.above less c.index_mut-row.ensures.value) refl c.in_ok-append-in-Some.ensures.ok
+    (subst (λ (r : Row). Knows c.in-Some.spread (r.list.entries ++ (id, hit) ∷ [])) same knows) in
+    well.parts
+
+pub returns-in_ok-insert-in-None-clause-ok : goal.returns-in_ok-insert-in-None-clause-ok
+returns-in_ok-insert-in-None-clause-ok c =
+    let items = c.args.rows.now.items in
+    let id = c.args.id in
+    let hit = c.args.hit.now in
+    let at = c.reach-at.result - 1 in
+    let f : SFits w64 c.args.hit.now.value = search rules in
+    let where_at = reached_at items c.as_slice.result.now c.args.hit.now.value c.reach-at.result c.as_slice.ensures.value c.reach-at.ensures.reach c.reach-at.ensures.within f c.requires.held in
+    let less = where_at.1 in
+    let row = c.index-in-None.result.now in
+    let same = row_same items at c.index.result.now row less c.index.ensures c.index-in-None.ensures in
+    let parted = subst (λ (o : Option Spread). IfNone o (splits (c.index.result.now.list.entries ++ (id, hit) ∷ []) ≡ true)) c.in-None.is c.in_ok-spread.ensures.splits in
+    let left = c.in_ok-left-in-None.left in
+    let right = c.in_ok-left-in-None.right in
+    let split = add_split items at id hit c.args.markers.now row left right c.requires.held where_at.0 less c.index-in-None.ensures
+    (subst (λ (r : Row). splits (r.list.entries ++ (id, hit) ∷ []) ≡ true) same parted)
+    (above_at items at row id c.requires.above less c.index-in-None.ensures) c.in_ok-left-in-None.ensures.ok in
+    let one : at + 1 ≡ suc at = omega arith in
+    let new : c.insert.new.self.items ≡ insert items (suc at) right = c.in_ok-insert-in-None.ensures.items ∙ ap (λ (n : ℕ). insert items n right) one in
+    let well = subst (λ (xs : List Row). AddsWell items (set xs at left) id hit c.args.markers.now) (sym new) split in
+    well.ok
+
+pub returns-in_ok-insert-in-None-clause-held : goal.returns-in_ok-insert-in-None-clause-held
+returns-in_ok-insert-in-None-clause-held c =
+    let items = c.args.rows.now.items in
+    let id = c.args.id in
+    let hit = c.args.hit.now in
+    let at = c.reach-at.result - 1 in
+    let f : SFits w64 c.args.hit.now.value = search rules in
+    let where_at = reached_at items c.as_slice.result.now c.args.hit.now.value c.reach-at.result c.as_slice.ensures.value c.reach-at.ensures.reach c.reach-at.ensures.within f c.requires.held in
+    let less = where_at.1 in
+    let row = c.index-in-None.result.now in
+    let same = row_same items at c.index.result.now row less c.index.ensures c.index-in-None.ensures in
+    let parted = subst (λ (o : Option Spread). IfNone o (splits (c.index.result.now.list.entries ++ (id, hit) ∷ []) ≡ true)) c.in-None.is c.in_ok-spread.ensures.splits in
+    let left = c.in_ok-left-in-None.left in
+    let right = c.in_ok-left-in-None.right in
+    let split = add_split items at id hit c.args.markers.now row left right c.requires.held where_at.0 less c.index-in-None.ensures
+    (subst (λ (r : Row). splits (r.list.entries ++ (id, hit) ∷ []) ≡ true) same parted)
+    (above_at items at row id c.requires.above less c.index-in-None.ensures) c.in_ok-left-in-None.ensures.ok in
+    let one : at + 1 ≡ suc at = omega arith in
+    let new : c.insert.new.self.items ≡ insert items (suc at) right = c.in_ok-insert-in-None.ensures.items ∙ ap (λ (n : ℕ). insert items n right) one in
+    let well = subst (λ (xs : List Row). AddsWell items (set xs at left) id hit c.args.markers.now) (sym new) split in
+    well.held
+
+pub returns-in_ok-insert-in-None-clause-parts : goal.returns-in_ok-insert-in-None-clause-parts
+returns-in_ok-insert-in-None-clause-parts c =
+    let items = c.args.rows.now.items in
+    let id = c.args.id in
+    let hit = c.args.hit.now in
+    let at = c.reach-at.result - 1 in
+    let f : SFits w64 c.args.hit.now.value = search rules in
+    let where_at = reached_at items c.as_slice.result.now c.args.hit.now.value c.reach-at.result c.as_slice.ensures.value c.reach-at.ensures.reach c.reach-at.ensures.within f c.requires.held in
+    let less = where_at.1 in
+    let row = c.index-in-None.result.now in
+    let same = row_same items at c.index.result.now row less c.index.ensures c.index-in-None.ensures in
+    let parted = subst (λ (o : Option Spread). IfNone o (splits (c.index.result.now.list.entries ++ (id, hit) ∷ []) ≡ true)) c.in-None.is c.in_ok-spread.ensures.splits in
+    let left = c.in_ok-left-in-None.left in
+    let right = c.in_ok-left-in-None.right in
+    let split = add_split items at id hit c.args.markers.now row left right c.requires.held where_at.0 less c.index-in-None.ensures
+    (subst (λ (r : Row). splits (r.list.entries ++ (id, hit) ∷ []) ≡ true) same parted)
+    (above_at items at row id c.requires.above less c.index-in-None.ensures) c.in_ok-left-in-None.ensures.ok in
+    let one : at + 1 ≡ suc at = omega arith in
+    let new : c.insert.new.self.items ≡ insert items (suc at) right = c.in_ok-insert-in-None.ensures.items ∙ ap (λ (n : ℕ). insert items n right) one in
+    let well = subst (λ (xs : List Row). AddsWell items (set xs at left) id hit c.args.markers.now) (sym new) split in
+    well.parts

@@ -1,0 +1,11 @@
+use Rattle.std.proofs.Common.{ap, subst}
+use mir.Syntax.{w64}
+use mir.Val.{of_z}
+use Rattle.numeric_ranges.specs.Rows.{Knows}
+use Rattle.numeric_ranges.proofs.SpreadLaws.{mixed_more}
+use Rattle.numeric_ranges.proofs.spread.Spread.with.Goals as goal
+
+pub returns-else-other-value-clause-knows : goal.returns-else-other-value-clause-knows
+returns-else-other-value-clause-knows c = λ es id knows.
+    let one = subst (λ s. Knows s es) c.in-One.is knows in
+    mixed_more es id c.in-One.other c.args.value one.0 one.1 (λ same. absurd (c.if-other-value.false (ap (of_z w64) same)))

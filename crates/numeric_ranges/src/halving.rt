@@ -1,0 +1,73 @@
+//! What happens to a row when it has too many entries: it is written anew as two.
+ghost use Rattle.std.specs.Prelude.{◌≡◌, ◌<◌, ◌≤◌, ◌+◌, [], ◌∷◌, ◌++◌, true, IfOk, OnOk, OnErr};
+ghost use Rattle.inverted_list.specs.Listing.{RisesAbove, last_id, marker_of};
+ghost use Rattle.numeric_ranges.specs.Values.{are_mixed};
+ghost use Rattle.numeric_ranges.specs.Rows.{Knows, AreHalves, AreFilled};
+
+use crate::cut::cut_of;
+use crate::entries::entries_with;
+use crate::row::Row;
+use ft_base::NoMemory;
+use inverted_list::{Marker, Markers};
+use posting_block::NumHit;
+use std::alloc::Global;
+
+/// The two halves of a row with one more entry, with the next two markers.
+pub(crate) fn halves_of(
+    alloc: Global,
+    row: &Row,
+    id: u64,
+    hit: &NumHit,
+    markers: &mut Markers,
+) -> Result<(Row, Row), NoMemory>
+    requires below { last_id 0 row.now.list.entries < id }
+    requires rises { RisesAbove 0 row.now.list.entries }
+    requires mixed { are_mixed (row.now.list.entries ++ (id, hit.now) ∷ []) ≡ true }
+    ensures ok { IfOk result (λ h. AreHalves row.now
+        (row.now.list.entries ++ (id, hit.now) ∷ []) markers.old h.0 h.1) }
+    ensures taken { OnOk result (markers.new.next ≡ markers.old.next + 2) }
+    ensures event { markers.new.event ≡ markers.old.event }
+    ensures rises { markers.old.next ≤ markers.new.next }
+    ensures twice { markers.new.next ≤ markers.old.next + 2 }
+{
+    let entries = entries_with(alloc, &row.list, id, hit)?;
+    let cut = cut_of(alloc, entries.as_slice())?;
+    let left = Row::new(alloc, row.low, next_marker(markers)?);
+    let right = Row::new(alloc, cut, next_marker(markers)?);
+    filled(left, right, entries.as_slice())
+}
+
+/// The marker that is given next. Where there is none, memory counts as wanting.
+pub(crate) fn next_marker(markers: &mut Markers) -> Result<Marker, NoMemory>
+    ensures ok { IfOk result (λ marker. marker ≡ marker_of markers.old) }
+    ensures next { OnOk result (markers.new.next ≡ markers.old.next + 1) }
+    ensures err { OnErr result (markers.new.next ≡ markers.old.next) }
+    ensures event { markers.new.event ≡ markers.old.event }
+{
+    match markers.take() {
+        Some(marker) => Ok(marker),
+        None => Err(NoMemory),
+    }
+}
+
+/// Two empty rows with the entries below the right one's low, and with those from it on.
+fn filled(left: Row, right: Row, entries: &[(u64, NumHit)]) -> Result<(Row, Row), NoMemory>
+    requires rises { RisesAbove 0 entries.now }
+    requires left { left.list.entries ≡ [] }
+    requires right { right.list.entries ≡ [] }
+    requires knows_left { Knows left.spread left.list.entries }
+    requires knows_right { Knows right.spread right.list.entries }
+    ensures { IfOk result (λ h. AreFilled left right entries.now h.0 h.1) }
+{
+    let mut below = left;
+    let mut above = right;
+    let cut = above.low;
+    'entries: for (id, hit) in entries {
+        if hit.value < cut {
+            below.push(*id, hit)?;
+        } else {
+            above.push(*id, hit)?;
+        }
+    }
+    Ok((below, above))
+}

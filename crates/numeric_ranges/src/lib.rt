@@ -1,0 +1,19 @@
+//! The ranges of a numeric field: posting lists, each of the values that lie in one range.
+//!
+//! There is one range over all values at first, and a range that grows past 1,024 entries with two
+//! distinct values splits at its median. So a search for an interval reads few other entries.
+//! Read `specs/Ranges.antt`, `specs/Added.antt` and `specs/Values.antt` first, then `ranges.rt`.
+#![tactic(auto)]
+
+mod cut;
+mod entries;
+mod halving;
+mod ranges;
+mod row;
+mod search;
+mod spread;
+#[cfg(test)]
+mod tests;
+
+/// The ranges of one numeric field.
+pub use ranges::Ranges;

@@ -1,0 +1,100 @@
+//! One range: where it begins, its list, and what is known of its values.
+ghost use Rattle.std.specs.Prelude.{◌≡◌, ◌<◌, [], ◌∷◌, ◌++◌, true, false, OnOk, OnErr, IfOk, IfSome, IfNone};
+ghost use Rattle.inverted_list.specs.Listing.{last_id, with_entry, RisesAbove};
+ghost use Rattle.numeric_ranges.specs.Rows.{Knows};
+ghost use Rattle.numeric_ranges.specs.Values.{splits};
+
+use crate::entries::entries_of;
+use crate::spread::Spread;
+use ft_base::NoMemory;
+use inverted_list::{List, Marker};
+use posting_block::NumHit;
+use std::alloc::Global;
+
+/// Over so many entries a range with two distinct values splits.
+pub(crate) const LIMIT: u64 = 1024;
+
+/// A range: its low, its list, and what is known of its values.
+#[derive(Drop)]
+pub(crate) struct Row {
+    pub low: i64,
+    pub list: List<NumHit>,
+    pub spread: Spread,
+}
+
+impl Row {
+    /// A range without entries.
+    pub fn new(alloc: Global, low: i64, marker: Marker) -> Row
+        ensures low { result.low ≡ low }
+        ensures list { result.list ≡ record { marker = marker; entries = [] } }
+        ensures knows { Knows result.spread result.list.entries }
+    {
+        Row {
+            low,
+            list: List::new(alloc, marker),
+            spread: Spread::Empty,
+        }
+    }
+
+    /// One more entry, behind the others.
+    pub fn push(&mut self, id: u64, hit: &NumHit) -> Result<(), NoMemory>
+        requires { last_id 0 self.old.list.entries < id }
+        ensures low { self.new.low ≡ self.old.low }
+        ensures ok { OnOk result (self.new.list ≡ with_entry self.old.list id hit.now) }
+        ensures err { OnErr result (self.new.list ≡ self.old.list) }
+        ensures knows { Knows self.old.spread self.old.list.entries
+            → Knows self.new.spread self.new.list.entries }
+    {
+        let spread = self.spread.with(hit.value);
+        self.list.append(id, hit)?;
+        self.spread = spread;
+        Ok(())
+    }
+
+    /// What is known of the values, which are read if nothing is.
+    fn known(&self, alloc: Global, below: u64) -> Result<Spread, NoMemory>
+        requires knows { Knows self.now.spread self.now.list.entries }
+        requires below { last_id 0 self.now.list.entries < below }
+        ensures knows { IfOk result (λ spread. Knows spread self.now.list.entries) }
+        ensures known { IfOk result (λ spread. ¬ (spread ≡ Spread.Unknown)) }
+    {
+        if let Spread::Unknown = self.spread {
+            let entries = entries_of(alloc, &self.list, below)?;
+            return Ok(spread_of(entries.as_slice()));
+        }
+        Ok(self.spread)
+    }
+
+    /// What is known of the values with one more entry, or None where the range then splits.
+    pub fn grown(&self, alloc: Global, id: u64, hit: &NumHit) -> Result<Option<Spread>, NoMemory>
+        requires knows { Knows self.now.spread self.now.list.entries }
+        requires below { last_id 0 self.now.list.entries < id }
+        ensures some { IfOk result (λ grown. IfSome grown (λ spread.
+            Knows spread (self.now.list.entries ++ (id, hit.now) ∷ []))) }
+        ensures whole { IfOk result (λ grown. IfSome grown (λ _.
+            splits (self.now.list.entries ++ (id, hit.now) ∷ []) ≡ false)) }
+        ensures splits { IfOk result (λ grown. IfNone grown
+            (splits (self.now.list.entries ++ (id, hit.now) ∷ []) ≡ true)) }
+    {
+        if self.list.len() < LIMIT {
+            return Ok(Some(self.spread.with(hit.value)));
+        }
+        let grown = self.known(alloc, id)?.with(hit.value);
+        match grown {
+            Spread::Many => Ok(None),
+            _ => Ok(Some(grown)),
+        }
+    }
+}
+
+/// What is known of the values of entries once they are read.
+fn spread_of(entries: &[(u64, NumHit)]) -> Spread
+    ensures knows { Knows result entries.now }
+    ensures known { ¬ (result ≡ Spread.Unknown) }
+{
+    let mut spread = Spread::Empty;
+    'values: for (_, hit) in entries {
+        spread = spread.with(hit.value);
+    }
+    spread
+}

@@ -1,0 +1,40 @@
+//! What a row knows of its values, so that a long one of equal values is not read at every entry.
+ghost use Rattle.std.specs.Prelude.{◌≡◌, ◌++◌, ◌∷◌, [], ℕ};
+ghost use Rattle.numeric_ranges.specs.Rows.{Knows};
+ghost use Rattle.numeric_ranges.specs.Values.{Entries};
+
+/// What is known of the values of a row.
+#[derive(Clone, Copy)]
+pub(crate) enum Spread {
+    /// Nothing: the list came from outside.
+    Unknown,
+    /// There is no value.
+    Empty,
+    /// All values are this one.
+    One(i64),
+    /// Two values differ.
+    Many,
+}
+
+impl Spread {
+    /// What is known with one more value.
+    pub fn with(self, value: i64) -> Spread
+        ensures knows { (es : Entries) (id : ℕ) → Knows self es
+            → Knows result (es ++ (id, record { value = value }) ∷ []) }
+        ensures unknown { self ≡ Spread.Unknown → result ≡ Spread.Unknown }
+        ensures known { result ≡ Spread.Unknown → self ≡ Spread.Unknown }
+    {
+        match self {
+            Spread::Unknown => Spread::Unknown,
+            Spread::Empty => Spread::One(value),
+            Spread::One(other) => {
+                if other == value {
+                    Spread::One(value)
+                } else {
+                    Spread::Many
+                }
+            }
+            Spread::Many => Spread::Many,
+        }
+    }
+}

@@ -1,0 +1,26 @@
+mod Again
+mod AgainFields
+mod AgainParts
+mod Answers
+mod Blocks
+mod Chains
+mod Enclosed
+mod Ends
+mod Examples
+mod Growing
+mod Keeps
+mod Low
+mod Moves
+pub mod OneAnswer
+mod Order
+mod OrderParts
+mod Placing
+mod Signs
+mod Sound
+mod SoundAtoms
+mod SoundFields
+mod SoundUnary
+mod Stable
+mod StableParts
+mod Targets
+mod Within

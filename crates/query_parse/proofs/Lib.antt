@@ -1,0 +1,13 @@
+pub mod AnswerLemmas
+pub mod Attributing
+pub mod Descent
+pub mod FaultLemmas
+pub mod Joining
+pub mod NameLemmas
+pub mod Naming
+pub mod PairLemmas
+pub mod PhraseLemmas
+pub mod QueryLemmas
+pub mod Ranging
+pub mod StopLemmas
+pub mod Tagging

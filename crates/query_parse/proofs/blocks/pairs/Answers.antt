@@ -1,0 +1,55 @@
+use Rattle.std.proofs.Common.{◌≡◌, ◌||◌, Bool, List, [], ◌∷◌, ◌++◌, refl, ap, sym, ◌∙◌, arith, rules}
+use Rattle.std.specs.Str.{bytes_eq}
+use Rattle.query_grammar.specs.Grammar.{has_name}
+use Rattle.query_grammar.specs.Reading.{names_of}
+use Rattle.query_grammar.specs.Form as form
+use Rattle.query_parse.specs.Seen.{pair_of, pairs_of}
+use Rattle.query_parse.proofs.Attributing.{begins, ended, goes_on}
+use Rattle.query_parse.proofs.PairLemmas.{names-more, pairs-of-more, pairs-of-one}
+use Rattle.query_parse.specs.declared.blocks.Step.TheVariants.{More}
+use Rattle.query_parse.specs.declared.blocks.Step.TheVariants as steps
+use Rattle.query_grammar.specs.Reading as reading
+use Rattle.query_parse.proofs.blocks.pairs.Goals as goal
+
+pub reading-init : goal.reading-init
+reading-init c = record {
+  reads = rw c.new-pairs.ensures.items (begins _ _ _);
+  named = rw c.new-pairs.ensures.items c.no_names-names.ensures;
+  within = omega arith;
+}
+
+pub reading-preserved : goal.reading-preserved
+reading-preserved c =
+    let def = c.args.parser.now.def.now in
+    let params = c.args.parser.now.params.now in
+    let before = pairs_of c.reading.pairs.items in
+    let pair = pair_of c.in-More.pair in
+    let pushed : c.push.new.self.items ≡ c.reading.pairs.items ++ c.in-More.pair ∷ [] = search rules in
+    let more : pairs_of c.push.new.self.items ≡ before ++ pair ∷ [] = ap pairs_of pushed ∙ pairs-of-more c.reading.pairs.items c.in-More.pair in
+    record {
+      reads = rw more (goes_on def params (More c.in-More.pair c.in-More.behind) before _ _ _ _ (λ others. c.in-More.ensures.read def others before c.reading.invariant.named) (λ others. refl) c.in-More.ensures.shorter c.reading.invariant.reads);
+      named = λ name.
+          c.in_ok-add_name-in-More.ensures name
+          ∙ (ap (λ (any : Bool). bytes_eq name c.in-More.pair.name.now || any) (c.reading.invariant.named name)
+          ∙ (sym (names-more def params before pair name)
+          ∙ sym (ap (λ (all : List form.Pair). has_name (names_of def params all) name) more)));
+      within = omega (arith, c.in-More.ensures.shorter, c.reading.invariant.within);
+    }
+
+pub returns-in-Closed-clause-read : goal.returns-in-Closed-clause-read
+returns-in-Closed-clause-read c =
+    let def = c.args.parser.now.def.now in
+    let params = c.args.parser.now.params.now in
+    let before = pairs_of c.reading.pairs.items in
+    let made : List form.Pair → reading.Block def params = λ all. reading.Closed all c.in-Closed.behind.now in
+    ap made (ap pairs_of c.in_ok-add-in-Closed.ensures ∙ pairs-of-one c.reading.pairs.items c.in-Closed.pair)
+    ∙ ended def params (steps.Closed c.in-Closed.pair c.in-Closed.behind) before c.reading.rest.now _ _ (λ others. c.in-Closed.ensures.read def others before c.reading.invariant.named) (λ others. refl) c.reading.invariant.reads
+
+pub returns-in-Open-clause-read : goal.returns-in-Open-clause-read
+returns-in-Open-clause-read c =
+    let def = c.args.parser.now.def.now in
+    let params = c.args.parser.now.params.now in
+    let before = pairs_of c.reading.pairs.items in
+    let made : List form.Pair → reading.Block def params = λ all. reading.Open all c.in-Open.behind.now in
+    ap made (ap pairs_of c.in_ok-add-in-Open.ensures ∙ pairs-of-one c.reading.pairs.items c.in-Open.pair)
+    ∙ ended def params (steps.Open c.in-Open.pair c.in-Open.behind) before c.reading.rest.now _ _ (λ others. c.in-Open.ensures.read def others before c.reading.invariant.named) (λ others. refl) c.reading.invariant.reads

@@ -1,0 +1,46 @@
+-- How contracts see attributes in their braces, and one step of reading them.
+use Rattle.std.specs.Prelude.{◌<◌, ◌≤◌, List, [], ◌∷◌, ◌++◌, Option, Some, None, length}
+use Rattle.ft_base.specs.declared.definition.IndexDef.{IndexDef}
+use Rattle.ft_base.specs.declared.query.Param.{Param}
+use Rattle.query_lex.specs.declared.lexeme.Lexeme.{Lexeme}
+use Rattle.query_grammar.specs.Form as form
+use Rattle.query_grammar.specs.Reading as reading
+use Rattle.query_parse.specs.declared.blocks.Block.{Block}
+use Rattle.query_parse.specs.declared.blocks.Block.TheVariants as blocks
+use Rattle.query_parse.specs.declared.blocks.Pair.{Pair}
+use Rattle.query_parse.specs.declared.blocks.Step.{Step}
+use Rattle.query_parse.specs.declared.blocks.Step.TheVariants as steps
+use Rattle.query_parse.specs.Seen.{pair_of, pairs_of}
+
+-- attributes as reading gives them, with the lexemes behind
+abbrev pub block_of : (def : IndexDef) (params : List Param) → Block → reading.Block def params
+block_of def params (blocks.Closed pairs rest) = reading.Closed (pairs_of pairs.items) rest.now
+block_of def params (blocks.Open pairs rest) = reading.Open (pairs_of pairs.items) rest.now
+
+-- the lexemes behind them
+abbrev pub rest_of : Block → List Lexeme
+rest_of (blocks.Closed pairs rest) = rest.now
+rest_of (blocks.Open pairs rest) = rest.now
+
+-- attributes and one more, if there is one
+abbrev pub and_one : List form.Pair → Option Pair → List form.Pair
+and_one before None = before
+and_one before (Some pair) = before ++ pair_of pair ∷ []
+
+-- what is read behind some attributes, where this step comes next and others are read so
+abbrev pub stepped : (def : IndexDef) (params : List Param) → (List form.Pair → List Lexeme → reading.Block def params) → List form.Pair → Step → reading.Block def params
+stepped def params others before (steps.More pair rest) = others (before ++ pair_of pair ∷ []) rest.now
+stepped def params others before (steps.Closed pair rest) = reading.Closed (and_one before pair) rest.now
+stepped def params others before (steps.Open pair rest) = reading.Open (and_one before pair) rest.now
+
+-- the lexemes behind a step, of which a step that goes on takes one at least
+abbrev pub IsShorter : Step → List Lexeme → Type 0
+IsShorter (steps.More pair rest) ts = length rest.now < length ts
+IsShorter (steps.Closed pair rest) ts = length rest.now ≤ length ts
+IsShorter (steps.Open pair rest) ts = length rest.now ≤ length ts
+
+-- a step leaves no more lexemes than there were
+abbrev pub IsWithin : Step → List Lexeme → Type 0
+IsWithin (steps.More pair rest) ts = length rest.now ≤ length ts
+IsWithin (steps.Closed pair rest) ts = length rest.now ≤ length ts
+IsWithin (steps.Open pair rest) ts = length rest.now ≤ length ts

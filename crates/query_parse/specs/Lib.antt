@@ -1,0 +1,10 @@
+pub mod Answer
+pub mod Blocks
+pub mod Faults
+pub mod Gives
+pub mod Kinds
+pub mod NameKeys
+pub mod Reads
+pub mod Seen
+pub mod Steps
+pub mod Words

@@ -1,0 +1,181 @@
+//! Parts by themselves: words, prefixes, parameters and quotes; and the end of a group.
+ghost use Rattle.std.specs.Prelude.{◌≡◌, ◌∷◌, [], ◌≤◌, IfErr, IfOk, List, length, map, option_to_list};
+ghost use Rattle.query_grammar.specs.Faults.{faults_at};
+ghost use Rattle.query_grammar.specs.Meaning.{atom_parts, quote_parts, quoted, word_parts};
+ghost use Rattle.query_grammar.specs.Reading.{closed_with, next_sign, unless};
+ghost use Rattle.query_grammar.specs.Values.{param_of};
+ghost use Rattle.query_parse.specs.Gives.{Gives, IsFound};
+ghost use Rattle.query_grammar.specs.declared.fault.QueryFault.TheVariants.{NoParam};
+ghost use Rattle.ft_base.specs.declared.definition.IndexDef.{IndexDef};
+ghost use Rattle.ft_base.specs.declared.query.Param.{Param};
+ghost use Rattle.ft_base.specs.declared.query.Query.TheVariants as tree;
+ghost use Rattle.token_text.specs.Tokens.{is_stop, lowered};
+ghost use Rattle.token_text.specs.declared.token.Token.{Token};
+
+use crate::parser::Parser;
+use crate::phrases::any_of;
+use crate::stop::{Read, Stop};
+use crate::tokens::{behind, next_sign};
+use crate::values::param_of;
+use ft_base::{Bytes, Fields, ListOf, MAX_WORD_BYTES, NoMemory, Param, Query, StopWords};
+use query_grammar::QueryFault;
+use query_lex::{LexKind, Lexeme, Sign};
+use std::alloc::Global;
+use token_text::{Token, tokens};
+
+/// The union that a group holds, at its end.
+pub fn closed<'a>(sides: Vec<Query>, lexemes: &'a [Lexeme]) -> Read<'a, Option<Query>>
+    ensures read { (def : IndexDef) (params : List Param)
+        → Gives (λ x. (option_to_list x.0, x.1.now)) result
+        (closed_with def params (next_sign lexemes.now) sides.items lexemes.now) }
+    ensures within { IfOk result (λ x. length x.1.now ≤ length lexemes.now) }
+{
+    match next_sign(lexemes) {
+        Some(Sign::Close) => Ok((any_of(sides), behind(lexemes))),
+        _ => Err(Stop::Broken(lexemes)),
+    }
+}
+
+/// A part by itself, which the lexemes follow.
+pub fn single<'a>(
+    parser: &Parser<'_>,
+    fields: &Fields,
+    lexeme: &Lexeme,
+    rest: &'a [Lexeme],
+) -> Read<'a, Option<Query>>
+    ensures read { Gives (λ x. (option_to_list x.0, x.1.now)) result
+        (unless (faults_at parser.now.params.now lexeme.now) rest.now
+        (Ok (
+          atom_parts parser.now.def.now.stops.words parser.now.params.now
+              fields.now lexeme.now.kind,
+          rest.now,
+        ))) }
+    ensures rest { IfOk result (λ x. x.1.now ≡ rest.now) }
+{
+    match &lexeme.kind {
+        LexKind::Word(word) => Ok((word_part(parser, fields, word.as_slice())?, rest)),
+        LexKind::Prefix(word) => Ok((prefix_part(parser.alloc, fields, word.as_slice())?, rest)),
+        LexKind::Param(name) => {
+            let value = param_at(parser.params, name.as_slice(), lexeme.at, rest)?;
+            Ok((word_part(parser, fields, value)?, rest))
+        }
+        LexKind::ParamPrefix(name) => {
+            let value = param_at(parser.params, name.as_slice(), lexeme.at, rest)?;
+            Ok((prefix_part(parser.alloc, fields, value)?, rest))
+        }
+        LexKind::Quote(text) => Ok((quote_part(parser, fields, text.as_slice())?, rest)),
+        LexKind::Foreign(_) => Err(Stop::Found(QueryFault::OutOfScope { at: lexeme.at }, rest)),
+        LexKind::Sign(Sign::Star) => Ok((Some(Query::All), rest)),
+        _ => Ok((None, rest)),
+    }
+}
+
+/// The value of a parameter at an offset.
+fn param_at<'p, 'a>(
+    params: &'p [Param],
+    name: &[u8],
+    at: usize,
+    rest: &'a [Lexeme],
+) -> Result<&'p [u8], Stop<'a>>
+    ensures ok { IfOk result (λ value. param_of params.now name.now ≡ Some value.now) }
+    ensures err { IfErr result (λ stop. (param_of params.now name.now ≡ None)
+        × IsFound stop (NoParam at) rest.now) }
+{
+    match param_of(params, name) {
+        Some(value) => Ok(value),
+        None => Err(Stop::Found(QueryFault::NoParam { at }, rest)),
+    }
+}
+
+/// A word, lowered, unless it is a stop word.
+fn word_part(parser: &Parser<'_>, fields: &Fields, word: &[u8]) -> Result<Option<Query>, NoMemory>
+    ensures { IfOk result (λ part.
+        option_to_list part ≡ word_parts parser.now.def.now.stops.words fields.now word.now) }
+{
+    let text = word.to_ascii_lowercase(parser.alloc)?;
+    if is_stop(&parser.def.stops, text.as_slice()) {
+        return Ok(None);
+    }
+    let text = Bytes::from_vec(text);
+    let fields = copy_of(parser.alloc, fields)?;
+    Ok(Some(Query::Word { fields, text }))
+}
+
+fn is_stop(stops: &StopWords, word: &[u8]) -> bool
+    ensures { result ≡ is_stop stops.now.words word.now }
+{
+    stops
+        .words
+        .as_slice()
+        .iter()
+        .any(|stop| word == stop.as_slice())
+}
+
+/// A prefix, lowered.
+fn prefix_part(alloc: Global, fields: &Fields, word: &[u8]) -> Result<Option<Query>, NoMemory>
+    ensures { IfOk result (λ part.
+        option_to_list part ≡ tree.Prefix fields.now (lowered word.now) ∷ []) }
+{
+    let text = Bytes::from_vec(word.to_ascii_lowercase(alloc)?);
+    let fields = copy_of(alloc, fields)?;
+    Ok(Some(Query::Prefix { fields, text }))
+}
+
+/// A copy of the fields that are asked.
+pub fn copy_of(alloc: Global, fields: &Fields) -> Result<Fields, NoMemory>
+    ensures { IfOk result (λ copy. copy ≡ fields.now) }
+{
+    match fields {
+        Fields::All => Ok(Fields::All),
+        Fields::Named(numbers) => {
+            let numbers = Vec::from_slice(alloc, numbers.as_slice())?;
+            Ok(Fields::Named(ListOf::from_vec(numbers)))
+        }
+    }
+}
+
+/// The words of a quote.
+fn quote_part(parser: &Parser<'_>, fields: &Fields, text: &[u8]) -> Result<Option<Query>, NoMemory>
+    ensures { IfOk result (λ part.
+        option_to_list part ≡ quote_parts parser.now.def.now.stops.words fields.now text.now) }
+{
+    // `tokens` takes no longer text. No quote of a text that is parsed is longer.
+    if text.len() > MAX_WORD_BYTES {
+        return Err(NoMemory);
+    }
+    let found = tokens(parser.alloc, text, &parser.def.stops)?;
+    let words = words_of(parser.alloc, found)?;
+    quoted(parser.alloc, fields, words)
+}
+
+fn words_of(alloc: Global, tokens: ListOf<Token>) -> Result<Vec<Bytes>, NoMemory>
+    ensures { IfOk result (λ words. words.items ≡ map (λ (token : Token). token.word) tokens) }
+{
+    let mut words = Vec::with_capacity(alloc, tokens.len())?;
+    for token in tokens.into_vec() {
+        words.push(token.word)?;
+    }
+    Ok(words)
+}
+
+/// Words in order and side by side.
+fn quoted(alloc: Global, fields: &Fields, words: Vec<Bytes>) -> Result<Option<Query>, NoMemory>
+    ensures { IfOk result (λ part. option_to_list part ≡ quoted fields.now words.items) }
+{
+    let mut words = words;
+    if words.len() < 2 {
+        return match words.pop() {
+            None => Ok(None),
+            Some(text) => {
+                let fields = copy_of(alloc, fields)?;
+                Ok(Some(Query::Word { fields, text }))
+            }
+        };
+    }
+    Ok(Some(Query::Phrase {
+        fields: copy_of(alloc, fields)?,
+        words: ListOf::from_vec(words),
+        slop: Some(0),
+        in_order: true,
+    }))
+}

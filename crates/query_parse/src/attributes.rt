@@ -1,0 +1,192 @@
+//! What attributes make of the part before them, and their faults.
+ghost use Rattle.std.specs.Prelude.{◌≡◌, ◌≤◌, IfOk, length, option_map, option_to_list};
+ghost use Rattle.std.specs.List.{flat_map};
+ghost use Rattle.query_grammar.specs.Faults.{attribute_faults, has_no_order, pair_faults};
+ghost use Rattle.query_grammar.specs.Meaning.{asks_order, attribute_of, attributed, order_in, slop_in};
+ghost use Rattle.query_grammar.specs.Reading.{behind_atom, next_sign, with_block};
+ghost use Rattle.query_parse.specs.Blocks.{block_of, rest_of};
+ghost use Rattle.query_parse.specs.Faults.{first};
+ghost use Rattle.query_parse.specs.Gives.{Gives};
+ghost use Rattle.query_parse.specs.Seen.{pair_of, pairs_of};
+
+use crate::blocks::{Block, Pair, pairs};
+use crate::parser::Parser;
+use crate::phrases::{arranged, is_else};
+use crate::settings::{flag_of, is_known, slop_of};
+use crate::stop::{Read, Stop};
+use crate::tokens::{behind, next_sign, place_of};
+use crate::values::{fault_at, value_of};
+use ft_base::{NoMemory, Param, Query};
+use query_grammar::QueryFault;
+use query_lex::{Lexeme, Sign};
+
+/// A part with the attributes behind it, if there are any.
+pub fn attributed<'a>(
+    parser: &Parser<'_>,
+    is_quote: bool,
+    part: Option<Query>,
+    lexemes: &'a [Lexeme],
+) -> Read<'a, Option<Query>>
+    ensures read { Gives (λ x. (option_to_list x.0, x.1.now)) result
+        (behind_atom parser.now.def.now parser.now.params.now is_quote
+        (option_to_list part) (next_sign lexemes.now) lexemes.now) }
+    ensures within { IfOk result (λ x. length x.1.now ≤ length lexemes.now) }
+{
+    let Some(Sign::Arrow) = next_sign(lexemes) else {
+        return Ok((part, lexemes));
+    };
+    let Some(Sign::AttrOpen) = next_sign(behind(lexemes)) else {
+        return Err(Stop::Broken(behind(lexemes)));
+    };
+    let block = pairs(parser, behind(behind(lexemes)))?;
+    with_block(parser, place_of(0, lexemes), is_quote, part, block)
+}
+
+/// A part with its attributes, or the first fault of these.
+#[tactic(auto, using(crate::proofs::FaultLemmas::by_first))]
+fn with_block<'a>(
+    parser: &Parser<'_>,
+    at: usize,
+    is_quote: bool,
+    part: Option<Query>,
+    block: Block<'a>,
+) -> Read<'a, Option<Query>>
+    ensures read { Gives (λ x. (option_to_list x.0, x.1.now)) result
+        (with_block parser.now.def.now parser.now.params.now at is_quote (option_to_list part)
+        (block_of parser.now.def.now parser.now.params.now block.entry)) }
+    ensures rest { IfOk result (λ x. x.1.now ≡ rest_of block.entry) }
+{
+    match block {
+        Block::Closed(pairs, rest) => {
+            match first_fault(parser.params, at, pairs.as_slice(), &part) {
+                Some(fault) => Err(Stop::Found(fault, rest)),
+                None => Ok((ordered(parser, is_quote, pairs.as_slice(), part)?, rest)),
+            }
+        }
+        Block::Open(pairs, rest) => {
+            match first_fault(parser.params, at, pairs.as_slice(), &part) {
+                Some(fault) => Err(Stop::Cut(fault, rest)),
+                None => Err(Stop::Broken(rest)),
+            }
+        }
+    }
+}
+
+/// The first fault of the attributes behind an arrow at an offset: that the part has no order, or
+/// that of one of them.
+fn first_fault(
+    params: &[Param],
+    at: usize,
+    pairs: &[Pair<'_>],
+    part: &Option<Query>,
+) -> Option<QueryFault>
+    ensures { result ≡ first (attribute_faults params.now at (pairs_of pairs.now)
+        (option_to_list part.now)) }
+{
+    if asks_order(pairs) && has_no_order(part) {
+        return Some(QueryFault::OutOfScope { at });
+    }
+    pairs_fault(params, pairs)
+}
+
+/// The first fault of attributes.
+#[tactic(auto, using(crate::proofs::FaultLemmas::first_of))]
+fn pairs_fault(params: &[Param], pairs: &[Pair<'_>]) -> Option<QueryFault>
+    ensures { result ≡ first (flat_map (pair_faults params.now) (pairs_of pairs.now)) }
+{
+    for pair in pairs {
+        if let Some(fault) = pair_fault(params, pair) {
+            return Some(fault);
+        }
+    }
+    None
+}
+
+fn pair_fault(params: &[Param], pair: &Pair<'_>) -> Option<QueryFault>
+    ensures { result ≡ first (pair_faults params.now (pair_of pair.now)) }
+{
+    if !is_known(pair.name) {
+        return Some(QueryFault::OutOfScope { at: pair.at });
+    }
+    match pair.value {
+        Some(value) => fault_at(params, value),
+        None => None,
+    }
+}
+
+/// Whether attributes ask how words stand.
+fn asks_order(pairs: &[Pair<'_>]) -> bool
+    ensures { result ≡ asks_order (pairs_of pairs.now) }
+{
+    for pair in pairs {
+        if pair.name == b"slop".as_slice() || pair.name == b"inorder".as_slice() {
+            return true;
+        }
+    }
+    false
+}
+
+/// Whether a part that is not cut is no word and no words.
+fn has_no_order(part: &Option<Query>) -> bool
+    ensures { result ≡ has_no_order (option_to_list part.now) }
+{
+    match part {
+        Some(query) => is_else(query),
+        None => false,
+    }
+}
+
+/// A part whose attributes have no fault.
+fn ordered(
+    parser: &Parser<'_>,
+    is_quote: bool,
+    pairs: &[Pair<'_>],
+    part: Option<Query>,
+) -> Result<Option<Query>, NoMemory>
+    ensures { IfOk result (λ left. option_to_list left
+        ≡ attributed parser.now.params.now is_quote (pairs_of pairs.now) (option_to_list part)) }
+{
+    let Some(query) = part else {
+        return Ok(None);
+    };
+    if !asks_order(pairs) {
+        return Ok(Some(query));
+    }
+    let slop = slop_in(parser.params, is_quote, pairs);
+    let in_order = order_in(parser.params, is_quote, pairs);
+    Ok(Some(arranged(parser.alloc, slop, in_order, query)?))
+}
+
+fn slop_in(params: &[Param], is_quote: bool, pairs: &[Pair<'_>]) -> Option<u32>
+    ensures { result ≡ slop_in params.now is_quote (pairs_of pairs.now) }
+{
+    match attribute(params, b"slop", pairs) {
+        Some(value) => slop_of(value),
+        None => if is_quote { Some(0) } else { None },
+    }
+}
+
+fn order_in(params: &[Param], is_quote: bool, pairs: &[Pair<'_>]) -> bool
+    ensures { result ≡ order_in params.now is_quote (pairs_of pairs.now) }
+{
+    match attribute(params, b"inorder", pairs) {
+        Some(value) => flag_of(value).unwrap_or(is_quote),
+        None => is_quote,
+    }
+}
+
+/// The value of the attribute of this name, where it is there.
+fn attribute<'v>(params: &'v [Param], name: &[u8], pairs: &'v [Pair<'v>]) -> Option<&'v [u8]>
+    ensures { option_map (λ v. v.now) result
+        ≡ attribute_of params.now name.now (pairs_of pairs.now) }
+{
+    for pair in pairs {
+        if name == pair.name {
+            return match pair.value {
+                Some(value) => value_of(params, &value.kind),
+                None => None,
+            };
+        }
+    }
+    None
+}

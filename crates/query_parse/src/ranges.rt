@@ -1,0 +1,185 @@
+//! Ranges of numbers in their brackets.
+ghost use Rattle.std.specs.Prelude.{◌≡◌, ◌<◌, ◌≤◌, IfNone, IfOk, IfSome, length, option_map, negsuc, option_to_list, pos};
+ghost use Rattle.ft_base.specs.declared.definition.IndexDef.{IndexDef};
+ghost use Rattle.query_grammar.specs.Grammar.{is_edge};
+ghost use Rattle.query_grammar.specs.Meaning.{edge_bound, high_of, low_of};
+ghost use Rattle.query_grammar.specs.Reading.{edge_at, range_at, range_by, range_target, value_at};
+ghost use Rattle.query_grammar.specs.Values.{bound_of};
+ghost use Rattle.query_parse.specs.Gives.{Gives};
+ghost use Rattle.query_parse.specs.Seen.{edge_of, seen_bound};
+
+use crate::fields::{Needed, has_other};
+use crate::parser::Parser;
+use crate::stop::{Read, Stop};
+use crate::tokens::{behind, next_sign, place_of};
+use crate::values::{fault_at, is_value, value_of};
+use field_text::number;
+use ft_base::{Param, Query, is_name};
+use query_grammar::QueryFault;
+use query_lex::{LexKind, Lexeme, Sign};
+
+/// An end of a range: its value, and whether the value itself is left out.
+#[derive(Drop)]
+pub struct Edge<'a> {
+    pub excluded: bool,
+    pub value: &'a Lexeme,
+}
+
+/// What a value says as an end of a range.
+#[derive(Clone, Copy)]
+pub enum Bound {
+    Least,
+    Greatest,
+    Exactly(i64),
+}
+
+/// What is asked of a NUMERIC field, at the bracket behind its colon.
+pub fn range_target<'a>(
+    parser: &Parser<'_>,
+    numbers: &[u16],
+    lexemes: &'a [Lexeme],
+) -> Read<'a, Option<Query>>
+    ensures read { Gives (λ x. (option_to_list x.0, x.1.now)) result
+        (range_target parser.now.def.now parser.now.params.now numbers.now lexemes.now) }
+    ensures within { IfOk result (λ x. length x.1.now ≤ length lexemes.now) }
+{
+    let [field] = numbers else {
+        return Err(Stop::Broken(lexemes));
+    };
+    if has_other(Needed::Numeric, parser.def, numbers) {
+        let fault = QueryFault::WrongKind {
+            at: place_of(0, lexemes),
+        };
+        return Err(Stop::Found(fault, behind(lexemes)));
+    }
+    range(parser, *field, behind(lexemes))
+}
+
+/// A range of a field, behind its opening bracket.
+#[tactic(auto, unfolding(query_grammar::specs::Reading::range_at))]
+fn range<'a>(parser: &Parser<'_>, field: u16, lexemes: &'a [Lexeme]) -> Read<'a, Option<Query>>
+    ensures read { Gives (λ x. (option_to_list x.0, x.1.now)) result
+        (range_at parser.now.def.now parser.now.params.now field lexemes.now) }
+    ensures within { IfOk result (λ x. length x.1.now ≤ length lexemes.now) }
+{
+    let (low, behind_low) = next_edge(parser.params, lexemes)?;
+    let (high, rest) = next_edge(parser.params, behind_low)?;
+    match next_sign(rest) {
+        Some(Sign::RangeClose) => {
+            let range = range_by(parser.params, field, &low, &high);
+            Ok((Some(range), behind(rest)))
+        }
+        _ => Err(Stop::Broken(rest)),
+    }
+}
+
+/// An end of a range, with its parenthesis or without.
+fn next_edge<'a>(params: &[Param], lexemes: &'a [Lexeme]) -> Read<'a, Edge<'a>>
+    ensures read { (def : IndexDef)
+        → Gives (λ x. (edge_of x.0, x.1.now)) result (edge_at def params.now lexemes.now) }
+    ensures within { IfOk result (λ x. length x.1.now ≤ length lexemes.now) }
+{
+    match next_sign(lexemes) {
+        Some(Sign::Open) => value(params, true, behind(lexemes)),
+        _ => value(params, false, lexemes),
+    }
+}
+
+/// The value of an end.
+#[tactic(auto, unfolding(query_grammar::specs::Reading::value_at))]
+fn value<'a>(params: &[Param], excluded: bool, lexemes: &'a [Lexeme]) -> Read<'a, Edge<'a>>
+    ensures read { (def : IndexDef)
+        → Gives (λ x. (edge_of x.0, x.1.now)) result
+        (value_at def params.now excluded lexemes.now) }
+    ensures within { IfOk result (λ x. length x.1.now ≤ length lexemes.now) }
+{
+    let [value, rest @ ..] = lexemes else {
+        return Err(Stop::Broken(lexemes));
+    };
+    if !is_edge(params, &value.kind) {
+        return Err(Stop::Broken(lexemes));
+    }
+    match fault_at(params, value) {
+        Some(fault) => Err(Stop::Found(fault, rest)),
+        None => Ok((Edge { excluded, value }, rest)),
+    }
+}
+
+/// Whether a lexeme may be an end of a range.
+fn is_edge(params: &[Param], kind: &LexKind) -> bool
+    ensures { result ≡ is_edge params.now kind.now }
+{
+    if !is_value(kind) {
+        return false;
+    }
+    match value_of(params, kind) {
+        Some(value) => bound_of(value).is_some(),
+        None => true,
+    }
+}
+
+/// An infinite end, or a number as NUMERIC fields have it.
+fn bound_of(value: &[u8]) -> Option<Bound>
+    ensures { option_map seen_bound result ≡ bound_of value.now }
+{
+    if is_name(value, b"inf") || is_name(value, b"+inf") {
+        Some(Bound::Greatest)
+    } else if is_name(value, b"-inf") {
+        Some(Bound::Least)
+    } else {
+        match number(value) {
+            Some(number) => Some(Bound::Exactly(number)),
+            None => None,
+        }
+    }
+}
+
+fn edge_bound(params: &[Param], edge: &Edge<'_>) -> Option<Bound>
+    ensures { option_map seen_bound result ≡ edge_bound params.now (edge_of edge.now) }
+{
+    match value_of(params, &edge.value.kind) {
+        Some(value) => bound_of(value),
+        None => None,
+    }
+}
+
+/// The range between two ends; no document where no number lies between them.
+fn range_by(params: &[Param], field: u16, low: &Edge<'_>, high: &Edge<'_>) -> Query
+    ensures { (def : IndexDef)
+        → result ≡ range_by def params.now field (edge_of low.now) (edge_of high.now) }
+{
+    let low = low_of(low.excluded, edge_bound(params, low));
+    let high = high_of(high.excluded, edge_bound(params, high));
+    match (low, high) {
+        (Some(low), Some(high)) if low <= high => Query::Range { field, low, high },
+        _ => Query::Empty,
+    }
+}
+
+/// The least number of a range, if it has 64 bits.
+fn low_of(excluded: bool, bound: Option<Bound>) -> Option<i64>
+    ensures some { IfSome result (λ n. low_of excluded (option_map seen_bound bound) ≡ n) }
+    ensures none { IfNone result
+        (low_of excluded (option_map seen_bound bound) ≡ pos 9223372036854775808) }
+{
+    match bound {
+        Some(Bound::Exactly(number)) if excluded => number.checked_add(1),
+        Some(Bound::Exactly(number)) => Some(number),
+        Some(Bound::Greatest) => Some(i64::MAX),
+        Some(Bound::Least) | None => Some(i64::MIN),
+    }
+}
+
+/// The greatest number of a range, if it has 64 bits.
+fn high_of(excluded: bool, bound: Option<Bound>) -> Option<i64>
+    ensures some { IfSome result (λ n. high_of excluded (option_map seen_bound bound) ≡ n) }
+    ensures none { IfNone result
+        (high_of excluded (option_map seen_bound bound) ≡ negsuc 9223372036854775808) }
+{
+    match bound {
+        Some(Bound::Exactly(number)) if excluded => number.checked_sub(1),
+        Some(Bound::Exactly(number)) => Some(number),
+        Some(Bound::Least) => Some(i64::MIN),
+        Some(Bound::Greatest) | None => Some(i64::MAX),
+    }
+}

@@ -1,0 +1,27 @@
+use Rattle.std.specs.Prelude.{length}
+use Rattle.std.proofs.Common.{◌∙◌, ap, sym, arith}
+use Rattle.tag_values.specs.Ahead.{ahead, seen, with_tags_of}
+use Rattle.tag_values.specs.Values.{with_tags}
+use Rattle.tag_values.proofs.AheadLaws.{next-found, none-next}
+use Rattle.tag_values.proofs.TagLaws.{first_added}
+use Rattle.tag_values.proofs.values.add_next.Goals as goal
+
+pub returns-in_default-clause-end : goal.returns-in_default-clause-end
+returns-in_default-clause-end c = none-next c.args.after c.args.store.now.space (sym c.in_default.ensures.found)
+
+pub returns-clause-tags : goal.returns-clause-tags
+returns-clause-tags c =
+    let def = c.args.def.now in
+    let field = c.args.field.now in
+    let doc = c.in-Some.doc.now in
+    let rest = ahead doc.id c.args.store.now.space in
+    let old = seen c.args.found.now.keys in
+    ap (λ tags. with_tags_of def field tags rest) c.in_ok-add_tags.ensures
+    ∙ (ap (λ tags. with_tags_of def field (with_tags old tags) rest) c.in_ok-member_tags.ensures
+    ∙ (first_added def field old doc rest
+    ∙ ap (with_tags_of def field old) (sym (next-found c.args.after c.args.store.now.space doc c.requires (sym c.in-Some.ensures.found)))))
+
+pub returns-clause-fewer : goal.returns-clause-fewer
+returns-clause-fewer c =
+    let next = next-found c.args.after c.args.store.now.space c.in-Some.doc.now c.requires (sym c.in-Some.ensures.found) in
+    omega (arith, ap length next)

@@ -1,0 +1,7 @@
+use Rattle.std.specs.Prelude.{◌≡◌}
+use Rattle.tag_values.specs.Ahead.{seen}
+use Rattle.tag_values.specs.Values.{with_tags}
+use Rattle.tag_values.proofs.values.add_tags.Given as goal
+
+abbrev pub invariant-adding : goal.invariant-adding
+invariant-adding l = seen l.found.keys ≡ with_tags (seen l.fn.found.keys) l.yielded

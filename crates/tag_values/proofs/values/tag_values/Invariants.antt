@@ -1,0 +1,19 @@
+use Rattle.std.specs.Prelude.{◌≡◌, length, map}
+use Rattle.std.specs.List.Sorted.{IsStrictlyIncreasing}
+use Rattle.ft_base.specs.declared.doc.Doc.{Doc}
+use Rattle.tag_values.specs.Ahead.{ahead, seen, with_tags_of}
+use Rattle.tag_values.specs.Values.{tag_values}
+use Rattle.tag_values.proofs.values.tag_values.Given as goal
+
+-- the tags so far, with those of the documents ahead, are all
+abbrev pub invariant-walking : goal.invariant-walking
+invariant-walking l = record {
+  tags : with_tags_of l.def l.field (seen l.found.keys) (ahead l.after l.fn.store.space) ≡ tag_values l.def l.field l.fn.store.space;
+  rise : IsStrictlyIncreasing (map (λ (doc : Doc). doc.id) l.fn.store.space);
+  space : l.store.space ≡ l.fn.store.space;
+  ready : l.store.ready ≡ l.fn.store.ready;
+  last : l.store.last ≡ l.fn.store.last;
+}
+
+abbrev pub decreases-walking : goal.decreases-walking
+decreases-walking l = length (ahead l.after l.fn.store.space)

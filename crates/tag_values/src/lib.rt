@@ -1,0 +1,13 @@
+//! The distinct tags of a field over the members of an index, in order of their bytes.
+//!
+//! They are what FT.TAGVALS lists. Each document is read once, in order of ids, and each tag is kept
+//! once in a sorted set, whose tags then become the bulks of a reply.
+//! Read `specs/Values.antt` first, which says what the tags are, then `values.rt`.
+#![tactic(auto)]
+
+#[cfg(test)]
+mod tests;
+mod values;
+
+/// The tags of a field's values, as bulks of a reply.
+pub use values::tag_values;
