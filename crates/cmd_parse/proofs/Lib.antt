@@ -1,2 +1,4 @@
 pub mod Examples
+pub mod PairLaws
+pub mod SearchLaws
 pub mod TableLaws

@@ -1,12 +1,16 @@
--- What a caller may rely on of a plain command's arguments.
-use Rattle.std.specs.Prelude.{◌≡◌, ◌+◌, ◌%◌, ◌≤◌, ℕ, List, [], length, drop, slice_index_or, IsSome, IsTrue}
+-- What a caller may rely on of what is asked.
+use Rattle.std.specs.Prelude.{◌≡◌, ◌+◌, ◌%◌, ◌≤◌, ℕ, List, [], length, drop, map, slice_index_or, IsSome}
+use Rattle.std.specs.List.{All, Contains, IsDistinct}
+use Rattle.std.specs.Str.{bytes_eq}
 use Rattle.ft_base.specs.Number.{int_of}
+use Rattle.ft_base.specs.declared.query.Param.{Param}
 use Rattle.ft_schema.specs.Lawful.{IsLawful as AreLawful}
-use Rattle.cmd_parse.specs.Read.{Asked, Plain, CreateIndex, AlterIndex, SearchWord, is_one_word}
+use Rattle.cmd_parse.specs.Read.{Asked, Plain, CreateIndex, AlterIndex, Search}
 use Rattle.cmd_parse.specs.declared.command.Verb.{Verb}
 use Rattle.cmd_parse.specs.declared.command.Verb.TheVariants.{Ping, Echo, Select, Quit, Hset, Hsetnx, Hget, Hmget, Hgetall, Hdel, Hlen, Hexists, Hincrby, Hkeys, Hvals, Del, Exists, TypeOf, Dbsize, Rename, Flushall, DropIndex, ListIndexes, TagVals}
 use Rattle.cmd_parse.specs.declared.table.Form.{Form}
-use Rattle.cmd_parse.specs.declared.table.Form.TheVariants.{Between, AtLeast, InPairs, Create, Alter, Search, Unbuilt}
+use Rattle.cmd_parse.specs.declared.table.Form.TheVariants.{Between, AtLeast, InPairs, Create, Alter, Unbuilt}
+use Rattle.cmd_parse.specs.declared.table.Form.TheVariants as form
 
 -- how many arguments a verb has
 abbrev pub LawfulNumber : Verb → ℕ → Type 0
@@ -43,7 +47,7 @@ IsLawfulForm (AtLeast verb least) = (n : ℕ) → least ≤ n + 1 → LawfulNumb
 IsLawfulForm (InPairs verb least) = (n : ℕ) → least ≤ n + 1 → (n + 1) % 2 ≡ 0 → LawfulNumber verb n
 IsLawfulForm Create = Unit {0}
 IsLawfulForm Alter = Unit {0}
-IsLawfulForm Search = Unit {0}
+IsLawfulForm form.Search = Unit {0}
 IsLawfulForm Unbuilt = Unit {0}
 
 -- HINCRBY's increment is a number
@@ -56,11 +60,23 @@ pub record Lawful (verb : Verb) (args : List (List ℕ)) : Type 0 where
   pub number : LawfulNumber verb (length args)
   pub increment : HasNumber verb args
 
+-- The names of parameters differ, and each name and value is one of the words.
+pub record AreParams (words : List (List ℕ)) (params : List Param) : Type 0 where
+  pub distinct : IsDistinct bytes_eq (map (λ (param : Param). param.name) params)
+  pub given : All (λ (param : Param). Contains words param.name × Contains words param.value) params
+
 -- What is asked is made of these words: a plain command's arguments are lawful, the fields of a schema keep its limits, and
--- a word that is looked for is one word.
+-- a search has lawful parameters.
 abbrev pub IsLawful : List (List ℕ) → Asked → Type 0
 IsLawful words (Plain verb args) = (args ≡ drop 1 words) × Lawful verb args
 IsLawful words (CreateIndex index) = AreLawful index.fields
 IsLawful words (AlterIndex index fields) = (index ≡ slice_index_or words 1 []) × AreLawful fields
-IsLawful words (SearchWord index word) =
-    (index ≡ slice_index_or words 1 []) × (word ≡ slice_index_or words 2 []) × IsTrue (is_one_word word)
+IsLawful words (Search index query no_content params) =
+    (index ≡ slice_index_or words 1 []) × (query ≡ slice_index_or words 2 []) × AreParams words params
+
+-- an index that is created has this serial
+abbrev pub HasSerial : ℕ → Asked → Type 0
+HasSerial serial (CreateIndex index) = index.serial ≡ serial
+HasSerial serial (Plain verb args) = Unit {0}
+HasSerial serial (AlterIndex index fields) = Unit {0}
+HasSerial serial (Search index query no_content params) = Unit {0}

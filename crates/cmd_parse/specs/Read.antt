@@ -1,16 +1,17 @@
--- What a command asks, in the order of refusals: an unknown name, a form that is not built, a wrong number of words,
--- and the first fault of the words from the left. An index that is created has a serial, which is not among the words.
-use Rattle.std.specs.Prelude.{◌≡◌, ℕ, ℤ, pos, suc, List, [], ◌∷◌, length, Bool, Option, Some, None, Result, Ok, Err, codes, not, is_none, ◌&&◌, ◌||◌, ◌==◌, ◌%◌, nat_le, nat_lt, slice_index_or, false, IsTrue, if◌then◌else◌}
-use Rattle.std.specs.List.{list_all}
+-- What a command asks, in the order of refusals: an unknown name, a command that is not built, a wrong number of words,
+-- a form that is not built, and the first fault of the words from the left. An index that is created has a serial, which
+-- is not among the words.
+use Rattle.std.specs.Prelude.{◌≡◌, ℕ, ℤ, pos, suc, List, [], ◌∷◌, length, Bool, Option, Some, None, Result, Ok, Err, codes, is_none, ◌&&◌, ◌||◌, ◌==◌, ◌%◌, nat_le, nat_lt, slice_index_or, false, IsTrue, if◌then◌else◌}
 use Rattle.std.specs.Ordering.{int_eq}
 use Rattle.ft_base.specs.Names.{is_name}
 use Rattle.ft_base.specs.Number.{int_of}
 use Rattle.ft_base.specs.declared.definition.Field.{Field}
 use Rattle.ft_base.specs.declared.definition.IndexDef.{IndexDef}
+use Rattle.ft_base.specs.declared.query.Param.{Param}
 use Rattle.ft_schema.specs.Schema.{alter, create}
 use Rattle.ft_schema.specs.declared.fault.SchemaFault.{SchemaFault}
-use Rattle.token_text.specs.Tokens.{is_separator}
 use Rattle.cmd_parse.specs.Commands.{form_of}
+use Rattle.cmd_parse.specs.Search.{is_no_content, params_behind}
 use Rattle.cmd_parse.specs.declared.command.Verb.{Verb}
 use Rattle.cmd_parse.specs.declared.command.Verb.TheVariants.{Select, Hincrby, Flushall, DropIndex}
 use Rattle.cmd_parse.specs.declared.command.CmdFault.{CmdFault}
@@ -18,14 +19,16 @@ use Rattle.cmd_parse.specs.declared.command.CmdFault.TheVariants.{Unknown, Arity
 use Rattle.cmd_parse.specs.declared.command.Command.{Command}
 use Rattle.cmd_parse.specs.declared.command.Command.TheVariants as command
 use Rattle.cmd_parse.specs.declared.table.Form.{Form}
-use Rattle.cmd_parse.specs.declared.table.Form.TheVariants.{Between, AtLeast, InPairs, Create, Alter, Search, Unbuilt}
+use Rattle.cmd_parse.specs.declared.search.SearchSpec.{SearchSpec}
+use Rattle.cmd_parse.specs.declared.table.Form.TheVariants.{Between, AtLeast, InPairs, Create, Alter, Unbuilt}
+use Rattle.cmd_parse.specs.declared.table.Form.TheVariants as form
 
 -- What a command asks. A plain command has the words behind its name as arguments.
 pub data Asked : Type 0 where
   Plain : (verb : Verb) → (args : List (List ℕ)) → Asked
   CreateIndex : (index : IndexDef) → Asked
   AlterIndex : (index : List ℕ) → (fields : List Field) → Asked
-  SearchWord : (index word : List ℕ) → Asked
+  Search : (index query : List ℕ) → (no_content : Bool) → (params : List Param) → Asked
 
 -- whether a word may stand behind FLUSHALL
 abbrev pub is_flush_word : List ℕ → Bool
@@ -66,15 +69,14 @@ abbrev pub altered : List ℕ → Result (List Field) SchemaFault → Result Ask
 altered index (Ok fields) = Ok (AlterIndex index fields)
 altered index (Err fault) = Err (Schema fault)
 
--- whether a query is one word: bytes of words alone, and at least one
-abbrev pub is_one_word : List ℕ → Bool
-is_one_word query = nat_lt 0 (length query) && list_all (λ b. not (is_separator b)) query
+-- FT.SEARCH asks for what its query finds, or has the fault of the words behind it.
+abbrev pub searched : List ℕ → List ℕ → Bool → Result (List Param) CmdFault → Result Asked CmdFault
+searched index query no_content (Ok params) = Ok (Search index query no_content params)
+searched index query no_content (Err fault) = Err fault
 
--- FT.SEARCH index word NOCONTENT
-abbrev pub search_word : List (List ℕ) → Result Asked CmdFault
-search_word (index ∷ query ∷ option ∷ []) =
-    if is_name option (codes "NOCONTENT") && is_one_word query then Ok (SearchWord index query) else Err NotBuilt
-search_word _ = Err NotBuilt
+abbrev pub search : List (List ℕ) → Result Asked CmdFault
+search (index ∷ query ∷ options) = searched index query (is_no_content options) (params_behind options)
+search _ = Err Arity
 
 -- a command of this form, whose words are its name and arguments
 abbrev pub read_as : Option Form → ℕ → List ℕ → List (List ℕ) → Result Asked CmdFault
@@ -87,7 +89,7 @@ read_as (Some (InPairs verb least)) serial name args =
 read_as (Some Create) serial name args = if nat_le 5 (suc (length args)) then created (create (name ∷ args) serial) else Err Arity
 read_as (Some Alter) serial name args =
     if nat_le 6 (suc (length args)) then altered (slice_index_or args 0 []) (alter (name ∷ args)) else Err Arity
-read_as (Some Search) serial name args = search_word args
+read_as (Some form.Search) serial name args = search args
 read_as (Some Unbuilt) serial name args = Err NotBuilt
 
 -- What the words of a command ask, where an index that it creates has this serial.
@@ -95,22 +97,28 @@ abbrev pub read : ℕ → List (List ℕ) → Result Asked CmdFault
 read serial [] = Err Unknown
 read serial (name ∷ args) = read_as (form_of name) serial name args
 
--- whether words are read with memory: those of a schema are
-abbrev pub reads_schema : Option Form → ℕ → Bool
-reads_schema (Some Create) count = nat_le 5 count
-reads_schema (Some Alter) count = nat_le 6 count
-reads_schema form count = false
+-- whether words are copied: those of a schema are, and those of a search's parameters, which begin behind four words
+abbrev pub copies_words : Option Form → ℕ → Bool
+copies_words (Some Create) count = nat_le 5 count
+copies_words (Some Alter) count = nat_le 6 count
+copies_words (Some form.Search) count = nat_lt 4 count
+copies_words _ count = false
 
+-- whether words are read with memory
 abbrev pub takes_memory : List (List ℕ) → Bool
 takes_memory [] = false
-takes_memory (name ∷ args) = reads_schema (form_of name) (suc (length args))
+takes_memory (name ∷ args) = copies_words (form_of name) (suc (length args))
+
+-- what the code's search is among these
+abbrev pub search_of : SearchSpec → Asked
+search_of spec = Search spec.index.now spec.query.now spec.no_content spec.params
 
 -- what the code's command is among these
 abbrev pub command_of : Command → Asked
 command_of (command.Plain verb args) = Plain verb args
 command_of (command.Create index) = CreateIndex index
 command_of (command.Alter index fields) = AlterIndex index.now fields
-command_of (command.SearchWord index word) = SearchWord index.now word.now
+command_of (command.Search spec) = search_of spec
 
 -- A command or a fault is what the words ask. Memory is wanting where they are read with it alone.
 abbrev pub IsReading : ℕ → List (List ℕ) → Result Command CmdFault → Type 0

@@ -2,6 +2,7 @@
 ghost use Rattle.std.specs.Prelude.{◌≡◌};
 ghost use Rattle.cmd_parse.specs.declared.command.CmdFault.TheVariants as fault;
 
+use crate::search::SearchSpec;
 use ft_base::{Boxed, Field, IndexDef, ListOf, NoMemory, Words};
 use ft_schema::SchemaFault;
 use thiserror::Error;
@@ -51,11 +52,8 @@ pub enum Command<'a> {
         index: &'a [u8],
         fields: ListOf<Field>,
     },
-    /// The documents of an index that hold a word, which is as it came, in any case.
-    SearchWord {
-        index: &'a [u8],
-        word: &'a [u8],
-    },
+    /// The documents of an index that a query finds.
+    Search(SearchSpec<'a>),
 }
 
 /// Why the words ask nothing.

@@ -2,12 +2,13 @@
 //!
 //! One table names every command with its lawful numbers of words. Where the name and the number
 //! are right the words are judged from the left, and the first fault is answered. Only the
-//! words of a schema are read with memory; all else is lent from the words.
+//! words of a schema and a search's parameters are copied; all else is lent from the words.
 //! Read first `specs/Commands.antt`, which has the table, then `specs/Read.antt` and `read.rt`.
 #![tactic(auto)]
 
 mod command;
 mod read;
+mod search;
 mod table;
 #[cfg(test)]
 mod tests;
@@ -16,3 +17,5 @@ mod tests;
 pub use command::{CmdFault, Command, Verb};
 /// Reads a command.
 pub use read::read_command;
+/// What FT.SEARCH asks.
+pub use search::SearchSpec;

@@ -1,24 +1,22 @@
-//! A command from its words, in the order of refusals: an unknown name, a form that is not built,
-//! a wrong number of words, and the first fault of the words from the left.
-ghost use Rattle.std.specs.Prelude.{◌≡◌, ◌≢◌, ◌<◌, ◌≤◌, ◌+◌, [], length, drop, not, slice_index_or, Err, Ok, IfOk, MatchResult};
-ghost use Rattle.std.specs.List.{list_all};
-ghost use Rattle.cmd_parse.specs.Lawful.{IsLawful, LawfulNumber};
-ghost use Rattle.cmd_parse.specs.Read.{IsReading, altered, asked_of, command_of, created, first_fault, is_flush_word, is_one_word, plain, search_word, select_fault};
+//! A command from its words, in the order of refusals: an unknown name, a command that is not built,
+//! a wrong number of words, a form that is not built, and the first fault of the words from the left.
+ghost use Rattle.std.specs.Prelude.{◌≡◌, ◌≢◌, ◌<◌, ◌≤◌, ◌+◌, [], length, drop, slice_index_or, Err, Ok, IfOk, MatchResult};
+ghost use Rattle.cmd_parse.specs.Lawful.{HasSerial, IsLawful, LawfulNumber};
+ghost use Rattle.cmd_parse.specs.Read.{IsReading, altered, asked_of, command_of, created, first_fault, is_flush_word, plain, search, select_fault};
 ghost use Rattle.cmd_parse.specs.declared.command.CmdFault.TheVariants.{NoMemory};
 ghost use Rattle.ft_base.specs.Number.{int_of};
 ghost use Rattle.ft_base.specs.declared.limits.TheConstants.{MAX_WORDS};
 ghost use Rattle.ft_schema.specs.Schema.{alter, create};
-ghost use Rattle.token_text.specs.Tokens.{is_separator};
 
 use crate::command::{CmdFault, Command, Verb};
+use crate::search::read_search;
 use crate::table::{Form, form_of};
 use ft_base::{Boxed, Words, is_name, read_int};
 use ft_schema::{SchemaFault, read_alter, read_create};
 use std::alloc::Global;
-use token_text::is_separator;
 
-/// Reads a command, without copying a word. An index that it creates gets the serial. Only the words of
-/// a schema are read with memory.
+/// Reads a command. An index that it creates gets the serial. Only the words of a schema and a search's
+/// parameters are read with memory; all else is lent from the words.
 pub fn read_command<'a>(
     alloc: Global,
     words: Words<'a>,
@@ -28,6 +26,7 @@ pub fn read_command<'a>(
     requires limit { length words ≤ MAX_WORDS }
     ensures exact { IsReading serial words.entry result }
     ensures lawful { IfOk result (λ command. IsLawful words.entry (command_of command)) }
+    ensures serial { IfOk result (λ command. HasSerial serial (command_of command)) }
 {
     let Some(form) = form_of(words.word(0)) else {
         return Err(CmdFault::Unknown);
@@ -39,7 +38,7 @@ pub fn read_command<'a>(
         Form::InPairs(verb, least) if least <= count && count % 2 == 0 => plain(verb, &words),
         Form::Create if 5 <= count => create(alloc, &words, serial),
         Form::Alter if 6 <= count => alter(alloc, &words),
-        Form::Search => search_word(&words),
+        Form::Search if 3 <= count => search(alloc, &words),
         Form::Unbuilt => Err(CmdFault::NotBuilt),
         _ => Err(CmdFault::Arity),
     }
@@ -104,6 +103,7 @@ fn create<'a>(alloc: Global, words: &Words<'a>, serial: u64) -> Result<Command<'
         (λ command. created (create words.now serial) ≡ Ok (command_of command))
         (λ fault. fault ≢ NoMemory → created (create words.now serial) ≡ Err fault) }
     ensures lawful { IfOk result (λ command. IsLawful words.now (command_of command)) }
+    ensures serial { IfOk result (λ command. HasSerial serial (command_of command)) }
 {
     match read_create(alloc, words.rest(0), serial) {
         Ok(index) => Ok(Command::Create(Boxed::new(alloc, index)?)),
@@ -131,31 +131,18 @@ fn alter<'a>(alloc: Global, words: &Words<'a>) -> Result<Command<'a>, CmdFault>
     }
 }
 
-/// FT.SEARCH, of which one word with NOCONTENT is built.
-fn search_word<'a>(words: &Words<'a>) -> Result<Command<'a>, CmdFault>
-    requires { 0 < length words.now }
-    ensures exact { asked_of result ≡ search_word (drop 1 words.now) }
-    ensures memory { result ≢ Err NoMemory }
+/// FT.SEARCH.
+fn search<'a>(alloc: Global, words: &Words<'a>) -> Result<Command<'a>, CmdFault>
+    requires number { 3 ≤ length words.now }
+    requires limit { length words.now ≤ MAX_WORDS }
+    ensures exact { MatchResult result
+        (λ command. search (drop 1 words.now) ≡ Ok (command_of command))
+        (λ fault. fault ≢ NoMemory → search (drop 1 words.now) ≡ Err fault) }
+    ensures memory { length words.now ≤ 4 → result ≢ Err NoMemory }
     ensures lawful { IfOk result (λ command. IsLawful words.now (command_of command)) }
 {
-    if words.len() == 4 && is_name(words.word(3), b"NOCONTENT") && is_one_word(words.word(2)) {
-        return Ok(Command::SearchWord {
-            index: words.word(1),
-            word: words.word(2),
-        });
+    match read_search(alloc, words) {
+        Ok(spec) => Ok(Command::Search(spec)),
+        Err(fault) => Err(fault),
     }
-    Err(CmdFault::NotBuilt)
-}
-
-/// Whether a query is one word: bytes of words alone, and at least one.
-fn is_one_word(query: &[u8]) -> bool
-    ensures { result ≡ is_one_word query.now }
-{
-    !query.is_empty() && has_no_separator(query)
-}
-
-fn has_no_separator(bytes: &[u8]) -> bool
-    ensures { result ≡ list_all (λ b. not (is_separator b)) bytes.now }
-{
-    bytes.iter().all(|byte| !is_separator(*byte))
 }

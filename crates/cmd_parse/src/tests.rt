@@ -3,7 +3,7 @@
 ghost use Rattle.std.specs.Prelude.{◌↔◌, IsTrue};
 ghost use Rattle.ft_base.specs.Words.{LieIn};
 
-use crate::{Command, read_command};
+use crate::{Command, SearchSpec, read_command};
 use ft_base::{Field, IndexDef, MAX_WORDS, NoMemory, Span, Words};
 use std::alloc::Global;
 use std::test::Fail;
@@ -38,11 +38,7 @@ fn shown(alloc: Global, command: &Command<'_>) -> Result<String, NoMemory> {
             put(&mut out, index)?;
             put_aliases(&mut out, fields.as_slice())?;
         }
-        Command::SearchWord { index, word } => {
-            out.push_str("search")?;
-            put(&mut out, index)?;
-            put(&mut out, word)?;
-        }
+        Command::Search(spec) => put_search(&mut out, spec)?,
     }
     Ok(out)
 }
@@ -60,6 +56,20 @@ fn put_index(alloc: Global, out: &mut String, index: &IndexDef) -> Result<(), No
     }
     put(out, format!(in alloc; "{count}")?.as_bytes())?;
     put_aliases(out, index.fields.as_slice())
+}
+
+// The index, the query, whether there is NOCONTENT, and each parameter with a `=`.
+fn put_search(out: &mut String, spec: &SearchSpec<'_>) -> Result<(), NoMemory> {
+    out.push_str("search")?;
+    put(out, spec.index)?;
+    put(out, spec.query)?;
+    put(out, if spec.no_content { b"keys" } else { b"all" })?;
+    for param in spec.params.as_slice() {
+        put(out, param.name.as_slice())?;
+        out.push('=')?;
+        out.push_str(text_of(param.value.as_slice()))?;
+    }
+    Ok(())
 }
 
 fn put_aliases(out: &mut String, fields: &[Field]) -> Result<(), NoMemory> {
@@ -227,23 +237,58 @@ fn reads_commands_of_indexes(rt: HostRuntime) -> Result<(), Fail> {
         ("FT.DROPINDEX", "Arity"),
         ("FT.DROPINDEX|ix|DD|DD", "Arity"),
         ("FT.TAGVALS|ix|g", "TagVals|ix|g"),
-        // FT.SEARCH.
-        ("FT.SEARCH|ix|World|NOCONTENT", "search|ix|World"),
-        (
-            "ft.search|ix|caf\u{e9}_1|nocontent",
-            "search|ix|caf\u{e9}_1",
-        ),
-        ("FT.SEARCH|ix|hello", "NotBuilt"),
-        ("FT.SEARCH|ix||NOCONTENT", "NotBuilt"),
-        ("FT.SEARCH|ix|hello-world|NOCONTENT", "NotBuilt"),
-        ("FT.SEARCH|ix|hello|VERBATIM", "NotBuilt"),
-        ("FT.SEARCH|ix|hello|NOCONTENT|VERBATIM", "NotBuilt"),
         // What is not built is not counted.
         ("FT.INFO", "NotBuilt"),
         ("FT.INFO|ix", "NotBuilt"),
         ("FT.AGGREGATE|ix", "NotBuilt"),
         ("FT.CURSOR", "NotBuilt"),
         ("FT.DEBUG", "NotBuilt"),
+    ] {
+        let asked = asked(rt.alloc(), line)?;
+        assert_eq!(rt; asked.as_str(), want, "at {line}");
+    }
+    Ok(())
+}
+
+#[test]
+fn reads_searches(rt: HostRuntime) -> Result<(), Fail> {
+    for (line, want) in [
+        ("FT.SEARCH|ix|a b", "search|ix|a b|all"),
+        ("ft.search|IX|World|nocontent", "search|IX|World|keys"),
+        ("FT.SEARCH|ix||NOCONTENT", "search|ix||keys"),
+        ("FT.SEARCH|NOCONTENT|PARAMS", "search|NOCONTENT|PARAMS|all"),
+        ("FT.SEARCH|ix|$p|PARAMS|2|p|hat", "search|ix|$p|all|p=hat"),
+        (
+            "FT.SEARCH|ix|$p|NoContent|Params|4|p|hat|P|p",
+            "search|ix|$p|keys|p=hat|P=p",
+        ),
+        ("FT.SEARCH|ix|q|PARAMS|0", "search|ix|q|all"),
+        ("FT.SEARCH|ix|q|PARAMS|2||", "search|ix|q|all|="),
+        // Too few words.
+        ("FT.SEARCH", "Arity"),
+        ("FT.SEARCH|ix", "Arity"),
+        // What is not built.
+        ("FT.SEARCH|ix|q|VERBATIM", "NotBuilt"),
+        ("FT.SEARCH|ix|q|NOCONTENT|VERBATIM", "NotBuilt"),
+        ("FT.SEARCH|ix|q|NOCONTENT|NOCONTENT", "NotBuilt"),
+        ("FT.SEARCH|ix|q|PARAMS|2|p|hat|NOCONTENT", "NotBuilt"),
+        ("FT.SEARCH|ix|q|PARAMS", "NotBuilt"),
+        ("FT.SEARCH|ix|q|PARAMS|1|p", "NotBuilt"),
+        ("FT.SEARCH|ix|q|PARAMS|3|p|hat|r", "NotBuilt"),
+        ("FT.SEARCH|ix|q|PARAMS|2|p", "NotBuilt"),
+        ("FT.SEARCH|ix|q|PARAMS|2|p|hat|r|s", "NotBuilt"),
+        ("FT.SEARCH|ix|q|PARAMS|4|p|hat", "NotBuilt"),
+        ("FT.SEARCH|ix|q|PARAMS|02|p|hat", "NotBuilt"),
+        ("FT.SEARCH|ix|q|PARAMS|+2|p|hat", "NotBuilt"),
+        ("FT.SEARCH|ix|q|PARAMS|-2|p|hat", "NotBuilt"),
+        ("FT.SEARCH|ix|q|PARAMS|-0", "NotBuilt"),
+        // A name that came before.
+        ("FT.SEARCH|i|q|PARAMS|4|a|1|a|2", "Syntax { at: 7 }"),
+        (
+            "FT.SEARCH|i|q|NOCONTENT|PARAMS|8|a|1|b|2|b|3|a|4",
+            "Syntax { at: 10 }",
+        ),
+        ("FT.SEARCH|i|q|PARAMS|6|a|1|a|2|a", "NotBuilt"),
     ] {
         let asked = asked(rt.alloc(), line)?;
         assert_eq!(rt; asked.as_str(), want, "at {line}");

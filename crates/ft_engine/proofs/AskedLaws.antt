@@ -1,15 +1,15 @@
 -- What is asked by words that keep the limits, and how long a command's name is.
-use Rattle.std.proofs.Common.{◌≡◌, ◌≤◌, ℕ, List, [], ◌∷◌, length, map, true, Option, Some, None, Err, inl, inr, sym, ap, ◌∙◌, subst, arith, rules}
+use Rattle.std.proofs.Common.{◌≡◌, ◌≤◌, ℕ, suc, zero, List, [], ◌∷◌, length, map, true, Option, Some, None, Err, inl, inr, sym, ap, ◌∙◌, subst, arith, rules}
 use Rattle.std.specs.Prelude.{IfSome, drop, slice_index_or}
 use Rattle.std.specs.Char.{to_ascii_lowercase}
 use Rattle.std.proofs.lemmas.Bool.{cases_Bool}
 use Rattle.std.proofs.lemmas.List.{length-map}
 use Rattle.std.proofs.lemmas.Slice.Eq.{bytes_eq-Decides}
-use Rattle.std.proofs.lemmas.List.Elements.{All-tail}
+use Rattle.std.proofs.lemmas.List.Elements.{All-head, All-tail}
 use Rattle.cmd_parse.specs.Commands.{commands, form_of, form_in}
 use Rattle.ft_base.specs.Names.{is_name}
 use Rattle.cmd_parse.specs.Lawful.{IsLawful}
-use Rattle.cmd_parse.specs.Read.{Asked, Plain, CreateIndex, AlterIndex, SearchWord, IsReading, read, read_as}
+use Rattle.cmd_parse.specs.Read.{Asked, Plain, CreateIndex, AlterIndex, Search, IsReading, read, read_as}
 use Rattle.cmd_parse.specs.declared.command.CmdFault.{CmdFault}
 use Rattle.cmd_parse.specs.declared.command.CmdFault.TheVariants.{Arity}
 use Rattle.cmd_parse.specs.declared.table.Form.{Form}
@@ -20,12 +20,18 @@ args-words : (words : List (List ℕ)) → AreWords words → AreWords (drop 1 w
 args-words [] each = each
 args-words (name ∷ args) each = All-tail (λ word. length word ≤ MAX_WORD_BYTES) name args each
 
+-- a word at a place, which is without bytes where there is none
+word-short : (words : List (List ℕ)) → AreWords words → (place : ℕ) → length (slice_index_or words place []) ≤ MAX_WORD_BYTES
+word-short [] each place = omega arith
+word-short (word ∷ words) each zero = All-head (λ word. length word ≤ MAX_WORD_BYTES) word words each
+word-short (word ∷ words) each (suc place) = word-short words (All-tail (λ word. length word ≤ MAX_WORD_BYTES) word words each) place
+
 -- what lawful words ask that keep the limits
 pub lawful-asked : (words : List (List ℕ)) (asked : Asked) → AreWords words → IsLawful words asked → IsAsked asked
 lawful-asked words (Plain verb args) each lawful = (lawful.1, subst AreWords (sym lawful.0) (args-words words each))
 lawful-asked words (CreateIndex index) each lawful = lawful
 lawful-asked words (AlterIndex index fields) each lawful = lawful.1
-lawful-asked words (SearchWord index word) each lawful = tt
+lawful-asked words (Search index query no_content params) each lawful = subst (λ (q : List ℕ). length q ≤ MAX_WORD_BYTES) (sym lawful.1) (word-short words each 2)
 
 abbrev EachShort : List (List ℕ × Form) → Type 0
 EachShort [] = Unit {0}

@@ -16,7 +16,7 @@ use Rattle.ft_base.specs.declared.definition.IndexDef.{IndexDef}
 use Rattle.ft_base.specs.declared.doc.Doc.{Doc}
 use Rattle.ft_base.specs.declared.reply.Reply.{Reply}
 use Rattle.ft_base.specs.declared.reply.Reply.TheVariants.{Array, Bulk, Fault, Line}
-use Rattle.ft_index.proofs.LiveLaws.{row_of}
+use Rattle.ft_index.proofs.LiveLaws.{last_id-low, row_of}
 use Rattle.ft_index.specs.Index.{Index}
 use Rattle.ft_schema.specs.Gives.{IsFaultOf}
 use Rattle.ft_schema.specs.Schema.{extended, has_any_alias, is_over}
@@ -26,16 +26,16 @@ use Rattle.indexed_store.proofs.NamedLaws.{index_of-named}
 use Rattle.indexed_store.specs.Definitions.{Defined, defined, definitions_of, failures_over, index_of, with_index, without_index}
 use Rattle.indexed_store.specs.Named.{is_named}
 use Rattle.indexed_store.specs.Removing.{without_members}
-use Rattle.inverted_list.specs.Listing.{RisesAbove}
+use Rattle.inverted_list.specs.Listing.{RisesAbove, last_id}
 use Rattle.tag_values.specs.Values.{tag_values}
-use Rattle.ft_engine.proofs.ReadsLaws.{fits-Bulk, shown-fits}
+use Rattle.hash_replies.proofs.ReadsLaws.{fits-Bulk, shown-fits}
 use Rattle.ft_engine.proofs.Stepping.{stays, told}
 use Rattle.ft_engine.specs.Asking.{first, second}
 use Rattle.ft_engine.specs.Indexes.{altered, altered_to, created, defines, dropped, index_over, listed, most_indexes, name_bulk, tag_field, tag_vals, tags_reply, unknown_index}
 use Rattle.ft_engine.specs.Machine.{Outcome, State, answered}
 use Rattle.ft_engine.specs.Preparing.{HasMore}
 use Rattle.ft_engine.specs.Refusals.{schema_refusal}
-use Rattle.ft_engine.specs.Step.{Does, Told}
+use Rattle.ft_engine.specs.Step.{Does, PlainMayWant, Told, plain}
 
 -- whether a name is taken, as a look-up says
 pub named-known : (indexes : List Index) (definitions : List Defined) (name : List ℕ) (index : Option (Bor Index)) → definitions ≡ definitions_of indexes → option_copied index ≡ find (is_named name) indexes
@@ -65,7 +65,7 @@ created-taken def state taken = rw taken refl
 
 pub create-taken : (def : IndexDef) (number : ℕ) (state : State) (written : List ℕ) → is_some (index_of state.definitions def.name) ≡ true → written ≡ spelling (Fault (codes "Index already exists"))
     → Does (CreateIndex def) number state written state
-create-taken def number state written taken said = stays (CreateIndex def) number state written (Fault (codes "Index already exists")) (created-taken def state taken) said
+create-taken def number state written taken said = inl (stays (created def state) state written (Fault (codes "Index already exists")) (created-taken def state taken) said)
 
 -- where there is no room
 created-full : (def : IndexDef) (state : State) → is_some (index_of state.definitions def.name) ≡ false → nat_le most_indexes (length state.definitions) ≡ true → created def state ≡ answered (Fault (codes "Too many indexes")) state
@@ -73,7 +73,7 @@ created-full def state free full = rw (free, full) refl
 
 pub create-full : (def : IndexDef) (number : ℕ) (state : State) (written : List ℕ) → is_some (index_of state.definitions def.name) ≡ false → most_indexes ≤ length state.definitions → written ≡ spelling (Fault (codes "Too many indexes"))
     → Does (CreateIndex def) number state written state
-create-full def number state written free full said = stays (CreateIndex def) number state written (Fault (codes "Too many indexes")) (created-full def state free (grind (arith, nat_tests, full))) said
+create-full def number state written free full said = inl (stays (created def state) state written (Fault (codes "Too many indexes")) (created-full def state free (grind (arith, nat_tests, full))) said)
 
 -- where the index goes last
 created-last : (def : IndexDef) (state : State) → is_some (index_of state.definitions def.name) ≡ false → nat_le most_indexes (length state.definitions) ≡ false
@@ -96,14 +96,14 @@ create-done def number state written index free room is counted said =
 -- FT.ALTER where no index has the name
 pub alter-unknown : (name : List ℕ) (fields : List Field) (number : ℕ) (state : State) (written : List ℕ) → index_of state.definitions name ≡ None → written ≡ spelling (Fault unknown_index)
     → Does (AlterIndex name fields) number state written state
-alter-unknown name fields number state written none said = stays (AlterIndex name fields) number state written (Fault unknown_index) (ap (λ (i : Option Defined). altered i fields state) none) said
+alter-unknown name fields number state written none said = inl (stays (altered (index_of state.definitions name) fields state) state written (Fault unknown_index) (ap (λ (i : Option Defined). altered i fields state) none) said)
 
 -- where the fields have a fault
 alter-stays : (name : List ℕ) (fields : List Field) (number : ℕ) (state : State) (written : List ℕ) (old : Defined) (fault : SchemaFault) → index_of state.definitions name ≡ Some old
     → extended old.def fields ≡ Err fault → written ≡ spelling (Fault (schema_refusal fault)) → Does (AlterIndex name fields) number state written state
 alter-stays name fields number state written old fault there is said =
-    stays (AlterIndex name fields) number state written (Fault (schema_refusal fault))
-    (ap (λ (i : Option Defined). altered i fields state) there ∙ ap (λ (r : Result IndexDef SchemaFault). altered_to old.failures r state) is) said
+    inl (stays (altered (index_of state.definitions name) fields state) state written (Fault (schema_refusal fault))
+    (ap (λ (i : Option Defined). altered i fields state) there ∙ ap (λ (r : Result IndexDef SchemaFault). altered_to old.failures r state) is) said)
 
 pub alter-fault : (name : List ℕ) (fields : List Field) (number : ℕ) (state : State) (written : List ℕ) (old : Defined) (fault : SchemaFault) → index_of state.definitions name ≡ Some old
     → IsFaultOf fault (extended old.def fields) → written ≡ spelling (Fault (schema_refusal fault)) → Does (AlterIndex name fields) number state written state
@@ -170,7 +170,7 @@ alter-more indexes all name fields old made same found some is =
 -- FT.DROPINDEX
 pub drop-unknown : (args : List (List ℕ)) (number : ℕ) (state : State) (written : List ℕ) → is_some (index_of state.definitions (first args)) ≡ false → written ≡ spelling (Fault unknown_index)
     → Does (Plain DropIndex args) number state written state
-drop-unknown args number state written none said = stays (Plain DropIndex args) number state written (Fault unknown_index) (by_index (index_of state.definitions (first args)) none) said
+drop-unknown args number state written none said = inl (stays (plain DropIndex args number state) state written (Fault unknown_index) (by_index (index_of state.definitions (first args)) none) said)
   where
     by_index : (index : Option Defined) → is_some index ≡ false → dropped index (first args) (drop 1 args) state ≡ answered (Fault unknown_index) state
     by_index None none = refl
@@ -218,7 +218,7 @@ names-fit indexes names is = subst (λ (rs : List Reply). IsTrue (fits_wire (Arr
 
 pub list-told : {E : Type 0} (args : List (List ℕ)) (indexes : List Index) (number : ℕ) (state : State) (written : List ℕ) (made : Result Reply E) → state.definitions ≡ definitions_of indexes
     → IfOk made (λ reply. reply ≡ listed (definitions_of indexes)) → Told made written → Does (Plain ListIndexes args) number state written state
-list-told args indexes number state written made same is said = told (Plain ListIndexes args) number state written made (listed (definitions_of indexes)) tt (ap (λ (ds : List Defined). answered (listed ds) state) same) is said
+list-told args indexes number state written made same is said = told (plain ListIndexes args number state) (PlainMayWant ListIndexes args) state written made (listed (definitions_of indexes)) tt (ap (λ (ds : List Defined). answered (listed ds) state) same) is said
 
 -- FT.TAGVALS
 pub tags-fit : (tags : List Reply) (values : List (List ℕ)) → tags ≡ map Bulk values → IsTrue (fits_wire (Array tags))
@@ -227,21 +227,27 @@ tags-fit tags values is = subst (λ (rs : List Reply). IsTrue (fits_wire (Array 
 pub tags-unknown : (args : List (List ℕ)) (number : ℕ) (state : State) (written : List ℕ) → index_of state.definitions (first args) ≡ None → written ≡ spelling (Fault unknown_index)
     → Does (Plain TagVals args) number state written state
 tags-unknown args number state written none said =
-    stays (Plain TagVals args) number state written (Fault unknown_index) (ap (λ (i : Option Defined). answered (tag_vals i (second args) state.space) state) none) said
+    inl (stays (plain TagVals args number state) state written (Fault unknown_index) (ap (λ (i : Option Defined). answered (tag_vals i (second args) state.space) state) none) said)
 
 pub tags-no_field : (args : List (List ℕ)) (number : ℕ) (state : State) (written : List ℕ) (index : Defined) → index_of state.definitions (first args) ≡ Some index → tag_field index.def.fields (second args) ≡ None
     → written ≡ spelling (Fault (codes "Unknown field at word 2")) → Does (Plain TagVals args) number state written state
 tags-no_field args number state written index there none said =
-    stays (Plain TagVals args) number state written (Fault (codes "Unknown field at word 2"))
-    (ap (λ (i : Option Defined). answered (tag_vals i (second args) state.space) state) there ∙ ap (λ (f : Option Field). answered (tags_reply f index.def state.space) state) none) said
+    inl (stays (plain TagVals args number state) state written (Fault (codes "Unknown field at word 2"))
+    (ap (λ (i : Option Defined). answered (tag_vals i (second args) state.space) state) there ∙ ap (λ (f : Option Field). answered (tags_reply f index.def state.space) state) none) said)
 
 pub tags-told : {E : Type 0} (args : List (List ℕ)) (number : ℕ) (state : State) (written : List ℕ) (index : Defined) (field : Field) (made : Result Reply E) → index_of state.definitions (first args) ≡ Some index
     → tag_field index.def.fields (second args) ≡ Some field → IfOk made (λ reply. reply ≡ Array (map Bulk (tag_values index.def field state.space))) → Told made written → Does (Plain TagVals args) number state written state
 tags-told args number state written index field made there here is said =
-    told (Plain TagVals args) number state written made (Array (map Bulk (tag_values index.def field state.space))) tt
+    told (plain TagVals args number state) (PlainMayWant TagVals args) state written made (Array (map Bulk (tag_values index.def field state.space))) tt
     (ap (λ (i : Option Defined). answered (tag_vals i (second args) state.space) state) there ∙ ap (λ (f : Option Field). answered (tags_reply f index.def state.space) state) here) is said
 
 -- ids that rise are above 0
 pub ids-above : (low : ℕ) (docs : List Doc) → RisesAbove low (map row_of docs) → All (λ (doc : Doc). 0 < doc.id) docs
 ids-above low [] rises = All-nil (λ (doc : Doc). 0 < doc.id)
 ids-above low (doc ∷ docs) rises = All-cons (λ (doc : Doc). 0 < doc.id) doc docs (omega (arith, rises.0)) (ids-above doc.id docs rises.1)
+
+-- ids that rise are below what is above the last
+pub ids-below : (low bound : ℕ) (docs : List Doc) → RisesAbove low (map row_of docs) → last_id low (map row_of docs) < bound → All (λ (doc : Doc). doc.id < bound) docs
+ids-below low bound [] rises last = All-nil (λ (doc : Doc). doc.id < bound)
+ids-below low bound (doc ∷ docs) rises last =
+    All-cons (λ (doc : Doc). doc.id < bound) doc docs (omega (arith, last, last_id-low doc.id (map row_of docs) rises.1)) (ids-below doc.id bound docs rises.1 last)

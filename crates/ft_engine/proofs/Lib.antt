@@ -5,10 +5,9 @@ pub mod HistoryLaws
 pub mod IndexCommandLaws
 pub mod PlainLaws
 pub mod PreparingLaws
-pub mod ReadingLaws
-pub mod ReadsLaws
 pub mod SearchLaws
 pub mod Spellings
 pub mod Stepping
 pub mod VersionsLaws
 pub mod WritesLaws
+mod DeterminedLaws

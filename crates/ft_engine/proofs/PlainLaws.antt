@@ -18,7 +18,8 @@ use Rattle.ft_base.specs.Reply.{spelling}
 use Rattle.ft_base.specs.declared.doc.Doc.{Doc}
 use Rattle.ft_base.specs.declared.reply.Reply.{Reply}
 use Rattle.ft_base.specs.declared.reply.Reply.TheVariants.{Fault, Line}
-use Rattle.ft_engine.specs.Machine.{Outcome, State, answered, hash_in, hash_of}
+use Rattle.hash_replies.specs.Reads.{hash_in}
+use Rattle.ft_engine.specs.Machine.{Outcome, State, answered, hash_of}
 use Rattle.indexed_store.specs.Definitions.{all_tried}
 use Rattle.indexed_store.specs.Writing.{written}
 use Rattle.ft_engine.specs.Step.{Does, plain}
@@ -29,23 +30,7 @@ use Rattle.ft_engine.proofs.Stepping.{stays}
 pub stays-plain : (verb known : Verb) (args : List (List ℕ)) (number : ℕ) (state : State) (written : List ℕ) (reply : Reply) → verb ≡ known → plain known args number state ≡ answered reply state → written ≡ spelling reply
     → Does (Plain verb args) number state written state
 stays-plain verb known args number state written reply is given said =
-    subst (λ (v : Verb). Does (Plain v args) number state written state) (sym is) (stays (Plain known args) number state written reply given said)
-
--- PING without a message
-pub ping-alone : (verb : Verb) (args : List (List ℕ)) (number : ℕ) (state : State) (written : List ℕ) → verb ≡ Ping → length args ≡ 0 → written ≡ spelling (Line (codes "PONG"))
-    → Does (Plain verb args) number state written state
-ping-alone verb [] number state written is none said = stays-plain verb Ping [] number state written (Line (codes "PONG")) is refl said
-ping-alone verb (arg ∷ args) number state written is none said = absurd (omega (arith, none))
-
--- HSETNX of a field that is not there is HSET
-pub hsetnx-new : (args : List (List ℕ)) (number : ℕ) (state new : State) (written : List ℕ) → is_some (get_field (hash_of state (first args)) (second args)) ≡ false → Does (Plain Hset args) number state written new
-    → Does (Plain Hsetnx args) number state written new
-hsetnx-new args number state new written absent does =
-    let unless : plain Hset args number state ≡ plain Hsetnx args number state = sym (ap (λ (there : Bool). hset_unless there args number state) absent) in
-    elim does [
-      | inl took ↦ inl (took.0 ∙ ap (λ (o : Outcome). spelling o.reply) unless, took.1 ∙ ap (λ (o : Outcome). o.after) unless)
-      | inr want ↦ inr want
-    ]
+    subst (λ (v : Verb). Does (Plain v args) number state written state) (sym is) (inl (stays (plain known args number state) state written reply given said))
 
 -- a step of a verb that is this one
 pub of_verb : (verb known : Verb) (args : List (List ℕ)) (number : ℕ) (old new : State) (written : List ℕ) → verb ≡ known → Does (Plain known args) number old written new → Does (Plain verb args) number old written new
@@ -60,7 +45,7 @@ same-field docs key key' field field' k f =
 pub not-number : (args : List (List ℕ)) (number : ℕ) (state : State) (written : List ℕ) → number_in (get_field (hash_of state (first args)) (second args)) ≡ None → written ≡ spelling (Fault (codes "ERR hash value is not an integer"))
     → Does (Plain Hincrby args) number state written state
 not-number args number state written none said =
-    stays (Plain Hincrby args) number state written (Fault (codes "ERR hash value is not an integer")) (ap (λ (old : Option ℤ). hincrby old (int_of (third args)) args number state) none) said
+    inl (stays (plain Hincrby args number state) state written (Fault (codes "ERR hash value is not an integer")) (ap (λ (old : Option ℤ). hincrby old (int_of (third args)) args number state) none) said)
 
 overflow : (old by : ℤ) (args : List (List ℕ)) (number : ℕ) (state : State) → is_i64 (old +ℤ by) ≡ false → hincrby (Some old) (Some by) args number state ≡ answered (Fault (codes "ERR increment or decrement would overflow")) state
 overflow old by args number state over = rw over refl
@@ -69,8 +54,8 @@ overflow old by args number state over = rw over refl
 pub overflows : (args : List (List ℕ)) (number : ℕ) (state : State) (written : List ℕ) (old by : ℤ) → number_in (get_field (hash_of state (first args)) (second args)) ≡ Some old → int_of (third args) ≡ Some by → is_i64 (old +ℤ by) ≡ false
     → written ≡ spelling (Fault (codes "ERR increment or decrement would overflow")) → Does (Plain Hincrby args) number state written state
 overflows args number state written old by is more over said =
-    stays (Plain Hincrby args) number state written (Fault (codes "ERR increment or decrement would overflow"))
-    (ap (λ (o : Option ℤ). hincrby o (int_of (third args)) args number state) is ∙ (ap (λ (o : Option ℤ). hincrby (Some old) o args number state) more ∙ overflow old by args number state over)) said
+    inl (stays (plain Hincrby args number state) state written (Fault (codes "ERR increment or decrement would overflow"))
+    (ap (λ (o : Option ℤ). hincrby o (int_of (third args)) args number state) is ∙ (ap (λ (o : Option ℤ). hincrby (Some old) o args number state) more ∙ overflow old by args number state over)) said)
 
 -- a number that a text spells has 64 bits
 spelled-fits : (text : List ℕ) (n : ℤ) → int_of text ≡ Some n → is_i64 n ≡ true
@@ -103,7 +88,7 @@ too-wide old by a b wide = elim (cases_Bool (is_i64 (old +ℤ by))) [
 -- RENAME of a key onto itself
 pub renamed-same : (args : List (List ℕ)) (number : ℕ) (state : State) (written : List ℕ) → is_some (doc_of state.space (first args)) ≡ true → bytes_eq (first args) (second args) ≡ true → written ≡ spelling (Line (codes "OK"))
     → Does (Plain Rename args) number state written state
-renamed-same args number state written there same said = stays (Plain Rename args) number state written (Line (codes "OK")) (by_doc (doc_of state.space (first args)) there) said
+renamed-same args number state written there same said = inl (stays (plain Rename args number state) state written (Line (codes "OK")) (by_doc (doc_of state.space (first args)) there) said)
   where
     by_doc : (doc : Option Doc) → is_some doc ≡ true → rename doc (first args) (second args) number state ≡ answered (Line (codes "OK")) state
     by_doc None there = cc (there)

@@ -1,58 +1,107 @@
--- What a search by the list of a word answers is what the documents say.
-use Rattle.std.specs.Prelude.{◌≡◌, ℕ, pos, List, [], ◌∷◌, ◌++◌, zero, suc, Option, None, Some, codes, find, length, map, take, refl}
-use Rattle.std.proofs.Common.{sym, ap, ◌∙◌, inl}
-use Rattle.std.specs.List.{All}
+-- What a search answers is what its query says of the documents.
+use Rattle.std.specs.Prelude.{◌≡◌, ◌≢◌, ◌⊎◌, ℕ, List, [], Bool, Option, None, Some, Result, Ok, Err, IfOk, codes, find, refl}
+use Rattle.std.proofs.Common.{sym, ap, ◌∙◌, inl, inr, subst}
 use Rattle.std.specs.Option.{option_map}
-use Rattle.std.proofs.lemmas.List.{length-map}
-use Rattle.cmd_parse.specs.Read.{SearchWord}
+use Rattle.cmd_parse.specs.Read.{Search}
 use Rattle.ft_base.specs.Reply.{spelling}
+use Rattle.ft_base.specs.declared.definition.IndexDef.{IndexDef}
 use Rattle.ft_base.specs.declared.doc.Doc.{Doc}
+use Rattle.ft_base.specs.declared.query.Param.{Param}
+use Rattle.ft_base.specs.declared.query.Query.{Query}
 use Rattle.ft_base.specs.declared.reply.Reply.{Reply}
-use Rattle.ft_base.specs.declared.reply.Reply.TheVariants.{Array, Bulk, Fault, Number}
-use Rattle.ft_engine.specs.Machine.{State}
-use Rattle.indexed_store.specs.Definitions.{index_of}
-use Rattle.ft_engine.specs.Pages.{page_reply}
-use Rattle.indexed_store.specs.Definitions.{Defined, defined, definitions_of}
+use Rattle.ft_base.specs.declared.reply.Reply.TheVariants.{Fault}
+use Rattle.ft_index.specs.Index.{Index}
+use Rattle.ft_meaning.specs.Holds.{found_of}
+use Rattle.indexed_store.specs.Definitions.{Defined, defined, definitions_of, index_of}
 use Rattle.indexed_store.specs.Named.{is_named}
-use Rattle.ft_engine.specs.Step.{Does, found_reply, searched, window}
-use Rattle.indexed_store.proofs.NamedLaws.{index_of-named, named-has}
-use Rattle.ft_index.proofs.FoundLaws.{live_keys-found}
-use Rattle.ft_index.specs.Index.{Index, Indexes, IsIndex}
-use Rattle.ft_index.specs.Live.{live_keys}
-use Rattle.ft_meaning.specs.Meaning.{found}
-use Rattle.term_dict.specs.Terms.{entries_of}
-use Rattle.token_text.specs.Tokens.{lowered}
+use Rattle.indexed_store.proofs.NamedLaws.{index_of-named}
+use Rattle.query_grammar.specs.Answer.{IsAnswer}
+use Rattle.query_grammar.specs.declared.fault.QueryFault.{QueryFault}
+use Rattle.query_grammar.specs.declared.fault.QueryFault.TheVariants.{Syntax, UnknownField, WrongKind, NoParam, TooDeep, OutOfScope, NoMemory}
+use Rattle.search_exec.specs.Replies.{found_reply}
+use Rattle.ft_engine.specs.Indexes.{unknown_index}
+use Rattle.ft_engine.specs.Machine.{State}
+use Rattle.ft_engine.specs.Refusals.{out_of_memory, query_refusal}
+use Rattle.ft_engine.specs.Searching.{IsAnswered, IsSearched}
+use Rattle.ft_engine.specs.Step.{Does, Finds, Told}
 
-first-keys : (n : ℕ) (docs : List Doc) → map Bulk (take n (map (λ (doc : Doc). doc.key) docs)) ≡ map (λ (doc : Doc). Bulk doc.key) (take n docs)
-first-keys zero docs = refl
-first-keys (suc n) [] = refl
-first-keys (suc n) (doc ∷ docs) = ap (λ rest. Bulk doc.key ∷ rest) (first-keys n docs)
+-- a fault that is not want of memory
+abbrev IsKnown : QueryFault → Type 0
+IsKnown fault = let answer : Result Query QueryFault = Err fault in answer ≢ Err NoMemory
 
-page-found : (docs : List Doc) → page_reply (map (λ (doc : Doc). doc.key) docs) ≡ found_reply docs
-page-found docs =
-    ap (λ (n : ℕ). Array (Number (pos n) ∷ map Bulk (take window (map (λ (doc : Doc). doc.key) docs)))) (length-map docs (λ (doc : Doc). doc.key))
-    ∙ ap (λ (keys : List Reply). Array (Number (pos (length docs)) ∷ keys)) (first-keys window docs)
+-- the index of a name among the definitions, by the one among the indexes
+named : (indexes : List Index) (state : State) (name : List ℕ) (index : Option Index) → state.definitions ≡ definitions_of indexes
+    → find (is_named name) indexes ≡ index → index_of state.definitions name ≡ option_map defined index
+named indexes state name index same there =
+    ap (λ (defs : List Defined). index_of defs name) same ∙ (index_of-named indexes name ∙ ap (option_map defined) there)
 
 -- there is no such index
-pub searches-none : (indexes : List Index) (state : State) (number : ℕ) (name word reply : List ℕ) → state.definitions ≡ definitions_of indexes
-    → find (is_named name) indexes ≡ None → reply ≡ spelling (Fault (codes "Unknown index name")) → Does (SearchWord name word) number state reply state
-searches-none indexes state number name word reply same none said =
-    let no : index_of state.definitions name ≡ None = ap (λ (defs : List Defined). index_of defs name) same ∙ (index_of-named indexes name ∙ ap (option_map defined) none) in
-    inl (said ∙ ap (λ (def : Option Defined). spelling (searched def (lowered word) state.space)) (sym no), refl)
+pub searches-none : (indexes : List Index) (state : State) (number : ℕ) (name query : List ℕ) (no_content : Bool) (params : List Param) (written : List ℕ)
+    → state.definitions ≡ definitions_of indexes → find (is_named name) indexes ≡ None → written ≡ spelling (Fault unknown_index)
+    → Does (Search name query no_content params) number state written state
+searches-none indexes state number name query no_content params written same none said = inl (record {
+  reply = Fault unknown_index;
+  searched = subst (λ (i : Option Defined). IsSearched i query no_content params state.space (Fault unknown_index)) (sym (named indexes state name None same none)) refl;
+  gives = (said, refl);
+})
 
--- the live entries of the word's list were answered
-pub searches-found : (indexes : List Index) (state : State) (number : ℕ) (name word old reply : List ℕ) (index : Index) → state.definitions ≡ definitions_of indexes
-    → All (λ (index : Index). Indexes index state.space) indexes → IsIndex index → find (is_named name) indexes ≡ Some index
-    → old ≡ [] → reply ≡ old ++ spelling (page_reply (live_keys index.table.live (entries_of index.terms (lowered word)))) → Does (SearchWord name word) number state reply state
-searches-found indexes state number name word old reply index same each sound there empty said =
-    let docs = state.space in
-    let def : index_of state.definitions name ≡ Some (defined index) =
-    ap (λ (defs : List Defined). index_of defs name) same ∙ (index_of-named indexes name ∙ ap (option_map defined) there) in
-    let keys = live_keys-found index docs (lowered word) (named-has (λ (index : Index). Indexes index docs) indexes name index each there) sound.kept.rise in
-    let text = said ∙ ap (λ (front : List ℕ). front ++ spelling (page_reply (live_keys index.table.live (entries_of index.terms (lowered word))))) empty in
-    inl (
-      text ∙ (ap (λ (keys : List (List ℕ)). spelling (page_reply keys)) keys
-          ∙ (ap spelling (page-found (found index.def (lowered word) docs))
-          ∙ ap (λ (def : Option Defined). spelling (searched def (lowered word) docs)) (sym def))),
-      refl,
-    )
+-- an index is there, and the reply is that of the query in it
+searches-index : (indexes : List Index) (index : Index) (state : State) (number : ℕ) (name query : List ℕ) (no_content : Bool) (params : List Param) (written : List ℕ) (reply : Reply)
+    → state.definitions ≡ definitions_of indexes → find (is_named name) indexes ≡ Some index
+    → IsAnswered index.def query no_content params state.space reply → written ≡ spelling reply
+    → Does (Search name query no_content params) number state written state
+searches-index indexes index state number name query no_content params written reply same there answered said = inl (record {
+  reply = reply;
+  searched = subst (λ (i : Option Defined). IsSearched i query no_content params state.space reply) (sym (named indexes state name (Some index) same there)) answered;
+  gives = (said, refl);
+})
+
+-- The query has a tree, and what it finds was answered, or memory was wanting.
+pub searches-found : {E : Type 0} (indexes : List Index) (index : Index) (def : IndexDef) (state : State) (number : ℕ) (name text : List ℕ) (no_content : Bool) (params : List Param) (written : List ℕ) (query : Query) (docs : List Doc) (made : Result Reply E)
+    → state.definitions ≡ definitions_of indexes → find (is_named name) indexes ≡ Some index → def ≡ index.def → state.space ≡ docs
+    → IsAnswer def params text (Ok query) → IfOk made (λ reply. reply ≡ found_reply no_content (found_of query def docs)) → Told made written
+    → Does (Search name text no_content params) number state written state
+searches-found indexes index def state number name text no_content params written query docs (Ok reply) same there its all is made (inl said) =
+    let answered : IsAnswered def text no_content params state.space reply = record {
+      answer = Ok query;
+      read = λ wrong. cc;
+      text = is;
+      same = made ∙ ap (λ (ds : List Doc). found_reply no_content (found_of query def ds)) (sym all);
+    } in
+    searches-index indexes index state number name text no_content params written reply same there
+    (subst (λ (d : IndexDef). IsAnswered d text no_content params state.space reply) its answered) said
+searches-found indexes index def state number name text no_content params written query docs (Ok reply) same there its all is made (inr want) = inr (tt, want, refl)
+searches-found indexes index def state number name text no_content params written query docs (Err e) same there its all is made want = inr (tt, want, refl)
+
+searches-fault : (indexes : List Index) (index : Index) (def : IndexDef) (state : State) (number : ℕ) (name text : List ℕ) (no_content : Bool) (params : List Param) (written : List ℕ) (fault : QueryFault)
+    → state.definitions ≡ definitions_of indexes → find (is_named name) indexes ≡ Some index → def ≡ index.def
+    → IsKnown fault → IsAnswer def params text (Err fault) → written ≡ spelling (Fault (query_refusal fault))
+    → Does (Search name text no_content params) number state written state
+searches-fault indexes index def state number name text no_content params written fault same there its known is said =
+    let answered : IsAnswered def text no_content params state.space (Fault (query_refusal fault)) = record {
+      answer = Err fault;
+      read = known;
+      text = is;
+      same = refl;
+    } in
+    searches-index indexes index state number name text no_content params written (Fault (query_refusal fault)) same there
+    (subst (λ (d : IndexDef). IsAnswered d text no_content params state.space (Fault (query_refusal fault))) its answered) said
+
+-- The text is no query, and its fault was answered; or memory was wanting to read it.
+pub searches-fault_of : (indexes : List Index) (index : Index) (def : IndexDef) (state : State) (number : ℕ) (name text : List ℕ) (no_content : Bool) (params : List Param) (written : List ℕ) (fault : QueryFault)
+    → state.definitions ≡ definitions_of indexes → find (is_named name) indexes ≡ Some index → def ≡ index.def
+    → IsAnswer def params text (Err fault) → written ≡ spelling (Fault (query_refusal fault))
+    → Does (Search name text no_content params) number state written state
+searches-fault_of indexes index def state number name text no_content params written NoMemory same there its is said = inr (tt, said, refl)
+searches-fault_of indexes index def state number name text no_content params written (Syntax at) same there its is said =
+    searches-fault indexes index def state number name text no_content params written (Syntax at) same there its (λ wrong. cc) is said
+searches-fault_of indexes index def state number name text no_content params written (UnknownField at) same there its is said =
+    searches-fault indexes index def state number name text no_content params written (UnknownField at) same there its (λ wrong. cc) is said
+searches-fault_of indexes index def state number name text no_content params written (WrongKind at) same there its is said =
+    searches-fault indexes index def state number name text no_content params written (WrongKind at) same there its (λ wrong. cc) is said
+searches-fault_of indexes index def state number name text no_content params written (NoParam at) same there its is said =
+    searches-fault indexes index def state number name text no_content params written (NoParam at) same there its (λ wrong. cc) is said
+searches-fault_of indexes index def state number name text no_content params written (TooDeep at) same there its is said =
+    searches-fault indexes index def state number name text no_content params written (TooDeep at) same there its (λ wrong. cc) is said
+searches-fault_of indexes index def state number name text no_content params written (OutOfScope at) same there its is said =
+    searches-fault indexes index def state number name text no_content params written (OutOfScope at) same there its (λ wrong. cc) is said

@@ -1,5 +1,5 @@
 -- Steps by what was read, and those that change nothing.
-use Rattle.std.specs.Prelude.{◌≡◌, ◌<◌, ℕ, List, [], Result, Ok, Err, IfOk, slice_index_or, refl}
+use Rattle.std.specs.Prelude.{◌≡◌, ◌<◌, ◌⊎◌, ℕ, List, [], Result, Ok, Err, IfOk, max, slice_index_or, refl}
 use Rattle.std.proofs.Common.{sym, ap, ◌∙◌, subst, inl, inr}
 use Rattle.ft_base.specs.Reply.{spelling}
 use Rattle.ft_base.specs.declared.reply.Reply.{Reply}
@@ -7,21 +7,21 @@ use Rattle.cmd_parse.specs.Read.{Asked, IsReading, read}
 use Rattle.cmd_parse.specs.declared.command.CmdFault.{CmdFault}
 use Rattle.cmd_parse.specs.declared.command.CmdFault.TheVariants.{Unknown, Arity, Syntax, NotInteger, BadDb, NotBuilt, Schema, NoMemory}
 use Rattle.ft_base.specs.declared.reply.Reply.TheVariants.{Fault}
-use Rattle.ft_engine.specs.Refusals.{refusal}
+use Rattle.ft_engine.specs.Refusals.{out_of_memory, refusal}
 use Rattle.ft_engine.specs.Machine.{Outcome, State, answered, at_moment}
-use Rattle.ft_engine.specs.Step.{Answers, At, Does, MayWant, Obeys, Takes, Told, last_number, outcome}
+use Rattle.ft_engine.specs.Step.{Answers, At, Does, Gives, Obeys, Takes, Told, last_number}
 
-pub stays : (asks : Asked) (number : ℕ) (state : State) (written : List ℕ) (reply : Reply) → outcome asks number state ≡ answered reply state → written ≡ spelling reply
-    → Does asks number state written state
-stays asks number state written reply given said =
-    inl (said ∙ ap (λ (o : Outcome). spelling o.reply) (sym given), ap (λ (o : Outcome). o.after) (sym given))
+-- a reply that changes nothing
+pub stays : (made : Outcome) (state : State) (written : List ℕ) (reply : Reply) → made ≡ answered reply state → written ≡ spelling reply → Gives made written state
+stays made state written reply given said =
+    (said ∙ ap (λ (o : Outcome). spelling o.reply) (sym given), ap (λ (o : Outcome). o.after) (sym given))
 
 -- A reply that was made, or for which memory was wanting, is the one that is asked.
-pub told : {E : Type 0} (asks : Asked) (number : ℕ) (state : State) (written : List ℕ) (made : Result Reply E) (reply : Reply) → MayWant asks → outcome asks number state ≡ answered reply state
-    → IfOk made (λ r. r ≡ reply) → Told made written → Does asks number state written state
-told asks number state written (Ok r) reply may given is (inl said) = stays asks number state written reply given (said ∙ ap spelling is)
-told asks number state written (Ok r) reply may given is (inr want) = inr (may, want, refl)
-told asks number state written (Err e) reply may given is want = inr (may, want, refl)
+pub told : {E : Type 0} (outcome : Outcome) (May : Type 0) (state : State) (written : List ℕ) (made : Result Reply E) (reply : Reply) → May → outcome ≡ answered reply state
+    → IfOk made (λ r. r ≡ reply) → Told made written → Gives outcome written state ⊎ (May × (written ≡ spelling out_of_memory) × (state ≡ state))
+told outcome May state written (Ok r) reply may given is (inl said) = inl (stays outcome state written reply given (said ∙ ap spelling is))
+told outcome May state written (Ok r) reply may given is (inr want) = inr (may, want, refl)
+told outcome May state written (Err e) reply may given is want = inr (may, want, refl)
 
 -- what was read is done
 pub obeyed : (words : List (List ℕ)) (number moment : ℕ) (asks : Asked) (old new : State) (written : List ℕ) → read number words ≡ Ok asks → At number moment (Does asks number) old written new
@@ -49,3 +49,15 @@ refused words number NoMemory state written is said = inr (is, said, refl)
 pub refused-at : (words : List (List ℕ)) (number moment : ℕ) (fault : CmdFault) (old new : State) (written : List ℕ) → number < last_number → IsReading number words (Err fault) → written ≡ spelling (Fault (refusal (slice_index_or words 0 []) fault))
     → new ≡ at_moment moment old → Answers words number moment old written new
 refused-at words number moment fault old new written below is said same = inl (below, subst (λ (s : State). Obeys words number (at_moment moment old) written s) (sym same) (refused words number fault (at_moment moment old) written is said))
+
+-- A step of a state that is told by its latest moment is one of the engine's state at the command's moment.
+pub stepped : (asks : Asked) (number here moment latest : ℕ) (state : ℕ → State) (change : State → State) (old next : State) (written : List ℕ)
+    → here ≡ number → number < last_number → old ≡ state latest → at_moment moment (state latest) ≡ state (max moment latest) → next ≡ state (max moment latest)
+    → ((latest : ℕ) → Does asks number (state latest) written (change (state latest)))
+    → At here moment (Does asks here) old written (change next)
+stepped asks number here moment latest state change old next written is below before at after does =
+    let later = max moment latest in
+    let begun : at_moment moment old ≡ state later = ap (at_moment moment) before ∙ at in
+    let made : Does asks number (state later) written (change next) = subst (λ (s : State). Does asks number (state later) written (change s)) (sym after) (does later) in
+    let step : Does asks number (at_moment moment old) written (change next) = subst (λ (s : State). Does asks number s written (change next)) (sym begun) made in
+    inl (subst (λ (n : ℕ). n < last_number) (sym is) below, subst (λ (n : ℕ). Does asks n (at_moment moment old) written (change next)) (sym is) step)

@@ -1,12 +1,12 @@
 pub mod Asking
 pub mod Counting
+pub mod Determined
 pub mod History
 pub mod Indexes
 pub mod Machine
-pub mod Pages
 pub mod Preparing
-pub mod Reads
 pub mod Refusals
+pub mod Searching
 pub mod Stands
 pub mod Step
 pub mod Writes

@@ -1,9 +1,10 @@
 -- The state of the machine: the plain hashes, and what else a reply may depend on.
-use Rattle.std.specs.Prelude.{ℕ, max, List, [], Option, Some, None}
+use Rattle.std.specs.Prelude.{ℕ, max, List, []}
 use Rattle.ft_base.specs.Hash.{Hash}
 use Rattle.ft_base.specs.Space.{doc_of}
 use Rattle.ft_base.specs.declared.doc.Doc.{Doc}
 use Rattle.ft_base.specs.declared.reply.Reply.{Reply}
+use Rattle.hash_replies.specs.Reads.{hash_in}
 use Rattle.indexed_store.specs.Definitions.{Defined}
 
 pub record State : Type 0 where
@@ -20,11 +21,6 @@ empty_state = record { space = []; definitions = []; latest = 0 }
 -- The state at a command's moment, before the command does anything. A moment that is earlier counts as the latest one.
 abbrev pub at_moment : ℕ → State → State
 at_moment moment state = record state { latest = max moment state.latest }
-
--- the hash of a document, without fields where there is none
-abbrev pub hash_in : Option Doc → Hash
-hash_in None = []
-hash_in (Some doc) = doc.hash
 
 -- the hash of a key
 abbrev pub hash_of : State → List ℕ → Hash

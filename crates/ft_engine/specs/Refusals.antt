@@ -1,4 +1,4 @@
--- What is answered to words that ask nothing.
+-- What is answered to words that ask nothing, and to queries that are none.
 use Rattle.std.specs.Prelude.{ℕ, List, ◌++◌, codes}
 use Rattle.std.specs.Fmt.{decimal}
 use Rattle.cmd_parse.specs.declared.command.CmdFault.{CmdFault}
@@ -7,6 +7,8 @@ use Rattle.ft_base.specs.declared.reply.Reply.{Reply}
 use Rattle.ft_base.specs.declared.reply.Reply.TheVariants.{Fault}
 use Rattle.ft_schema.specs.declared.fault.SchemaFault.{SchemaFault}
 use Rattle.ft_schema.specs.declared.fault.SchemaFault.TheVariants as schema
+use Rattle.query_grammar.specs.declared.fault.QueryFault.{QueryFault}
+use Rattle.query_grammar.specs.declared.fault.QueryFault.TheVariants as query
 use Rattle.token_text.specs.Tokens.{lowered}
 
 -- the text where memory is wanting
@@ -30,6 +32,16 @@ schema_refusal (schema.TooManyFields at) = codes "ERR too many fields at word " 
 schema_refusal (schema.BadNumber at) = codes "ERR bad number at word " ++ decimal at
 schema_refusal (schema.OutOfScope at) = codes "ERR not supported at word " ++ decimal at
 schema_refusal schema.NoMemory = want_of_memory
+
+-- the text for a query that is none
+abbrev pub query_refusal : QueryFault → List ℕ
+query_refusal (query.Syntax at) = codes "Syntax error at offset " ++ decimal at
+query_refusal (query.UnknownField at) = codes "Unknown field at offset " ++ decimal at
+query_refusal (query.WrongKind at) = codes "Wrong field kind at offset " ++ decimal at
+query_refusal (query.NoParam at) = codes "No such parameter at offset " ++ decimal at
+query_refusal (query.TooDeep at) = codes "Query too deep at offset " ++ decimal at
+query_refusal (query.OutOfScope at) = codes "Not supported at offset " ++ decimal at
+query_refusal query.NoMemory = want_of_memory
 
 -- the text for a command of this name whose words ask nothing
 abbrev pub refusal : List ℕ → CmdFault → List ℕ

@@ -1,6 +1,6 @@
 -- One step of the machine: a command at an event's number and a moment gives a reply and the next state.
-use Rattle.std.specs.Prelude.{◌≡◌, ◌<◌, ◌≤◌, ◌⊎◌, ℕ, pos, List, [], ◌∷◌, ◌+◌, ◌^◌, min, length, take, drop, map, slice_index_or, Option, Some, None, is_some, Result, Ok, Err, IsTrue, codes}
-use Rattle.cmd_parse.specs.Read.{Asked, Plain, CreateIndex, AlterIndex, SearchWord, read, takes_memory}
+use Rattle.std.specs.Prelude.{◌≡◌, ◌<◌, ◌≤◌, ◌⊎◌, ℕ, pos, List, [], ◌∷◌, ◌+◌, ◌^◌, min, length, take, drop, map, slice_index_or, Option, Some, None, is_some, Bool, Result, Ok, Err, IsTrue, codes}
+use Rattle.cmd_parse.specs.Read.{Asked, Plain, CreateIndex, AlterIndex, Search, read, takes_memory}
 use Rattle.cmd_parse.specs.declared.command.CmdFault.{CmdFault}
 use Rattle.cmd_parse.specs.declared.command.Verb.{Verb}
 use Rattle.cmd_parse.specs.declared.command.Verb.TheVariants.{Ping, Echo, Select, Quit, Hset, Hsetnx, Hget, Hmget, Hgetall, Hdel, Hlen, Hexists, Hincrby, Hkeys, Hvals, Del, Exists, TypeOf, Dbsize, Rename, Flushall, DropIndex, ListIndexes, TagVals}
@@ -8,31 +8,17 @@ use Rattle.ft_base.specs.Hash.{get_field}
 use Rattle.ft_base.specs.Number.{int_of}
 use Rattle.ft_base.specs.Reply.{spelling}
 use Rattle.ft_base.specs.Space.{doc_of}
-use Rattle.ft_base.specs.declared.doc.Doc.{Doc}
+use Rattle.ft_base.specs.declared.query.Param.{Param}
 use Rattle.ft_base.specs.declared.reply.Reply.{Reply}
 use Rattle.ft_base.specs.declared.reply.Reply.TheVariants.{Line, Fault, Number, Bulk, Array}
 use Rattle.ft_engine.specs.Asking.{first, second, third}
-use Rattle.ft_engine.specs.Reads.{in_turn, kind_of, names, one_if, present, value_reply, values}
+use Rattle.hash_replies.specs.Reads.{in_turn, kind_of, names, one_if, present, value_reply, values}
 use Rattle.indexed_store.specs.Definitions.{Defined, index_of}
-use Rattle.ft_engine.specs.Indexes.{altered, created, dropped, listed, tag_vals, unknown_index}
+use Rattle.ft_engine.specs.Indexes.{altered, created, dropped, listed, tag_vals}
 use Rattle.ft_engine.specs.Refusals.{out_of_memory, refusal}
-use Rattle.ft_meaning.specs.Meaning.{found}
+use Rattle.ft_engine.specs.Searching.{IsSearched}
 use Rattle.ft_engine.specs.Machine.{Outcome, State, answered, at_moment, hash_of}
 use Rattle.ft_engine.specs.Writes.{del, hdel, hincrby, hset, hset_unless, number_in, rename}
-use Rattle.token_text.specs.Tokens.{lowered}
-
--- how many keys a search answers at the most
-abbrev pub window : ℕ
-window = 10
-
--- The number of documents that were found, and the keys of the first.
-abbrev pub found_reply : List Doc → Reply
-found_reply docs = Array (Number (pos (length docs)) ∷ map (λ (doc : Doc). Bulk doc.key) (take window docs))
-
--- what a search of an index is answered over these documents, where there is that index
-abbrev pub searched : Option Defined → List ℕ → List Doc → Reply
-searched None word docs = Fault unknown_index
-searched (Some index) word docs = found_reply (found index.def word docs)
 
 -- What a plain command gives.
 abbrev pub plain : Verb → List (List ℕ) → ℕ → State → Outcome
@@ -63,12 +49,23 @@ plain ListIndexes args number state = answered (listed state.definitions) state
 plain TagVals args number state = answered (tag_vals (index_of state.definitions (first args)) (second args) state.space) state
 plain Flushall args number state = record { reply = Line (codes "OK"); after = record state { space = []; definitions = [] } }
 
+-- The reply is written, and the next state is the one that comes with it.
+abbrev pub Gives : Outcome → List ℕ → State → Type 0
+Gives outcome written new = (written ≡ spelling outcome.reply) × (new ≡ outcome.after)
+
+-- A reply is written that a search gives, and nothing changes.
+pub record Finds (index : Option Defined) (query : List ℕ) (no_content : Bool) (params : List Param) (old : State) (written : List ℕ) (new : State) : Type 0 where
+  pub reply : Reply
+  pub searched : IsSearched index query no_content params old.space reply
+  pub gives : Gives (answered reply old) written new
+
 -- What a command gives that asks this.
-abbrev pub outcome : Asked → ℕ → State → Outcome
-outcome (Plain verb args) number state = plain verb args number state
-outcome (CreateIndex index) number state = created index state
-outcome (AlterIndex index fields) number state = altered (index_of state.definitions index) fields state
-outcome (SearchWord index word) number state = answered (searched (index_of state.definitions index) (lowered word) state.space) state
+abbrev pub Completes : Asked → ℕ → State → List ℕ → State → Type 0
+Completes (Plain verb args) number old written new = Gives (plain verb args number old) written new
+Completes (CreateIndex index) number old written new = Gives (created index old) written new
+Completes (AlterIndex index fields) number old written new = Gives (altered (index_of old.definitions index) fields old) written new
+Completes (Search index query no_content params) number old written new =
+    Finds (index_of old.definitions index) query no_content params old written new
 
 -- What was made is written, or memory was wanting.
 abbrev pub Told : {E : Type 0} → Result Reply E → List ℕ → Type 0
@@ -103,13 +100,13 @@ abbrev pub MayWant : Asked → Type 0
 MayWant (Plain verb args) = PlainMayWant verb args
 MayWant (CreateIndex index) = Unit {0}
 MayWant (AlterIndex index fields) = Unit {0}
-MayWant (SearchWord index word) = Unit {0}
+MayWant (Search index query no_content params) = Unit {0}
 
--- What was asked was done: the reply and the next state are the machine's; or memory was wanting, and nothing changed.
+-- What was asked was done; or memory was wanting, and nothing changed.
 abbrev pub Does : Asked → ℕ → State → List ℕ → State → Type 0
-Does asks number old reply new =
-    ((reply ≡ spelling (outcome asks number old).reply) × (new ≡ (outcome asks number old).after))
-    ⊎ (MayWant asks × (reply ≡ spelling out_of_memory) × (new ≡ old))
+Does asks number old written new =
+    Completes asks number old written new
+    ⊎ (MayWant asks × (written ≡ spelling out_of_memory) × (new ≡ old))
 
 -- What was read is done, or the words are refused and nothing changed.
 abbrev pub Takes : List ℕ → Result Asked CmdFault → ℕ → State → List ℕ → State → Type 0

@@ -1,6 +1,7 @@
 //! The engine: a state of the machine, and the events that lead from one to the next.
 ghost use Rattle.std.specs.Prelude.{◌≡◌, ◌≢◌, ◌<◌, ◌≤◌, ◌^◌, Err, [], true, false, length, vec_capacity, IfOk, IsTrue};
 ghost use Rattle.ft_base.specs.Words.{KeepsLimits};
+ghost use Rattle.cmd_parse.specs.Lawful.{HasSerial};
 ghost use Rattle.cmd_parse.specs.Read.{IsReading, command_of};
 ghost use Rattle.ft_engine.specs.Asking.{IsAsked};
 ghost use Rattle.ft_engine.specs.Preparing.{IsLast, abandoned, committed, is_change};
@@ -123,9 +124,11 @@ impl Engine {
         }
     }
 
-    /// Prepares what is asked at a moment, and writes the reply. Nothing is seen of it yet.
+    /// Prepares what is asked at a moment, and writes the reply. Nothing is seen of it yet. The command is read for this
+    /// event: an index that it creates has the event's number as its serial.
     pub fn prepare<'a>(&mut self, now: u64, command: Command<'a>, out: &mut Vec<u8>) -> Prepared<'a>
         requires asked { IsAsked (command_of command) }
+        requires serial { HasSerial self.old.next (command_of command) }
         requires empty { out.old.items ≡ [] }
         requires room { 64 ≤ vec_capacity out.old }
         requires free { self.old.pending ≡ false }

@@ -3,17 +3,17 @@ ghost use Rattle.std.specs.Prelude.{◌≡◌, ◌<◌, ◌≤◌, ◌+◌, ◌-
 ghost use Rattle.cmd_parse.specs.Read.{Plain};
 ghost use Rattle.cmd_parse.specs.declared.command.Verb.TheVariants.{Hdel};
 ghost use Rattle.ft_base.specs.Space.{doc_of};
-ghost use Rattle.ft_engine.specs.Machine.{State, hash_in};
+ghost use Rattle.ft_engine.specs.Machine.{State};
 ghost use Rattle.ft_engine.specs.Preparing.{IsReady, changed};
 ghost use Rattle.indexed_store.specs.Standing.{InStep};
 ghost use Rattle.indexed_store.specs.Definitions.{definitions_of};
 ghost use Rattle.ft_engine.specs.Stands.{state_of};
 ghost use Rattle.ft_engine.specs.Step.{Does};
 ghost use Rattle.ft_engine.specs.Writes.{fields_gone, without_fields};
+ghost use Rattle.hash_replies.specs.Reads.{hash_in};
 
 use crate::prepared::Change;
-use crate::reads::put_number;
-use crate::short_reply::{SHORT_REPLY, put_no_memory};
+use crate::short_reply::{SHORT_REPLY, put_no_memory, put_number};
 use crate::versions::left_of;
 use ft_base::{NoMemory, Words};
 use ft_index::FtIndex;

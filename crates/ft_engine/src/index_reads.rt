@@ -14,7 +14,7 @@ ghost use Rattle.ft_index.specs.Index.{Index};
 ghost use Rattle.indexed_store.specs.Definitions.{definitions_of};
 ghost use Rattle.tag_values.specs.Values.{tag_values};
 
-use crate::reads::put_made;
+use crate::made_reply::put_made;
 use crate::short_reply::{SHORT_REPLY, put_fault};
 use ft_base::{Field, IndexDef, ListOf, NoMemory, Reply, Words};
 use ft_index::FtIndex;

@@ -12,10 +12,11 @@ mod hincrby;
 mod hset;
 mod index_commands;
 mod index_reads;
+mod laws;
+mod made_reply;
 mod ping;
 mod plain;
 mod prepared;
-mod reads;
 mod refusals;
 mod removals;
 mod rename;
@@ -28,5 +29,7 @@ mod versions;
 
 /// The state of the server, and its events.
 pub use engine::Engine;
+/// That a command has one answer.
+pub use laws::one_answer;
 /// A command that is prepared.
 pub use prepared::Prepared;

@@ -15,18 +15,16 @@ use crate::hincrby::hincrby;
 use crate::hset::{hset, hsetnx};
 use crate::index_commands::drop_named;
 use crate::index_reads::{answer_tag_vals, names_of_indexes};
+use crate::made_reply::put_made;
 use crate::ping::answer_say;
 use crate::prepared::Change;
-use crate::reads::{
-    hexists, hget, hgetall, hkeys, hlen, hmget, hvals, is_there, present, put_flag, put_kind,
-    put_made, put_number,
-};
 use crate::removals::{MOST_COUNTED, del, flush};
 use crate::rename::rename;
-use crate::short_reply::{SHORT_REPLY, put_short};
+use crate::short_reply::{SHORT_REPLY, put_flag, put_kind, put_number, put_short};
 use cmd_parse::Verb;
 use ft_base::Words;
 use ft_index::FtIndex;
+use hash_replies::{hexists, hget, hgetall, hkeys, hlen, hmget, hvals, is_there, present};
 use hash_store::HashStore;
 use std::alloc::Global;
 

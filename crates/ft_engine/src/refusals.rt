@@ -1,16 +1,17 @@
-//! Replies to words that ask nothing. They take no memory.
+//! Replies to words that ask nothing, and to queries that are none. They take no memory.
 ghost use Rattle.std.specs.Prelude.{◌≡◌, ◌≤◌, ◌+◌, ◌++◌, [], length, vec_capacity};
 ghost use Rattle.std.specs.Fmt.{decimal};
 ghost use Rattle.ft_base.specs.Reply.{spelling};
 ghost use Rattle.ft_base.specs.declared.reply.Reply.TheVariants.{Fault};
 ghost use Rattle.cmd_parse.specs.declared.command.CmdFault.TheVariants.{Arity};
-ghost use Rattle.ft_engine.specs.Refusals.{refusal, schema_refusal};
+ghost use Rattle.ft_engine.specs.Refusals.{query_refusal, refusal, schema_refusal};
 ghost use Rattle.token_text.specs.Tokens.{lowered};
 
 use crate::short_reply::{SHORT_REPLY, put_fault, put_no_memory, put_short};
 use cmd_parse::CmdFault;
 use ft_schema::SchemaFault;
 use itoa::Buffer;
+use query_parse::QueryFault;
 
 /// Writes why the words of a command of this name ask nothing.
 pub fn put_refusal(name: &[u8], fault: CmdFault, out: &mut Vec<u8>)
@@ -74,8 +75,37 @@ pub fn put_schema_refusal(fault: SchemaFault, out: &mut Vec<u8>)
     }
 }
 
+/// Writes why a text is no query.
+pub fn put_query_refusal(fault: QueryFault, out: &mut Vec<u8>)
+    requires empty { out.old.items ≡ [] }
+    requires room { SHORT_REPLY ≤ vec_capacity out.old }
+    ensures fault { out.new.items ≡ spelling (Fault (query_refusal fault)) }
+    ensures room { vec_capacity out.old ≤ vec_capacity out.new }
+{
+    match fault {
+        QueryFault::Syntax { at } => put_place(b"Syntax error at offset ", at, out),
+        QueryFault::UnknownField { at } => put_place(b"Unknown field at offset ", at, out),
+        QueryFault::WrongKind { at } => put_place(b"Wrong field kind at offset ", at, out),
+        QueryFault::NoParam { at } => put_place(b"No such parameter at offset ", at, out),
+        QueryFault::TooDeep { at } => put_place(b"Query too deep at offset ", at, out),
+        QueryFault::OutOfScope { at } => put_place(b"Not supported at offset ", at, out),
+        QueryFault::NoMemory => put_no_memory(out),
+    }
+}
+
 /// Writes a text and a word's number behind it.
 fn put_at(text: &[u8], at: u32, out: &mut Vec<u8>)
+    requires text { length text.now ≤ 40 }
+    requires empty { out.old.items ≡ [] }
+    requires room { SHORT_REPLY ≤ vec_capacity out.old }
+    ensures fault { out.new.items ≡ spelling (Fault (text.now ++ decimal at)) }
+    ensures room { vec_capacity out.old ≤ vec_capacity out.new }
+{
+    put_place(text, at as usize, out);
+}
+
+/// Writes a text and a number behind it.
+fn put_place(text: &[u8], at: usize, out: &mut Vec<u8>)
     requires text { length text.now ≤ 40 }
     requires empty { out.old.items ≡ [] }
     requires room { SHORT_REPLY ≤ vec_capacity out.old }

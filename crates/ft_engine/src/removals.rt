@@ -16,8 +16,7 @@ ghost use Rattle.indexed_store.specs.Removing.{without_keys};
 ghost use Rattle.ft_index.specs.Index.{Index};
 
 use crate::prepared::Change;
-use crate::reads::put_number;
-use crate::short_reply::{SHORT_REPLY, put_no_memory, put_short};
+use crate::short_reply::{SHORT_REPLY, put_no_memory, put_number, put_short};
 use ft_base::{NoMemory, Words};
 use ft_index::FtIndex;
 use hash_store::HashStore;

@@ -3,20 +3,20 @@ ghost use Rattle.std.specs.Prelude.{◌≡◌, ◌<◌, ◌≤◌, ◌+◌, ◌-
 ghost use Rattle.cmd_parse.specs.Read.{Plain};
 ghost use Rattle.cmd_parse.specs.declared.command.Verb.TheVariants.{Rename};
 ghost use Rattle.ft_base.specs.Space.{doc_of};
-ghost use Rattle.ft_engine.specs.Machine.{hash_in};
 ghost use Rattle.ft_engine.specs.Preparing.{IsReady, changed};
 ghost use Rattle.indexed_store.specs.Writing.{Waits};
 ghost use Rattle.indexed_store.specs.Standing.{InStep};
 ghost use Rattle.indexed_store.specs.Definitions.{definitions_of};
 ghost use Rattle.ft_engine.specs.Stands.{state_of};
 ghost use Rattle.ft_engine.specs.Step.{Does};
+ghost use Rattle.hash_replies.specs.Reads.{hash_in};
 
 use crate::prepared::Change;
-use crate::reads::is_there;
 use crate::short_reply::{SHORT_REPLY, put_fault, put_no_memory, put_short};
 use crate::versions::copy_of;
 use ft_base::{NoMemory, Words};
 use ft_index::FtIndex;
+use hash_replies::is_there;
 use hash_store::{HashStore, ReadyPut};
 use indexed_store::prepare_hash;
 use std::alloc::Global;

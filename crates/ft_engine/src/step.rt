@@ -53,8 +53,8 @@ pub fn prepare_command<'a>(
         Command::Alter { index, fields } => {
             alter(store, indexes, alloc, number, index, &fields, out)
         }
-        Command::SearchWord { index, word } => {
-            answer_search(indexes, alloc, index, word, out);
+        Command::Search(search) => {
+            answer_search(store, indexes, alloc, &search, out);
             Change::Nothing
         }
     }

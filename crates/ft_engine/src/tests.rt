@@ -8,6 +8,7 @@ mod compared;
 mod events;
 mod hashes;
 mod indexes;
+mod searches;
 
 use crate::Engine;
 use ft_base::{NoMemory, Span, Words};
@@ -39,8 +40,18 @@ pub fn begin_at(alloc: Global, first: u64) -> Result<Session, NoMemory>
 
 /// The reply to a line of words with one `|` between each two.
 pub fn ask(alloc: Global, session: &mut Session, line: &[u8]) -> Result<Vec<u8>, NoMemory> {
+    ask_parted(alloc, session, line, b'|')
+}
+
+/// The reply to a line of words with one such byte between each two.
+pub fn ask_parted(
+    alloc: Global,
+    session: &mut Session,
+    line: &[u8],
+    separator: u8,
+) -> Result<Vec<u8>, NoMemory> {
     let mut out = Vec::with_capacity(alloc, 64)?;
-    let spans = spans_of(alloc, line)?;
+    let spans = spans_of(alloc, line, separator)?;
     if is_small(line, spans.as_slice()) {
         let now = session.engine.next();
         let words = Words::new(line, spans.as_slice());
@@ -49,11 +60,11 @@ pub fn ask(alloc: Global, session: &mut Session, line: &[u8]) -> Result<Vec<u8>,
     Ok(out)
 }
 
-pub fn spans_of(alloc: Global, line: &[u8]) -> Result<Vec<Span>, NoMemory> {
+pub fn spans_of(alloc: Global, line: &[u8], separator: u8) -> Result<Vec<Span>, NoMemory> {
     let mut spans = Vec::new(alloc);
     let mut from = 0;
     for to in 0..line.len() {
-        if line[to] == b'|' {
+        if line[to] == separator {
             spans.push(Span { from, to })?;
             from = to + 1;
         }
@@ -189,7 +200,6 @@ fn refuses_by_the_words_alone(rt: HostRuntime) -> Result<(), Fail> {
         ("FT.INFO|ix", not_built),
         ("FT.AGGREGATE", not_built),
         ("FT.SEARCH|ix|hello|WITHSCORES", not_built),
-        ("FT.SEARCH|ix|hello-world|NOCONTENT", not_built),
         ("NOPE", unknown),
         ("HSETX|k|f|v", unknown),
         ("", unknown),

@@ -84,6 +84,7 @@ impl FtIndex {
     pub fn def(&self) -> &IndexDef
         ensures def { result.now ≡ self.now.def }
         ensures sound { IsIndex self.now }
+        ensures fields { length result.now.fields ≤ 1_024 }
     {
         &self.def
     }

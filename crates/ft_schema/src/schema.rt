@@ -19,6 +19,7 @@ pub fn read_create(alloc: Global, words: Words<'_>, serial: u64) -> Result<Index
     requires number { 5 ≤ length words }
     requires limit { length words ≤ MAX_WORDS }
     ensures ok { IfOk result (λ index. create words.entry serial ≡ Ok index) }
+    ensures serial { IfOk result (λ index. index.serial ≡ serial) }
     ensures err { IfErr result (λ fault. IsFaultOf fault (create words.entry serial)) }
     ensures lawful { IfOk result (λ index. IsLawful index.fields) }
 {

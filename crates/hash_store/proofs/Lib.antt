@@ -5,3 +5,4 @@ pub mod FoundLaws
 pub mod SpaceLaws
 pub mod StoreLaws
 pub mod ChangeLaws
+pub mod AheadLaws

@@ -1,2 +1,1 @@
-pub mod AheadLaws
 pub mod TagLaws

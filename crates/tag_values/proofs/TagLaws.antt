@@ -17,7 +17,8 @@ use Rattle.ft_base.specs.declared.reply.Reply.{Reply}
 use Rattle.ft_base.specs.declared.reply.Reply.TheVariants.{Bulk}
 use Rattle.ft_meaning.specs.Holds.{field_tags}
 use Rattle.ft_meaning.specs.Member.{member, members}
-use Rattle.tag_values.specs.Ahead.{ahead, seen, with_tags_of}
+use Rattle.hash_store.specs.Ahead.{ahead}
+use Rattle.tag_values.specs.Gathered.{seen, with_tags_of}
 use Rattle.tag_values.specs.Values.{all_tags, tag_values, with_tag, with_tags}
 
 -- the order of keys

@@ -1,3 +1,3 @@
 -- Which tags a field has over the members of an index, and how far a walk has gathered them.
 pub mod Values
-pub mod Ahead
+pub mod Gathered

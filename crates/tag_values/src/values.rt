@@ -5,7 +5,8 @@ ghost use Rattle.std.specs.List.Sorted.{IsStrictlyIncreasing};
 ghost use Rattle.ft_base.specs.declared.reply.Reply.TheVariants.{Bulk};
 ghost use Rattle.ft_meaning.specs.Holds.{field_tags};
 ghost use Rattle.ft_meaning.specs.Member.{member};
-ghost use Rattle.tag_values.specs.Ahead.{ahead, seen, with_tags_of};
+ghost use Rattle.hash_store.specs.Ahead.{ahead};
+ghost use Rattle.tag_values.specs.Gathered.{seen, with_tags_of};
 ghost use Rattle.tag_values.specs.Values.{tag_values, with_tags};
 
 use field_text::tags;

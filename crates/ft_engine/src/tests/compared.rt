@@ -1,13 +1,17 @@
 //! Against an engine that answers otherwise than the documents do: some hundred commands, each answered
 //! by the engine and by a plain machine, which is a list of documents and one of definitions.
-ghost use Rattle.std.specs.Prelude.{◌<◌, ◌≤◌, ◌+◌, length};
+ghost use Rattle.std.specs.Prelude.{◌<◌, ◌≤◌, ◌+◌, length, IsTrue};
+ghost use Rattle.ft_meaning.specs.Meaning.{ValuesFit};
 
-use crate::tests::{Session, ask, begin, is_small, spans_of};
+use crate::refusals::put_query_refusal;
+use crate::tests::{Session, ask_parted, begin, is_small, spans_of};
 use cmd_parse::{Command, read_command};
 use field_text::tags;
-use ft_base::{Bytes, Doc, FieldKind, HashRec, IndexDef, NoMemory, Words, put_int};
-use ft_meaning::{holds_word, member};
+use ft_base::{Bytes, Doc, FieldKind, HashRec, IndexDef, ListOf, NoMemory, Query, Words, put_int};
+use ft_meaning::member;
 use ft_schema::extend;
+use query_match::matches;
+use query_parse::{QueryFault, parse};
 use std::alloc::Global;
 use std::collections::BTreeSet;
 use std::test::Fail;
@@ -55,7 +59,7 @@ struct Turn {
     to: Vec<u8>,
     name: Vec<u8>,
     schema: u8,
-    word: u8,
+    query: u8,
     row: Row,
 }
 
@@ -70,7 +74,7 @@ fn turn_of(alloc: Global, seed: u64) -> Result<Turn, NoMemory> {
         to: text_of(alloc, &[c, d])?,
         name: text_of(alloc, &[b'i', letter(seed, 44, b'x', 3)])?,
         schema: letter(seed, 46, 0, 3),
-        word: x,
+        query: letter(seed, 56, 0, 24),
         row: Row {
             key: text_of(alloc, &[a, b])?,
             text: text_of(alloc, &[x, b' ', y])?,
@@ -80,7 +84,7 @@ fn turn_of(alloc: Global, seed: u64) -> Result<Turn, NoMemory> {
     })
 }
 
-/// The words of the turn's command, with one `|` between each two.
+/// The words of the turn's command, with one `/` between each two.
 fn line_of(alloc: Global, turn: &Turn) -> Result<Vec<u8>, NoMemory> {
     let mut line = text_of(alloc, verb(turn.kind))?;
     match turn.kind {
@@ -91,17 +95,17 @@ fn line_of(alloc: Global, turn: &Turn) -> Result<Vec<u8>, NoMemory> {
     match turn.kind {
         0..=5 => put_fields(&mut line, &turn.row)?,
         7 => {
-            line.push(b'|')?;
+            line.push(b'/')?;
             line.extend_from_slice(turn.to.as_slice())?;
         }
         8 => line.extend_from_slice(schema(turn.schema))?,
-        9 => line.extend_from_slice(b"|SCHEMA|ADD|n|NUMERIC")?,
-        11 => line.extend_from_slice(b"|DD")?,
-        13 => line.extend_from_slice(b"|g")?,
+        9 => line.extend_from_slice(b"/SCHEMA/ADD/n/NUMERIC")?,
+        11 => line.extend_from_slice(b"/DD")?,
+        13 => line.extend_from_slice(b"/g")?,
         14 | 15 => {
-            line.push(b'|')?;
-            line.push(turn.word)?;
-            line.extend_from_slice(b"|NOCONTENT")?;
+            line.push(b'/')?;
+            line.extend_from_slice(query_of(turn.query))?;
+            line.extend_from_slice(b"/NOCONTENT")?;
         }
         _ => {}
     }
@@ -110,34 +114,64 @@ fn line_of(alloc: Global, turn: &Turn) -> Result<Vec<u8>, NoMemory> {
 
 fn verb(kind: u8) -> &'static [u8] {
     match kind {
-        0..=5 => b"HSET|",
-        6 => b"DEL|",
-        7 => b"RENAME|",
-        8 => b"FT.CREATE|",
-        9 => b"FT.ALTER|",
-        10 | 11 => b"FT.DROPINDEX|",
+        0..=5 => b"HSET/",
+        6 => b"DEL/",
+        7 => b"RENAME/",
+        8 => b"FT.CREATE/",
+        9 => b"FT.ALTER/",
+        10 | 11 => b"FT.DROPINDEX/",
         12 => b"FT._LIST",
-        13 => b"FT.TAGVALS|",
-        _ => b"FT.SEARCH|",
+        13 => b"FT.TAGVALS/",
+        _ => b"FT.SEARCH/",
     }
 }
 
 /// The words of HSET behind the key.
 fn put_fields(line: &mut Vec<u8>, row: &Row) -> Result<(), NoMemory> {
-    line.extend_from_slice(b"|t|")?;
+    line.extend_from_slice(b"/t/")?;
     line.extend_from_slice(row.text.as_slice())?;
-    line.extend_from_slice(b"|g|")?;
+    line.extend_from_slice(b"/g/")?;
     line.extend_from_slice(row.tags.as_slice())?;
-    line.extend_from_slice(b"|n|")?;
+    line.extend_from_slice(b"/n/")?;
     line.push(row.number)?;
     Ok(())
 }
 
+/// A query of the language; those over fields that an index lacks are faults there.
+fn query_of(which: u8) -> &'static [u8] {
+    match which {
+        0 => b"p",
+        1 => b"P q",
+        2 => b"p | q",
+        3 => b"-p",
+        4 => b"p -q",
+        5 => b"q ~p",
+        6 => b"p*",
+        7 => b"\"p q\"",
+        8 => b"(p q)=>{$slop:0}",
+        9 => b"(q p)=>{$slop:1; $inorder:true}",
+        10 => b"* -p",
+        11 => b"@t:(p | r)",
+        12 => b"@g:{a}",
+        13 => b"@g:{A | b*}",
+        14 => b"@n:[3 6]",
+        15 => b"@n:[(3 inf] | s",
+        16 => b"@t:(p | r) -@g:{b}",
+        17 => b"@g:{c} | q*",
+        18 => b"-(p | q)",
+        19 => b"-@n:[2 7] p*",
+        20 => b"(p | @g:{a}) -(q r)",
+        21 => b"-@n:[5 1]",
+        22 => b"p (q | ()) -the",
+        _ => b"\"p p\"",
+    }
+}
+
 fn schema(which: u8) -> &'static [u8] {
     match which {
-        0 => b"|SCHEMA|t|TEXT|g|TAG",
-        1 => b"|PREFIX|1|a|SCHEMA|g|TAG|CASESENSITIVE|t|TEXT",
-        _ => b"|SCHEMA|t|TEXT|n|NUMERIC",
+        0 => b"/SCHEMA/t/TEXT/g/TAG",
+        1 => b"/PREFIX/1/a/SCHEMA/g/TAG/CASESENSITIVE/t/TEXT",
+        _ => b"/SCHEMA/t/TEXT/n/NUMERIC",
     }
 }
 
@@ -165,7 +199,7 @@ fn answer(alloc: Global, plain: &mut Plain, turn: Turn, line: &[u8]) -> Result<V
             bulks(alloc, b"*", names.as_slice())
         }
         13 => tag_vals(alloc, plain, turn.name.as_slice()),
-        _ => search(alloc, plain, turn.name.as_slice(), turn.word),
+        _ => search(alloc, plain, turn.name.as_slice(), query_of(turn.query)),
     }
 }
 
@@ -207,7 +241,7 @@ fn create(alloc: Global, plain: &mut Plain, name: &[u8], line: &[u8]) -> Result<
     if place_of(plain, name).is_some() {
         return text_of(alloc, b"-Index already exists\r\n");
     }
-    let spans = spans_of(alloc, line)?;
+    let spans = spans_of(alloc, line, b'/')?;
     if is_small(line, spans.as_slice()) {
         let words = Words::new(line, spans.as_slice());
         if let Ok(Command::Create(def)) = read_command(alloc, words, 1) {
@@ -221,7 +255,7 @@ fn alter(alloc: Global, plain: &mut Plain, name: &[u8], line: &[u8]) -> Result<V
     let Some(at) = place_of(plain, name) else {
         return text_of(alloc, b"-Unknown index name\r\n");
     };
-    let spans = spans_of(alloc, line)?;
+    let spans = spans_of(alloc, line, b'/')?;
     if is_small(line, spans.as_slice()) && at < plain.defs.len() {
         let words = Words::new(line, spans.as_slice());
         if let Ok(Command::Alter { fields, .. }) = read_command(alloc, words, 1) {
@@ -257,9 +291,10 @@ fn drop_from(
     text_of(alloc, b"+OK\r\n")
 }
 
-/// A document of one field or of all.
+/// The document of a row.
 fn doc_of(alloc: Global, row: &Row) -> Result<Doc, NoMemory> {
     let mut hash = HashRec::new(alloc);
+    hash.set(b"t", Bytes::from_slice(alloc, row.text.as_slice())?)?;
     hash.set(b"g", Bytes::from_slice(alloc, row.tags.as_slice())?)?;
     hash.set(b"n", Bytes::from_slice(alloc, &[row.number])?)?;
     let key = Bytes::from_slice(alloc, row.key.as_slice())?;
@@ -271,24 +306,56 @@ fn is_member(alloc: Global, def: &IndexDef, row: &Row) -> Result<bool, NoMemory>
     Ok(member(def, &doc))
 }
 
-/// Whether a document of this text holds a word.
-fn holds(alloc: Global, def: &IndexDef, text: &[u8], word: u8) -> Result<bool, NoMemory>
-    requires { length text.now ≤ 1_000 }
+/// Whether the values are short, with much to spare.
+fn values_fit(hash: &HashRec) -> bool
+    ensures { IsTrue result → ValuesFit hash.now }
 {
-    let mut hash = HashRec::new(alloc);
-    hash.set(b"t", Bytes::from_slice(alloc, text)?)?;
-    let key = Bytes::new(alloc);
-    holds_word(alloc, def, &[word], &Doc { id: 1, key, hash })
+    'values: for i in 0..hash.len() {
+        if 100 < hash.at(i).1.as_slice().len() {
+            return false;
+        }
+    }
+    true
 }
 
-fn search(alloc: Global, plain: &Plain, name: &[u8], word: u8) -> Result<Vec<u8>, NoMemory> {
+/// Whether a document is a member that meets a query.
+fn is_found(alloc: Global, def: &IndexDef, query: &Query, row: &Row) -> Result<bool, NoMemory> {
+    let doc = doc_of(alloc, row)?;
+    if !member(def, &doc) || !values_fit(&doc.hash) {
+        return Ok(false);
+    }
+    matches(alloc, def, &doc, query)
+}
+
+fn search(alloc: Global, plain: &Plain, name: &[u8], text: &[u8]) -> Result<Vec<u8>, NoMemory> {
     let Some(def) = plain.defs.iter().find(|def| def.name.as_slice() == name) else {
         return text_of(alloc, b"-Unknown index name\r\n");
     };
+    if 100 < text.len() || 1_000 < def.fields.len() {
+        return text_of(alloc, b"-Too long\r\n");
+    }
+    match parse(alloc, text, def, &ListOf::new(alloc)) {
+        Ok(query) => keys_of(alloc, plain, def, &query),
+        Err(fault) => fault_of(alloc, fault),
+    }
+}
+
+fn fault_of(alloc: Global, fault: QueryFault) -> Result<Vec<u8>, NoMemory> {
+    let mut out = Vec::with_capacity(alloc, 64)?;
+    put_query_refusal(fault, &mut out);
+    Ok(out)
+}
+
+/// The number of the documents found, and the keys of the first ten.
+fn keys_of(
+    alloc: Global,
+    plain: &Plain,
+    def: &IndexDef,
+    query: &Query,
+) -> Result<Vec<u8>, NoMemory> {
     let mut keys = Vec::new(alloc);
     for row in plain.rows.as_slice() {
-        let text = row.text.as_slice();
-        if text.len() <= 1_000 && is_member(alloc, def, row)? && holds(alloc, def, text, word)? {
+        if is_found(alloc, def, query, row)? {
             keys.push(text_of(alloc, row.key.as_slice())?)?;
         }
     }
@@ -367,7 +434,7 @@ fn answers_as_a_plain_machine_does(rt: HostRuntime) -> Result<(), Fail> {
         let turn = turn_of(rt.alloc(), seed)?;
         let line = line_of(rt.alloc(), &turn)?;
         let want = answer(rt.alloc(), &mut plain, turn, line.as_slice())?;
-        let reply = ask(rt.alloc(), &mut session, line.as_slice())?;
+        let reply = ask_parted(rt.alloc(), &mut session, line.as_slice(), b'/')?;
         assert_eq!(rt; reply.as_slice(), want.as_slice(), "at {at}");
     }
     Ok(())

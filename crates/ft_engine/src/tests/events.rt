@@ -14,7 +14,7 @@ fn prepare(
     commits: bool,
 ) -> Result<(Vec<u8>, bool), NoMemory> {
     let mut out = Vec::with_capacity(alloc, 64)?;
-    let spans = spans_of(alloc, line)?;
+    let spans = spans_of(alloc, line, b'|')?;
     if !is_small(line, spans.as_slice()) {
         return Ok((out, false));
     }

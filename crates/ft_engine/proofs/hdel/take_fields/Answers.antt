@@ -1,5 +1,5 @@
 use Rattle.std.proofs.Common.{sym, subst}
-use Rattle.ft_engine.specs.Machine.{hash_in}
+use Rattle.hash_replies.specs.Reads.{hash_in}
 use Rattle.ft_base.specs.Space.{doc_of}
 use Rattle.ft_meaning.specs.Meaning.{ValuesFit}
 use Rattle.ft_engine.proofs.WritesLaws.{found-fits, left-fits}

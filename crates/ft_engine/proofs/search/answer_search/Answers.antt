@@ -1,21 +1,19 @@
-use Rattle.std.specs.Prelude.{◌<◌, ◌^◌}
 use Rattle.std.proofs.Common.{sym}
-use Rattle.ft_index.specs.Index.{Index, IsIndex}
-use Rattle.indexed_store.proofs.NamedLaws.{named-has}
-use Rattle.ft_engine.proofs.SearchLaws.{searches-found, searches-none}
+use Rattle.ft_engine.proofs.SearchLaws.{searches-fault_of, searches-found, searches-none}
 use Rattle.ft_engine.proofs.search.answer_search.Goals as goal
 
 pub returns-in_default-clause-does : goal.returns-in_default-clause-does
-returns-in_default-clause-does c number state same each = searches-none c.args.indexes.now state number c.args.name.now c.args.word.now _ same (sym c.in_default.ensures) c.put_fault.ensures.fault
-
-pub put_found-requires-clause-sound : goal.put_found-requires-clause-sound
-put_found-requires-clause-sound c = (named-has (λ (index : Index). IsIndex index × (index.table.last < 2 ^ 62)) c.args.indexes.now c.args.name.now c.in-Some.index.now c.requires.sound (sym c.in-Some.ensures)).0
-
-pub put_found-requires-clause-few : goal.put_found-requires-clause-few
-put_found-requires-clause-few c = (named-has (λ (index : Index). IsIndex index × (index.table.last < 2 ^ 62)) c.args.indexes.now c.args.name.now c.in-Some.index.now c.requires.sound (sym c.in-Some.ensures)).1
+returns-in_default-clause-does c number state all same =
+    searches-none c.args.indexes.now state number _ _ _ _ _ same (sym c.in_default.ensures) c.put_fault.ensures.fault
 
 pub returns-in-Ok-clause-does : goal.returns-in-Ok-clause-does
-returns-in-Ok-clause-does c number state same each =
-    let sound = (named-has (λ (index : Index). IsIndex index × (index.table.last < 2 ^ 62)) c.args.indexes.now c.args.name.now c.in-Some.index.now c.requires.sound (sym c.in-Some.ensures)).0 in
-    searches-found c.args.indexes.now state number c.args.name.now c.args.word.now c.args.out.now.items c.put_found.new.out.items c.in-Some.index.now same each sound (sym c.in-Some.ensures)
-    c.requires.empty c.in-Ok.ensures.ok
+returns-in-Ok-clause-does c number state all same =
+    let search = c.args.search.now in
+    searches-found c.args.indexes.now c.in-Some.index.now c.def-def.result.now state number search.index.now search.query.now search.no_content search.params c.put_made.new.out.items c.in-Ok.query c.args.store.now.space
+    c.search_store.result same (sym c.in-Some.ensures) c.def-def.ensures.def all c.in-Ok.ensures.exact c.search_store.ensures.reply c.put_made.ensures.told
+
+pub returns-in-Err-clause-does : goal.returns-in-Err-clause-does
+returns-in-Err-clause-does c number state all same =
+    let search = c.args.search.now in
+    searches-fault_of c.args.indexes.now c.in-Some.index.now c.def-def.result.now state number search.index.now search.query.now search.no_content search.params c.put_query_refusal.new.out.items c.in-Err.fault same
+    (sym c.in-Some.ensures) c.def-def.ensures.def c.in-Err.ensures.exact c.put_query_refusal.ensures.fault

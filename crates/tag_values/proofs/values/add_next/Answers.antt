@@ -1,8 +1,9 @@
 use Rattle.std.specs.Prelude.{length}
 use Rattle.std.proofs.Common.{◌∙◌, ap, sym, arith}
-use Rattle.tag_values.specs.Ahead.{ahead, seen, with_tags_of}
+use Rattle.hash_store.specs.Ahead.{ahead}
+use Rattle.tag_values.specs.Gathered.{seen, with_tags_of}
 use Rattle.tag_values.specs.Values.{with_tags}
-use Rattle.tag_values.proofs.AheadLaws.{next-found, none-next}
+use Rattle.hash_store.proofs.AheadLaws.{next-found, none-next}
 use Rattle.tag_values.proofs.TagLaws.{first_added}
 use Rattle.tag_values.proofs.values.add_next.Goals as goal
 

@@ -1,5 +1,5 @@
 use Rattle.std.specs.Prelude.{◌≡◌}
-use Rattle.tag_values.specs.Ahead.{seen}
+use Rattle.tag_values.specs.Gathered.{seen}
 use Rattle.tag_values.specs.Values.{with_tags}
 use Rattle.tag_values.proofs.values.add_tags.Given as goal
 

@@ -2,8 +2,9 @@ use Rattle.std.specs.Prelude.{refl, [], map}
 use Rattle.std.proofs.Common.{◌∙◌, ap}
 use Rattle.std.proofs.lemmas.Result.{IfOk-weaker}
 use Rattle.ft_base.specs.declared.reply.Reply.TheVariants.{Bulk}
-use Rattle.tag_values.specs.Ahead.{ahead, seen, with_tags_of}
-use Rattle.tag_values.proofs.AheadLaws.{ahead-all}
+use Rattle.hash_store.specs.Ahead.{ahead}
+use Rattle.tag_values.specs.Gathered.{seen, with_tags_of}
+use Rattle.hash_store.proofs.AheadLaws.{ahead-all}
 use Rattle.tag_values.proofs.TagLaws.{all_seen, bulks-seen}
 use Rattle.tag_values.proofs.values.tag_values.Goals as goal
 

@@ -1,7 +1,8 @@
 use Rattle.std.specs.Prelude.{◌≡◌, length, map}
 use Rattle.std.specs.List.Sorted.{IsStrictlyIncreasing}
 use Rattle.ft_base.specs.declared.doc.Doc.{Doc}
-use Rattle.tag_values.specs.Ahead.{ahead, seen, with_tags_of}
+use Rattle.hash_store.specs.Ahead.{ahead}
+use Rattle.tag_values.specs.Gathered.{seen, with_tags_of}
 use Rattle.tag_values.specs.Values.{tag_values}
 use Rattle.tag_values.proofs.values.tag_values.Given as goal
 

@@ -1,11 +1,16 @@
-use Rattle.std.proofs.Common.{inr, ap, arith, false, subst, sym, drop, ◌∙◌}
-use Rattle.std.specs.Prelude.{◌≡◌, Bool, List, length}
+use Rattle.std.proofs.Common.{◌++◌, refl, inr, ap, arith, false, subst, sym, drop, take, ◌∙◌}
+use Rattle.std.specs.Prelude.{◌≡◌, Bool, List, length, max}
 use Rattle.std.proofs.lemmas.List.{take_at}
 use Rattle.ft_base.specs.declared.doc.Doc.{Doc}
 use Rattle.indexed_store.specs.Standing.{AreWritten, InStep}
-use Rattle.ft_engine.specs.Stands.{Stands, unused}
-use Rattle.indexed_store.specs.Definitions.{definitions_of}
+use Rattle.cmd_parse.specs.Read.{command_of}
+use Rattle.ft_index.specs.Index.{Index}
+use Rattle.ft_engine.specs.Machine.{State}
+use Rattle.ft_engine.specs.Preparing.{changed}
+use Rattle.ft_engine.specs.Stands.{Stands, state_of, unused}
+use Rattle.indexed_store.specs.Definitions.{Defined, definitions_of}
 use Rattle.ft_engine.proofs.PreparingLaws.{changes-something}
+use Rattle.ft_engine.proofs.Stepping.{stepped}
 use Rattle.ft_engine.proofs.engine.Engine.prepare.Goals as goal
 
 pub returns-then-self-ge-LAST_NUMBER-clause-answer : goal.returns-then-self-ge-LAST_NUMBER-clause-answer
@@ -20,3 +25,21 @@ returns-clause-writes c some =
     let whole : length now ≡ c.self.inside.indexes.len = omega (arith, c.prepare_command-change.auto.indexes, c.as_mut_slice.ensures.len) in
     changes-something c.prepare_command-change.result c.self.inside.next c.prepare_command-change.new.store.ready now _ documents
     (ap definitions_of (take_at now (drop (length now) c.self.inside.indexes.items) c.self.inside.indexes.len whole)) c.prepare_command-change.ensures.ready some
+
+pub returns-clause-answer : goal.returns-clause-answer
+returns-clause-answer c =
+    let made = c.prepare_command-change in
+    let now = made.new.indexes in
+    let old = c.as_mut_slice.result.now in
+    let lent : old ≡ c.self.inside.indexes.items = c.as_mut_slice.ensures.value in
+    let store = c.self.inside.store in
+    let whole : length now ≡ c.self.inside.indexes.len = omega (arith, made.auto.indexes, c.as_mut_slice.ensures.len) in
+    let items : List Index = take c.self.inside.indexes.len (now ++ drop (length now) c.self.inside.indexes.items) in
+    let latest : c.max.result ≡ max c.args.now c.self.inside.latest = omega (arith, c.max.ensures) in
+    let defined : definitions_of items ≡ definitions_of old = ap definitions_of (take_at now (drop (length now) c.self.inside.indexes.items) c.self.inside.indexes.len whole) ∙ made.ensures.definitions in
+    let next : State = record { space = made.new.store.space; definitions = definitions_of items; latest = c.max.result } in
+    let same : next ≡ state_of store old (max c.args.now c.self.inside.latest) =
+    ap (λ (docs : List Doc). record { space = docs; definitions = definitions_of items; latest = c.max.result }) made.ensures.space
+    ∙ (ap (λ (ds : List Defined). record { space = store.space; definitions = ds; latest = c.max.result }) defined ∙ ap (state_of store old) latest) in
+    stepped (command_of c.args.command) c.self.inside.next c.args.self.now.next c.args.now c.self.inside.latest (state_of store old) (λ (s : State). changed made.result made.new.store.ready s) c.args.self.now.state next
+    made.new.out.items (sym (ap (λ (e : Stands). e.next) c.self.view_is)) (omega (arith, c.if-self-ge-LAST_NUMBER.false)) (sym (ap (λ (e : Stands). e.state) c.self.view_is) ∙ ap (λ (is : List Index). state_of store is c.self.inside.latest) (sym lent)) refl same made.ensures.does

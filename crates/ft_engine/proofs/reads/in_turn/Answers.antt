@@ -1,9 +1,0 @@
-use Rattle.std.proofs.Common.{◌∙◌, ap}
-use Rattle.ft_base.specs.declared.reply.Reply.TheVariants.{Bulk}
-use Rattle.ft_engine.proofs.ReadsLaws.{grown-twice, in_turn-next}
-use Rattle.ft_engine.proofs.reads.in_turn.Goals as goal
-
-pub loop-i-preserved : goal.loop-i-preserved
-loop-i-preserved c =
-    grown-twice _ _ _ _ _ (Bulk c.in_ok-from_slice.field-0) (Bulk c.in_ok-from_slice-2.field-0) _ _ c.in_ok-push.ensures.items c.in_ok-push-2.ensures.items c.loop-i.invariant (ap Bulk c.in_ok-from_slice.ensures)
-    (ap Bulk (c.in_ok-from_slice-2.ensures ∙ c.as_slice.ensures)) (in_turn-next c.args.hash.now c.loop-i.i _ c.at.ensures)

@@ -1,0 +1,7 @@
+use Rattle.std.specs.Prelude.{◌≡◌, take}
+use Rattle.hash_replies.specs.Reads.{values}
+use Rattle.hash_replies.proofs.listings.all_values.Given as goal
+
+-- the replies so far
+abbrev pub invariant-loop-i : goal.invariant-loop-i
+invariant-loop-i l = l.replies.items ≡ values (take l.i l.hash)

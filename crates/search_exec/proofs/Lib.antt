@@ -1,0 +1,2 @@
+pub mod RepliesLaws
+pub mod WalkLaws

@@ -1,0 +1,28 @@
+-- What a search is answered fits the wire.
+use Rattle.std.proofs.Common.{◌≡◌, Bool, true, false, List, [], ◌∷◌, ◌++◌, length, take, refl, ◌∙◌}
+use Rattle.std.specs.Prelude.{pos, IsTrue}
+use Rattle.std.specs.List.{list_all}
+use Rattle.std.proofs.lemmas.List.Folds.{list_all-map}
+use Rattle.ft_base.specs.Reply.{fits_wire}
+use Rattle.ft_base.specs.declared.doc.Doc.{Doc}
+use Rattle.ft_base.specs.declared.reply.Reply.{Reply}
+use Rattle.ft_base.specs.declared.reply.Reply.TheVariants.{Number}
+use Rattle.hash_replies.proofs.ReadsLaws.{fits-Array, fits-Bulk, fits-Number, in_turn-fits}
+use Rattle.search_exec.specs.Replies.{found_reply, row_of, rows, window}
+
+row-fits : (no_content : Bool) (doc : Doc) (rest : List Reply) → list_all (λ r. fits_wire r) rest ≡ true → list_all (λ r. fits_wire r) (row_of no_content doc ++ rest) ≡ true
+row-fits true doc rest each = rw (fits-Bulk doc.key) each
+row-fits false doc rest each = rw (fits-Bulk doc.key, in_turn-fits doc.hash) each
+
+rows-fit : (no_content : Bool) (docs : List Doc) → list_all (λ r. fits_wire r) (rows no_content docs) ≡ true
+rows-fit no_content [] = refl
+rows-fit no_content (doc ∷ docs) = row-fits no_content doc (rows no_content docs) (rows-fit no_content docs)
+
+-- what a search is answered fits the wire
+pub found-fits : (no_content : Bool) (docs : List Doc) → IsTrue (fits_wire (found_reply no_content docs))
+found-fits no_content docs =
+    let shown = rows no_content (take window docs) in
+    let number = Number (pos (length docs)) in
+    fits-Array (number ∷ shown)
+    ∙ (list_all-map (λ (fits : Bool). fits) fits_wire (number ∷ shown)
+    ∙ rw (fits-Number (pos (length docs))) (rows-fit no_content (take window docs)))
