@@ -3,7 +3,7 @@ use Rattle.std.proofs.Common.{◌≡◌, ℕ, List, [], ◌∷◌, true, false, 
 use Rattle.std.specs.Prelude.{codes}
 use Rattle.std.proofs.lemmas.Fmt.{decimal_digit}
 use Rattle.ft_base.specs.Number.{int_of}
-use Rattle.cmd_parse.specs.Read.{Plain, Search, read}
+use Rattle.cmd_parse.specs.Read.{InfoOf, Plain, Search, read}
 use Rattle.cmd_parse.specs.declared.command.CmdFault.TheVariants.{Arity, BadDb, NotBuilt, NotInteger, Syntax, Unknown}
 use Rattle.cmd_parse.specs.declared.command.Verb.TheVariants.{DropIndex, Flushall, Hget, Hset, Hvals, Select}
 
@@ -45,8 +45,15 @@ half_a_pair = refl
 surplus_word : read 0 (codes "DBSIZE" ∷ key ∷ []) ≡ Err Arity
 surplus_word = refl
 
+-- FT.INFO has one index
+told : read 0 (codes "ft.info" ∷ key ∷ []) ≡ Ok (InfoOf key)
+told = refl
+
+not_told : read 0 (codes "FT.INFO" ∷ key ∷ key ∷ []) ≡ Err Arity
+not_told = refl
+
 -- a command that is not built is not counted
-not_built : read 0 (codes "FT.INFO" ∷ key ∷ []) ≡ Err NotBuilt
+not_built : read 0 (codes "FT.CURSOR" ∷ key ∷ []) ≡ Err NotBuilt
 not_built = refl
 
 -- FLUSHALL with a word that it may have, and with another

@@ -5,7 +5,7 @@ use Rattle.std.specs.Str.{bytes_eq}
 use Rattle.ft_base.specs.Number.{int_of}
 use Rattle.ft_base.specs.declared.query.Param.{Param}
 use Rattle.ft_schema.specs.Lawful.{IsLawful as AreLawful}
-use Rattle.cmd_parse.specs.Read.{Asked, Plain, CreateIndex, AlterIndex, Search}
+use Rattle.cmd_parse.specs.Read.{Asked, Plain, CreateIndex, AlterIndex, InfoOf, Search}
 use Rattle.cmd_parse.specs.declared.command.Verb.{Verb}
 use Rattle.cmd_parse.specs.declared.command.Verb.TheVariants.{Ping, Echo, Select, Quit, Hset, Hsetnx, Hget, Hmget, Hgetall, Hdel, Hlen, Hexists, Hincrby, Hkeys, Hvals, Del, Exists, TypeOf, Dbsize, Rename, Flushall, DropIndex, ListIndexes, TagVals}
 use Rattle.cmd_parse.specs.declared.table.Form.{Form}
@@ -48,6 +48,7 @@ IsLawfulForm (InPairs verb least) = (n : ℕ) → least ≤ n + 1 → (n + 1) % 
 IsLawfulForm Create = Unit {0}
 IsLawfulForm Alter = Unit {0}
 IsLawfulForm form.Search = Unit {0}
+IsLawfulForm form.Info = Unit {0}
 IsLawfulForm Unbuilt = Unit {0}
 
 -- HINCRBY's increment is a number
@@ -71,6 +72,7 @@ abbrev pub IsLawful : List (List ℕ) → Asked → Type 0
 IsLawful words (Plain verb args) = (args ≡ drop 1 words) × Lawful verb args
 IsLawful words (CreateIndex index) = AreLawful index.fields
 IsLawful words (AlterIndex index fields) = (index ≡ slice_index_or words 1 []) × AreLawful fields
+IsLawful words (InfoOf index) = index ≡ slice_index_or words 1 []
 IsLawful words (Search index query no_content params) =
     (index ≡ slice_index_or words 1 []) × (query ≡ slice_index_or words 2 []) × AreParams words params
 
@@ -79,4 +81,5 @@ abbrev pub HasSerial : ℕ → Asked → Type 0
 HasSerial serial (CreateIndex index) = index.serial ≡ serial
 HasSerial serial (Plain verb args) = Unit {0}
 HasSerial serial (AlterIndex index fields) = Unit {0}
+HasSerial serial (InfoOf index) = Unit {0}
 HasSerial serial (Search index query no_content params) = Unit {0}

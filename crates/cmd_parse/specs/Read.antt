@@ -28,6 +28,7 @@ pub data Asked : Type 0 where
   Plain : (verb : Verb) → (args : List (List ℕ)) → Asked
   CreateIndex : (index : IndexDef) → Asked
   AlterIndex : (index : List ℕ) → (fields : List Field) → Asked
+  InfoOf : (index : List ℕ) → Asked
   Search : (index query : List ℕ) → (no_content : Bool) → (params : List Param) → Asked
 
 -- whether a word may stand behind FLUSHALL
@@ -78,6 +79,11 @@ abbrev pub search : List (List ℕ) → Result Asked CmdFault
 search (index ∷ query ∷ options) = searched index query (is_no_content options) (params_behind options)
 search _ = Err Arity
 
+-- FT.INFO has the name of an index behind it, and nothing else.
+abbrev pub told_of : List (List ℕ) → Result Asked CmdFault
+told_of (index ∷ []) = Ok (InfoOf index)
+told_of _ = Err Arity
+
 -- a command of this form, whose words are its name and arguments
 abbrev pub read_as : Option Form → ℕ → List ℕ → List (List ℕ) → Result Asked CmdFault
 read_as None serial name args = Err Unknown
@@ -90,6 +96,7 @@ read_as (Some Create) serial name args = if nat_le 5 (suc (length args)) then cr
 read_as (Some Alter) serial name args =
     if nat_le 6 (suc (length args)) then altered (slice_index_or args 0 []) (alter (name ∷ args)) else Err Arity
 read_as (Some form.Search) serial name args = search args
+read_as (Some form.Info) serial name args = told_of args
 read_as (Some Unbuilt) serial name args = Err NotBuilt
 
 -- What the words of a command ask, where an index that it creates has this serial.
@@ -118,6 +125,7 @@ abbrev pub command_of : Command → Asked
 command_of (command.Plain verb args) = Plain verb args
 command_of (command.Create index) = CreateIndex index
 command_of (command.Alter index fields) = AlterIndex index.now fields
+command_of (command.Info index) = InfoOf index.now
 command_of (command.Search spec) = search_of spec
 
 -- A command or a fault is what the words ask. Memory is wanting where they are read with it alone.

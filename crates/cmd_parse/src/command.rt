@@ -52,6 +52,10 @@ pub enum Command<'a> {
         index: &'a [u8],
         fields: ListOf<Field>,
     },
+    /// What there is to tell of an index.
+    Info {
+        index: &'a [u8],
+    },
     /// The documents of an index that a query finds.
     Search(SearchSpec<'a>),
 }

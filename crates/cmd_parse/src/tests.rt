@@ -38,6 +38,10 @@ fn shown(alloc: Global, command: &Command<'_>) -> Result<String, NoMemory> {
             put(&mut out, index)?;
             put_aliases(&mut out, fields.as_slice())?;
         }
+        Command::Info { index } => {
+            out.push_str("info")?;
+            put(&mut out, index)?;
+        }
         Command::Search(spec) => put_search(&mut out, spec)?,
     }
     Ok(out)
@@ -237,9 +241,10 @@ fn reads_commands_of_indexes(rt: HostRuntime) -> Result<(), Fail> {
         ("FT.DROPINDEX", "Arity"),
         ("FT.DROPINDEX|ix|DD|DD", "Arity"),
         ("FT.TAGVALS|ix|g", "TagVals|ix|g"),
+        ("FT.INFO|ix", "info|ix"),
+        ("FT.INFO", "Arity"),
+        ("FT.INFO|ix|iy", "Arity"),
         // What is not built is not counted.
-        ("FT.INFO", "NotBuilt"),
-        ("FT.INFO|ix", "NotBuilt"),
         ("FT.AGGREGATE|ix", "NotBuilt"),
         ("FT.CURSOR", "NotBuilt"),
         ("FT.DEBUG", "NotBuilt"),

@@ -9,7 +9,7 @@ use Rattle.std.proofs.lemmas.List.Elements.{All-head, All-tail}
 use Rattle.cmd_parse.specs.Commands.{commands, form_of, form_in}
 use Rattle.ft_base.specs.Names.{is_name}
 use Rattle.cmd_parse.specs.Lawful.{IsLawful}
-use Rattle.cmd_parse.specs.Read.{Asked, Plain, CreateIndex, AlterIndex, Search, IsReading, read, read_as}
+use Rattle.cmd_parse.specs.Read.{Asked, Plain, CreateIndex, AlterIndex, InfoOf, Search, IsReading, read, read_as}
 use Rattle.cmd_parse.specs.declared.command.CmdFault.{CmdFault}
 use Rattle.cmd_parse.specs.declared.command.CmdFault.TheVariants.{Arity}
 use Rattle.cmd_parse.specs.declared.table.Form.{Form}
@@ -31,6 +31,7 @@ pub lawful-asked : (words : List (List ℕ)) (asked : Asked) → AreWords words 
 lawful-asked words (Plain verb args) each lawful = (lawful.1, subst AreWords (sym lawful.0) (args-words words each))
 lawful-asked words (CreateIndex index) each lawful = lawful
 lawful-asked words (AlterIndex index fields) each lawful = lawful.1
+lawful-asked words (InfoOf index) each lawful = tt
 lawful-asked words (Search index query no_content params) each lawful = subst (λ (q : List ℕ). length q ≤ MAX_WORD_BYTES) (sym lawful.1) (word-short words each 2)
 
 abbrev EachShort : List (List ℕ × Form) → Type 0

@@ -7,7 +7,7 @@ use Rattle.ft_base.specs.declared.doc.Doc.{Doc}
 use Rattle.ft_base.specs.declared.query.Param.{Param}
 use Rattle.ft_base.specs.declared.query.Query.{Query}
 use Rattle.ft_base.specs.declared.reply.Reply.{Reply}
-use Rattle.cmd_parse.specs.Read.{Asked, Plain, CreateIndex, AlterIndex, Search, read}
+use Rattle.cmd_parse.specs.Read.{Asked, Plain, CreateIndex, AlterIndex, InfoOf, Search, read}
 use Rattle.cmd_parse.specs.declared.command.CmdFault.{CmdFault}
 use Rattle.indexed_store.specs.Definitions.{Defined, index_of}
 use Rattle.query_lex.specs.Lexemes.{lexemes}
@@ -19,7 +19,7 @@ use Rattle.query_grammar.specs.declared.fault.QueryFault.TheVariants.{Syntax, Un
 use Rattle.ft_engine.specs.Machine.{Outcome, State, at_moment}
 use Rattle.ft_engine.specs.Refusals.{out_of_memory}
 use Rattle.ft_engine.specs.Searching.{IsAnswered, IsSearched, answer_reply}
-use Rattle.ft_engine.specs.Step.{Answers, Completes, Does, Finds, Gives, Obeys, Takes}
+use Rattle.ft_engine.specs.Step.{Answers, Completes, Does, Gives, Obeys, Takes}
 
 -- the laws of the language, as its crate states them
 pub record Laws : Type 0 where
@@ -73,36 +73,41 @@ one-given : (a b : Outcome) (written other : List ℕ) (new next : State) → a 
 one-given a b written other new next same x y =
     (x.0 ∙ (ap (λ (o : Outcome). spelling o.reply) same ∙ sym y.0), x.1 ∙ (ap (λ (o : Outcome). o.after) same ∙ sym y.1))
 
-one-completed : Laws → (asks : Asked) (number : ℕ) (old : State) (written other : List ℕ) (new next : State)
+-- whether it is not FT.INFO that is asked
+abbrev NotInfo : Result Asked CmdFault → Type 0
+NotInfo asked = (index : List ℕ) → asked ≢ Ok (InfoOf index)
+
+one-completed : Laws → (asks : Asked) → NotInfo (Ok asks) → (number : ℕ) (old : State) (written other : List ℕ) (new next : State)
     → Completes asks number old written new → Completes asks number old other next → (written ≡ other) × (new ≡ next)
-one-completed laws (Plain verb args) number old written other new next x y = one-given _ _ written other new next refl x y
-one-completed laws (CreateIndex index) number old written other new next x y = one-given _ _ written other new next refl x y
-one-completed laws (AlterIndex index fields) number old written other new next x y = one-given _ _ written other new next refl x y
-one-completed laws (Search index query no_content params) number old written other new next x y =
-    let same = one-searched laws (index_of old.definitions index) query no_content params old.space x.reply y.reply x.searched y.searched in
+one-completed laws (Plain verb args) other_than number old written other new next x y = one-given _ _ written other new next refl x y
+one-completed laws (CreateIndex index) other_than number old written other new next x y = one-given _ _ written other new next refl x y
+one-completed laws (AlterIndex index fields) other_than number old written other new next x y = one-given _ _ written other new next refl x y
+one-completed laws (InfoOf index) other_than number old written other new next x y = absurd (other_than index refl)
+one-completed laws (Search index query no_content params) other_than number old written other new next x y =
+    let same = one-searched laws (index_of old.definitions index) query no_content params old.space x.reply y.reply x.may y.may in
     one-given (record { reply = x.reply; after = old }) (record { reply = y.reply; after = old }) written other new next
     (ap (λ (r : Reply). record { reply = r; after = old }) same) x.gives y.gives
 
-one-done : Laws → (asks : Asked) (number : ℕ) (old : State) (written other : List ℕ) (new next : State)
+one-done : Laws → (asks : Asked) → NotInfo (Ok asks) → (number : ℕ) (old : State) (written other : List ℕ) (new next : State)
     → Does asks number old written new → Does asks number old other next → written ≢ spelling out_of_memory → other ≢ spelling out_of_memory → (written ≡ other) × (new ≡ next)
-one-done laws asks number old written other new next (inl x) (inl y) kx ky = one-completed laws asks number old written other new next x y
-one-done laws asks number old written other new next (inr x) y kx ky = absurd (kx x.1)
-one-done laws asks number old written other new next (inl x) (inr y) kx ky = absurd (ky y.1)
+one-done laws asks other_than number old written other new next (inl x) (inl y) kx ky = one-completed laws asks other_than number old written other new next x y
+one-done laws asks other_than number old written other new next (inr x) y kx ky = absurd (kx x.1)
+one-done laws asks other_than number old written other new next (inl x) (inr y) kx ky = absurd (ky y.1)
 
-one-taken : Laws → (name : List ℕ) (asked : Result Asked CmdFault) (number : ℕ) (old : State) (written other : List ℕ) (new next : State)
+one-taken : Laws → (name : List ℕ) (asked : Result Asked CmdFault) → NotInfo asked → (number : ℕ) (old : State) (written other : List ℕ) (new next : State)
     → Takes name asked number old written new → Takes name asked number old other next → written ≢ spelling out_of_memory → other ≢ spelling out_of_memory → (written ≡ other) × (new ≡ next)
-one-taken laws name (Ok asks) number old written other new next x y kx ky = one-done laws asks number old written other new next x y kx ky
-one-taken laws name (Err fault) number old written other new next x y kx ky = (x.0 ∙ sym y.0, x.1 ∙ sym y.1)
+one-taken laws name (Ok asks) other_than number old written other new next x y kx ky = one-done laws asks other_than number old written other new next x y kx ky
+one-taken laws name (Err fault) other_than number old written other new next x y kx ky = (x.0 ∙ sym y.0, x.1 ∙ sym y.1)
 
-one-obeyed : Laws → (words : List (List ℕ)) (number : ℕ) (old : State) (written other : List ℕ) (new next : State)
+one-obeyed : Laws → (words : List (List ℕ)) (number : ℕ) → NotInfo (read number words) → (old : State) (written other : List ℕ) (new next : State)
     → Obeys words number old written new → Obeys words number old other next → written ≢ spelling out_of_memory → other ≢ spelling out_of_memory → (written ≡ other) × (new ≡ next)
-one-obeyed laws words number old written other new next (inl x) (inl y) kx ky = one-taken laws (slice_index_or words 0 []) (read number words) number old written other new next x y kx ky
-one-obeyed laws words number old written other new next (inr x) y kx ky = absurd (kx x.1)
-one-obeyed laws words number old written other new next (inl x) (inr y) kx ky = absurd (ky y.1)
+one-obeyed laws words number other_than old written other new next (inl x) (inl y) kx ky = one-taken laws (slice_index_or words 0 []) (read number words) other_than number old written other new next x y kx ky
+one-obeyed laws words number other_than old written other new next (inr x) y kx ky = absurd (kx x.1)
+one-obeyed laws words number other_than old written other new next (inl x) (inr y) kx ky = absurd (ky y.1)
 
-pub determined : Laws → (words : List (List ℕ)) (number moment : ℕ) (old : State) (written other : List ℕ) (new next : State)
+pub determined : Laws → (words : List (List ℕ)) (number moment : ℕ) (old : State) (written other : List ℕ) (new next : State) → NotInfo (read number words)
     → Answers words number moment old written new → Answers words number moment old other next → written ≢ spelling out_of_memory → other ≢ spelling out_of_memory → (written ≡ other) × (new ≡ next)
-determined laws words number moment old written other new next (inl x) (inl y) kx ky = one-obeyed laws words number (at_moment moment old) written other new next x.1 y.1 kx ky
-determined laws words number moment old written other new next (inl x) (inr y) kx ky = absurd (omega (arith, x.0, y.0))
-determined laws words number moment old written other new next (inr x) (inl y) kx ky = absurd (omega (arith, x.0, y.0))
-determined laws words number moment old written other new next (inr x) (inr y) kx ky = (x.1 ∙ sym y.1, x.2 ∙ sym y.2)
+determined laws words number moment old written other new next other_than (inl x) (inl y) kx ky = one-obeyed laws words number other_than (at_moment moment old) written other new next x.1 y.1 kx ky
+determined laws words number moment old written other new next other_than (inl x) (inr y) kx ky = absurd (omega (arith, x.0, y.0))
+determined laws words number moment old written other new next other_than (inr x) (inl y) kx ky = absurd (omega (arith, x.0, y.0))
+determined laws words number moment old written other new next other_than (inr x) (inr y) kx ky = (x.1 ∙ sym y.1, x.2 ∙ sym y.2)

@@ -16,7 +16,7 @@ use Rattle.ft_base.specs.declared.definition.IndexDef.{IndexDef}
 use Rattle.ft_base.specs.declared.doc.Doc.{Doc}
 use Rattle.ft_base.specs.declared.reply.Reply.{Reply}
 use Rattle.ft_base.specs.declared.reply.Reply.TheVariants.{Array, Bulk, Fault, Line}
-use Rattle.ft_index.proofs.LiveLaws.{last_id-low, row_of}
+use Rattle.index_lists.proofs.AliveLaws.{row_of}
 use Rattle.ft_index.specs.Index.{Index}
 use Rattle.ft_schema.specs.Gives.{IsFaultOf}
 use Rattle.ft_schema.specs.Schema.{extended, has_any_alias, is_over}
@@ -26,7 +26,7 @@ use Rattle.indexed_store.proofs.NamedLaws.{index_of-named}
 use Rattle.indexed_store.specs.Definitions.{Defined, defined, definitions_of, failures_over, index_of, with_index, without_index}
 use Rattle.indexed_store.specs.Named.{is_named}
 use Rattle.indexed_store.specs.Removing.{without_members}
-use Rattle.inverted_list.specs.Listing.{RisesAbove, last_id}
+use Rattle.inverted_list.specs.Listing.{RisesAbove}
 use Rattle.tag_values.specs.Values.{tag_values}
 use Rattle.hash_replies.proofs.ReadsLaws.{fits-Bulk, shown-fits}
 use Rattle.ft_engine.proofs.Stepping.{stays, told}
@@ -245,9 +245,3 @@ tags-told args number state written index field made there here is said =
 pub ids-above : (low : ℕ) (docs : List Doc) → RisesAbove low (map row_of docs) → All (λ (doc : Doc). 0 < doc.id) docs
 ids-above low [] rises = All-nil (λ (doc : Doc). 0 < doc.id)
 ids-above low (doc ∷ docs) rises = All-cons (λ (doc : Doc). 0 < doc.id) doc docs (omega (arith, rises.0)) (ids-above doc.id docs rises.1)
-
--- ids that rise are below what is above the last
-pub ids-below : (low bound : ℕ) (docs : List Doc) → RisesAbove low (map row_of docs) → last_id low (map row_of docs) < bound → All (λ (doc : Doc). doc.id < bound) docs
-ids-below low bound [] rises last = All-nil (λ (doc : Doc). doc.id < bound)
-ids-below low bound (doc ∷ docs) rises last =
-    All-cons (λ (doc : Doc). doc.id < bound) doc docs (omega (arith, last, last_id-low doc.id (map row_of docs) rises.1)) (ids-below doc.id bound docs rises.1 last)

@@ -11,3 +11,4 @@ pub mod Stepping
 pub mod VersionsLaws
 pub mod WritesLaws
 mod DeterminedLaws
+mod InfoLaws

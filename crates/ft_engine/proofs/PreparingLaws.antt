@@ -1,6 +1,6 @@
 -- What is prepared, and what becomes of it.
 use Rattle.std.specs.Prelude.{◌≡◌, ◌≢◌, ◌<◌, ◌+◌, ℕ, Bool, true, false, List, [], ◌∷◌, ◌++◌, Option, None, Some, IfSome, IsTrue, cond, is_some, length, take, drop, map, refl}
-use Rattle.std.proofs.Common.{sym, ap, ◌∙◌, subst, inl, inr, arith}
+use Rattle.std.proofs.Common.{sym, ap, ◌∙◌, subst, inl, inr, arith, All}
 use Rattle.std.specs.Str.{bytes_eq}
 use Rattle.std.proofs.lemmas.Bool.{cases_Bool}
 use Rattle.std.proofs.lemmas.List.{length-append, length-map, map-append, take_at}
@@ -10,14 +10,14 @@ use Rattle.ft_base.specs.Space.{erase, write}
 use Rattle.ft_base.specs.declared.doc.Doc.{Doc}
 use Rattle.ft_engine.specs.Machine.{State}
 use Rattle.ft_engine.specs.Preparing.{HasMore, IsReady, changed, is_change}
-use Rattle.indexed_store.specs.Standing.{AreWritten, IndexStands, InStep, markers_at}
+use Rattle.indexed_store.specs.Standing.{AreApart, AreWritten, IndexStands, InStep, markers_at}
 use Rattle.ft_engine.specs.Stands.{IsEngine, unused}
 use Rattle.indexed_store.specs.Definitions.{Defined, defined, definitions_of, index_of, with_index, without_index}
 use Rattle.ft_engine.specs.Step.{last_number, next_number}
 use Rattle.ft_engine.specs.declared.prepared.Change.{Change}
 use Rattle.ft_engine.specs.declared.prepared.Change.TheVariants.{Alter, Create, Drop, DropMembers, EraseKey, EraseKeys, Flush, Move, Nothing, Write}
 use Rattle.ft_index.proofs.IndexLaws.{last-push}
-use Rattle.ft_index.proofs.LiveLaws.{row_of}
+use Rattle.index_lists.proofs.AliveLaws.{row_of}
 use Rattle.ft_index.specs.Index.{Index}
 use Rattle.hash_store.specs.Store.{Store}
 use Rattle.inverted_list.specs.Listing.{last_id}
@@ -47,13 +47,20 @@ created-step store change index number waits indexes now is before ready step mo
     let at : next_number number ≡ number + 1 = made-before change (Create index) number is refl before in
     let ready : IsReady (Create index) number store.space waits indexes = subst (λ (c : Change). IsReady c number store.space waits indexes) is ready in
     subst (λ (is : List Index). InStep store is (next_number number)) (sym more)
-    (in_step-more store indexes index (next_number number) step (subst (λ n. IndexStands store.space n (markers_at n) index) (sym at) ready.1))
+    (in_step-more store indexes index (next_number number) step (subst (λ n. IndexStands store.space n (markers_at n) index) (sym at) ready.1) ready.2)
 
 -- an index that takes another one's place stands for the documents
 pub altered-stands : (change : Change) (index : Index) (number : ℕ) (space : List Doc) (waits : Option Doc) (indexes : List Index) → change ≡ Alter index → IsReady change number space waits indexes
     → IndexStands space (number + 1) (markers_at (number + 1)) index
 altered-stands change index number space waits indexes is ready =
     let here : IsReady (Alter index) number space waits indexes = subst (λ (c : Change). IsReady c number space waits indexes) is ready in here.1
+
+-- and shares no marker with the others
+pub altered-apart : (change : Change) (index : Index) (number : ℕ) (space : List Doc) (waits : Option Doc) (indexes lent : List Index) → change ≡ Alter index → lent ≡ indexes → IsReady change number space waits indexes
+    → All (AreApart index) lent
+altered-apart change index number space waits indexes lent is same ready =
+    let here : IsReady (Alter index) number space waits indexes = subst (λ (c : Change). IsReady c number space waits indexes) is ready in
+    subst (All (AreApart index)) (sym same) here.2
 
 -- a definition in the place of the one of its name differs from it
 with-same : (definitions : List Defined) (new : Defined) → with_index definitions new ≡ definitions → IfSome (index_of definitions new.def.name) (λ old. old ≡ new)

@@ -1,7 +1,9 @@
 -- What a search answers is what its query says of the documents.
-use Rattle.std.specs.Prelude.{◌≡◌, ◌≢◌, ◌⊎◌, ℕ, List, [], Bool, Option, None, Some, Result, Ok, Err, IfOk, codes, find, refl}
-use Rattle.std.proofs.Common.{sym, ap, ◌∙◌, inl, inr, subst}
+use Rattle.std.specs.Prelude.{◌≡◌, ◌≢◌, ◌<◌, ◌⊎◌, ◌^◌, ℕ, List, [], Bool, Option, None, Some, Result, Ok, Err, IfOk, codes, find, refl}
+use Rattle.std.proofs.Common.{sym, ap, ◌∙◌, arith, inl, inr, subst}
+use Rattle.std.specs.List.{All}
 use Rattle.std.specs.Option.{option_map}
+use Rattle.std.proofs.lemmas.List.Elements.{All-filter}
 use Rattle.cmd_parse.specs.Read.{Search}
 use Rattle.ft_base.specs.Reply.{spelling}
 use Rattle.ft_base.specs.declared.definition.IndexDef.{IndexDef}
@@ -10,27 +12,30 @@ use Rattle.ft_base.specs.declared.query.Param.{Param}
 use Rattle.ft_base.specs.declared.query.Query.{Query}
 use Rattle.ft_base.specs.declared.reply.Reply.{Reply}
 use Rattle.ft_base.specs.declared.reply.Reply.TheVariants.{Fault}
-use Rattle.ft_index.specs.Index.{Index}
+use Rattle.ft_index.specs.Index.{Index, IsIndex}
 use Rattle.ft_meaning.specs.Holds.{found_of}
+use Rattle.ft_meaning.specs.Meaning.{ValuesFit}
+use Rattle.ft_meaning.specs.Member.{member, members}
 use Rattle.indexed_store.specs.Definitions.{Defined, defined, definitions_of, index_of}
 use Rattle.indexed_store.specs.Named.{is_named}
 use Rattle.indexed_store.proofs.NamedLaws.{index_of-named}
 use Rattle.query_grammar.specs.Answer.{IsAnswer}
 use Rattle.query_grammar.specs.declared.fault.QueryFault.{QueryFault}
 use Rattle.query_grammar.specs.declared.fault.QueryFault.TheVariants.{Syntax, UnknownField, WrongKind, NoParam, TooDeep, OutOfScope, NoMemory}
+use Rattle.query_plan.specs.Finds.{IsKept}
 use Rattle.search_exec.specs.Replies.{found_reply}
 use Rattle.ft_engine.specs.Indexes.{unknown_index}
 use Rattle.ft_engine.specs.Machine.{State}
 use Rattle.ft_engine.specs.Refusals.{out_of_memory, query_refusal}
 use Rattle.ft_engine.specs.Searching.{IsAnswered, IsSearched}
-use Rattle.ft_engine.specs.Step.{Does, Finds, Told}
+use Rattle.ft_engine.specs.Step.{Does, Told}
 
 -- a fault that is not want of memory
 abbrev IsKnown : QueryFault → Type 0
 IsKnown fault = let answer : Result Query QueryFault = Err fault in answer ≢ Err NoMemory
 
 -- the index of a name among the definitions, by the one among the indexes
-named : (indexes : List Index) (state : State) (name : List ℕ) (index : Option Index) → state.definitions ≡ definitions_of indexes
+pub named : (indexes : List Index) (state : State) (name : List ℕ) (index : Option Index) → state.definitions ≡ definitions_of indexes
     → find (is_named name) indexes ≡ index → index_of state.definitions name ≡ option_map defined index
 named indexes state name index same there =
     ap (λ (defs : List Defined). index_of defs name) same ∙ (index_of-named indexes name ∙ ap (option_map defined) there)
@@ -41,7 +46,7 @@ pub searches-none : (indexes : List Index) (state : State) (number : ℕ) (name 
     → Does (Search name query no_content params) number state written state
 searches-none indexes state number name query no_content params written same none said = inl (record {
   reply = Fault unknown_index;
-  searched = subst (λ (i : Option Defined). IsSearched i query no_content params state.space (Fault unknown_index)) (sym (named indexes state name None same none)) refl;
+  may = subst (λ (i : Option Defined). IsSearched i query no_content params state.space (Fault unknown_index)) (sym (named indexes state name None same none)) refl;
   gives = (said, refl);
 })
 
@@ -52,24 +57,22 @@ searches-index : (indexes : List Index) (index : Index) (state : State) (number 
     → Does (Search name query no_content params) number state written state
 searches-index indexes index state number name query no_content params written reply same there answered said = inl (record {
   reply = reply;
-  searched = subst (λ (i : Option Defined). IsSearched i query no_content params state.space reply) (sym (named indexes state name (Some index) same there)) answered;
+  may = subst (λ (i : Option Defined). IsSearched i query no_content params state.space reply) (sym (named indexes state name (Some index) same there)) answered;
   gives = (said, refl);
 })
 
 -- The query has a tree, and what it finds was answered, or memory was wanting.
 pub searches-found : {E : Type 0} (indexes : List Index) (index : Index) (def : IndexDef) (state : State) (number : ℕ) (name text : List ℕ) (no_content : Bool) (params : List Param) (written : List ℕ) (query : Query) (docs : List Doc) (made : Result Reply E)
     → state.definitions ≡ definitions_of indexes → find (is_named name) indexes ≡ Some index → def ≡ index.def → state.space ≡ docs
-    → IsAnswer def params text (Ok query) → IfOk made (λ reply. reply ≡ found_reply no_content (found_of query def docs)) → Told made written
+    → IsAnswer def params text (Ok query) → IfOk made (λ reply. reply ≡ found_reply no_content (found_of query index.def docs)) → Told made written
     → Does (Search name text no_content params) number state written state
 searches-found indexes index def state number name text no_content params written query docs (Ok reply) same there its all is made (inl said) =
-    let answered : IsAnswered def text no_content params state.space reply = record {
+    searches-index indexes index state number name text no_content params written reply same there (record {
       answer = Ok query;
       read = λ wrong. cc;
-      text = is;
-      same = made ∙ ap (λ (ds : List Doc). found_reply no_content (found_of query def ds)) (sym all);
-    } in
-    searches-index indexes index state number name text no_content params written reply same there
-    (subst (λ (d : IndexDef). IsAnswered d text no_content params state.space reply) its answered) said
+      text = subst (λ (d : IndexDef). IsAnswer d params text (Ok query)) its is;
+      same = made ∙ ap (λ (ds : List Doc). found_reply no_content (found_of query index.def ds)) (sym all);
+    }) said
 searches-found indexes index def state number name text no_content params written query docs (Ok reply) same there its all is made (inr want) = inr (tt, want, refl)
 searches-found indexes index def state number name text no_content params written query docs (Err e) same there its all is made want = inr (tt, want, refl)
 
@@ -105,3 +108,12 @@ searches-fault_of indexes index def state number name text no_content params wri
     searches-fault indexes index def state number name text no_content params written (TooDeep at) same there its (λ wrong. cc) is said
 searches-fault_of indexes index def state number name text no_content params written (OutOfScope at) same there its is said =
     searches-fault indexes index def state number name text no_content params written (OutOfScope at) same there its (λ wrong. cc) is said
+
+-- what a plan asks of the documents of an index
+pub index-kept : (index : Index) (docs : List Doc) → IsIndex index → index.table.last < 2 ^ 62 → All (λ (doc : Doc). ValuesFit doc.hash) docs
+    → IsKept index.table.live (members index.def docs)
+index-kept index docs sound few fit = record {
+  rise = sound.kept.rise;
+  end = omega (arith, sound.kept.end, few);
+  fit = All-filter (member index.def) (λ (doc : Doc). ValuesFit doc.hash) docs fit;
+}

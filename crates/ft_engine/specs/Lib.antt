@@ -3,6 +3,7 @@ pub mod Counting
 pub mod Determined
 pub mod History
 pub mod Indexes
+pub mod Informing
 pub mod Machine
 pub mod Preparing
 pub mod Refusals

@@ -1,11 +1,12 @@
 -- What a command that is prepared changes once it is committed.
 use Rattle.std.specs.Prelude.{◌≡◌, ◌≢◌, ◌<◌, ◌≤◌, ◌+◌, ◌⊎◌, ℕ, List, [], ◌∷◌, ◌++◌, length, Option, Some, None, is_some, Bool, true, false, IsTrue}
+use Rattle.std.specs.List.{All}
 use Rattle.ft_base.specs.Space.{doc_of, erase}
 use Rattle.ft_base.specs.declared.doc.Doc.{Doc}
 use Rattle.ft_index.specs.Index.{Index}
 use Rattle.indexed_store.specs.Definitions.{Defined, all_tried, defined, definitions_of, index_of, with_index, without_index}
 use Rattle.indexed_store.specs.Removing.{without_keys, without_members}
-use Rattle.indexed_store.specs.Standing.{AreWritten, IndexStands, markers_at}
+use Rattle.indexed_store.specs.Standing.{AreApart, AreWritten, IndexStands, markers_at}
 use Rattle.indexed_store.specs.Writing.{Waits, written}
 use Rattle.ft_engine.specs.Indexes.{most_indexes}
 use Rattle.ft_engine.specs.Machine.{State}
@@ -73,9 +74,10 @@ IsReady (Move put from) number space waits indexes = Waits put number space inde
 IsReady (EraseKey key) number space waits indexes = IsTrue (is_some (doc_of space key.now))
 IsReady (EraseKeys keys) number space waits indexes = length (without_keys space keys) < length space
 IsReady (Create index) number space waits indexes =
-    (length indexes < most_indexes) × IndexStands space (number + 1) (markers_at (number + 1)) index
+    (length indexes < most_indexes) × IndexStands space (number + 1) (markers_at (number + 1)) index × All (AreApart index) indexes
 IsReady (Alter index) number space waits indexes =
     HasMore (index_of (definitions_of indexes) index.def.name) index × IndexStands space (number + 1) (markers_at (number + 1)) index
+    × All (AreApart index) indexes
 IsReady (Drop name) number space waits indexes = IsTrue (is_some (index_of (definitions_of indexes) name.now))
 IsReady (DropMembers name) number space waits indexes = IsTrue (is_some (index_of (definitions_of indexes) name.now))
 IsReady Flush number space waits indexes = (0 < length space) ⊎ (0 < length indexes)

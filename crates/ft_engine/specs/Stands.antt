@@ -1,5 +1,5 @@
 -- What an engine stands for, and how its indexes stand for the documents.
-use Rattle.std.specs.Prelude.{◌≡◌, ◌≤◌, ℕ, List, [], Option, None, Bool, true, false, length}
+use Rattle.std.specs.Prelude.{◌≡◌, ◌<◌, ◌≤◌, ℕ, List, [], Option, None, Bool, true, false, length}
 use Rattle.std.specs.List.{All}
 use Rattle.ft_base.specs.declared.doc.Doc.{Doc}
 use Rattle.ft_index.specs.Index.{Index}
@@ -47,3 +47,9 @@ pub record IsEngine (store : Store) (indexes : List Index) (capacity counting : 
   pub few : length indexes ≤ most_indexes
   pub room : most_indexes ≤ capacity
   pub ids : most_counted ≤ counting
+
+-- The documents are of events before some number that has a next one, and each index stands for them.
+pub record IsSearchable (store : Store) (indexes : List Index) : Type 0 where
+  pub number : ℕ
+  pub few : number < last_number
+  pub step : InStep store indexes number

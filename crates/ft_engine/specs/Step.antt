@@ -1,6 +1,6 @@
 -- One step of the machine: a command at an event's number and a moment gives a reply and the next state.
 use Rattle.std.specs.Prelude.{◌≡◌, ◌<◌, ◌≤◌, ◌⊎◌, ℕ, pos, List, [], ◌∷◌, ◌+◌, ◌^◌, min, length, take, drop, map, slice_index_or, Option, Some, None, is_some, Bool, Result, Ok, Err, IsTrue, codes}
-use Rattle.cmd_parse.specs.Read.{Asked, Plain, CreateIndex, AlterIndex, Search, read, takes_memory}
+use Rattle.cmd_parse.specs.Read.{Asked, Plain, CreateIndex, AlterIndex, InfoOf, Search, read, takes_memory}
 use Rattle.cmd_parse.specs.declared.command.CmdFault.{CmdFault}
 use Rattle.cmd_parse.specs.declared.command.Verb.{Verb}
 use Rattle.cmd_parse.specs.declared.command.Verb.TheVariants.{Ping, Echo, Select, Quit, Hset, Hsetnx, Hget, Hmget, Hgetall, Hdel, Hlen, Hexists, Hincrby, Hkeys, Hvals, Del, Exists, TypeOf, Dbsize, Rename, Flushall, DropIndex, ListIndexes, TagVals}
@@ -8,12 +8,12 @@ use Rattle.ft_base.specs.Hash.{get_field}
 use Rattle.ft_base.specs.Number.{int_of}
 use Rattle.ft_base.specs.Reply.{spelling}
 use Rattle.ft_base.specs.Space.{doc_of}
-use Rattle.ft_base.specs.declared.query.Param.{Param}
 use Rattle.ft_base.specs.declared.reply.Reply.{Reply}
 use Rattle.ft_base.specs.declared.reply.Reply.TheVariants.{Line, Fault, Number, Bulk, Array}
 use Rattle.ft_engine.specs.Asking.{first, second, third}
 use Rattle.hash_replies.specs.Reads.{in_turn, kind_of, names, one_if, present, value_reply, values}
 use Rattle.indexed_store.specs.Definitions.{Defined, index_of}
+use Rattle.ft_engine.specs.Informing.{IsInformed}
 use Rattle.ft_engine.specs.Indexes.{altered, created, dropped, listed, tag_vals}
 use Rattle.ft_engine.specs.Refusals.{out_of_memory, refusal}
 use Rattle.ft_engine.specs.Searching.{IsSearched}
@@ -53,10 +53,10 @@ plain Flushall args number state = record { reply = Line (codes "OK"); after = r
 abbrev pub Gives : Outcome → List ℕ → State → Type 0
 Gives outcome written new = (written ≡ spelling outcome.reply) × (new ≡ outcome.after)
 
--- A reply is written that a search gives, and nothing changes.
-pub record Finds (index : Option Defined) (query : List ℕ) (no_content : Bool) (params : List Param) (old : State) (written : List ℕ) (new : State) : Type 0 where
+-- A reply is written that may be given, and nothing changes.
+pub record Says (May : Reply → Type 0) (old : State) (written : List ℕ) (new : State) : Type 0 where
   pub reply : Reply
-  pub searched : IsSearched index query no_content params old.space reply
+  pub may : May reply
   pub gives : Gives (answered reply old) written new
 
 -- What a command gives that asks this.
@@ -64,8 +64,9 @@ abbrev pub Completes : Asked → ℕ → State → List ℕ → State → Type 0
 Completes (Plain verb args) number old written new = Gives (plain verb args number old) written new
 Completes (CreateIndex index) number old written new = Gives (created index old) written new
 Completes (AlterIndex index fields) number old written new = Gives (altered (index_of old.definitions index) fields old) written new
+Completes (InfoOf index) number old written new = Says (IsInformed (index_of old.definitions index) old.space) old written new
 Completes (Search index query no_content params) number old written new =
-    Finds (index_of old.definitions index) query no_content params old written new
+    Says (IsSearched (index_of old.definitions index) query no_content params old.space) old written new
 
 -- What was made is written, or memory was wanting.
 abbrev pub Told : {E : Type 0} → Result Reply E → List ℕ → Type 0
@@ -100,6 +101,7 @@ abbrev pub MayWant : Asked → Type 0
 MayWant (Plain verb args) = PlainMayWant verb args
 MayWant (CreateIndex index) = Unit {0}
 MayWant (AlterIndex index fields) = Unit {0}
+MayWant (InfoOf index) = Unit {0}
 MayWant (Search index query no_content params) = Unit {0}
 
 -- What was asked was done; or memory was wanting, and nothing changed.

@@ -12,7 +12,7 @@ ghost use Rattle.ft_schema.specs.Gives.{IsFaultOf};
 ghost use Rattle.ft_schema.specs.Lawful.{IsLawful};
 ghost use Rattle.ft_schema.specs.Schema.{extended};
 ghost use Rattle.indexed_store.specs.Definitions.{definitions_of, failures_over};
-ghost use Rattle.indexed_store.specs.Standing.{AreWritten, IndexStands, InStep, markers_at};
+ghost use Rattle.indexed_store.specs.Standing.{AreOfEvent, AreWritten, IndexStands, InStep, markers_at};
 
 use crate::prepared::Change;
 use crate::refusals::put_schema_refusal;
@@ -122,6 +122,7 @@ fn extended_over(
         made.failures ≡ failures_over made.def store.old.space index.now.failures) }
     ensures stands { IfOk result (λ made.
         IndexStands store.new.space (number + 1) (markers_at (number + 1)) made) }
+    ensures given { IfOk result (λ made. AreOfEvent number made) }
     ensures fault { IfErr result (λ fault. IsFaultOf fault (extended index.now.def fields.now)) }
     ensures space { store.new.space ≡ store.old.space }
     ensures last { store.new.last ≡ store.old.last }

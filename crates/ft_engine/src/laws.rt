@@ -3,7 +3,7 @@ ghost use Rattle.ft_engine.specs.Determined.{IsDetermined};
 
 use query_grammar::{one_fault, one_tree, tree_or_fault};
 
-/// A command has one reply and one next state, but for want of memory.
+/// A command has one reply and one next state, but for want of memory and the records that FT.INFO tells.
 pub fn one_answer()
     ensures { IsDetermined }
 {

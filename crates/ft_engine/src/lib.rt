@@ -12,6 +12,7 @@ mod hincrby;
 mod hset;
 mod index_commands;
 mod index_reads;
+mod info;
 mod laws;
 mod made_reply;
 mod ping;

@@ -9,6 +9,7 @@ ghost use Rattle.ft_engine.specs.Stands.{state_of};
 ghost use Rattle.ft_engine.specs.Step.{Does};
 
 use crate::index_commands::{alter, create};
+use crate::info::answer_info;
 use crate::plain::prepare_plain;
 use crate::prepared::Change;
 use crate::removals::MOST_COUNTED;
@@ -52,6 +53,10 @@ pub fn prepare_command<'a>(
         Command::Create(def) => create(store, indexes, alloc, number, def.into_inner(), out),
         Command::Alter { index, fields } => {
             alter(store, indexes, alloc, number, index, &fields, out)
+        }
+        Command::Info { index } => {
+            answer_info(indexes, alloc, index, out);
+            Change::Nothing
         }
         Command::Search(search) => {
             answer_search(store, indexes, alloc, &search, out);

@@ -197,7 +197,6 @@ fn refuses_by_the_words_alone(rt: HostRuntime) -> Result<(), Fail> {
         ("HINCRBY|k|f|+1", integer),
         ("SELECT|1", "-ERR DB index is out of range\r\n"),
         ("QUITE", unknown),
-        ("FT.INFO|ix", not_built),
         ("FT.AGGREGATE", not_built),
         ("FT.SEARCH|ix|hello|WITHSCORES", not_built),
         ("NOPE", unknown),

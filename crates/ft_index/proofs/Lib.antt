@@ -1,9 +1,3 @@
-pub mod AddingLaws
-pub mod CollectedLaws
-pub mod FoundLaws
-pub mod GainsLaws
-pub mod HitsLaws
 pub mod IndexLaws
 pub mod MemberLaws
-pub mod LiveLaws
-pub mod TermsLaws
+pub mod ReadingLaws

@@ -1,15 +1,13 @@
 -- What a contract sees of one index, and which documents it stands for.
-use Rattle.std.specs.Prelude.{◌≡◌, ◌≤◌, ℕ, List, [], ◌∷◌, ◌++◌, Option, Some, None, map}
+use Rattle.std.specs.Prelude.{◌≡◌, ◌≤◌, ℕ, List, [], ◌∷◌, ◌++◌, Option, Some, None}
 use Rattle.std.specs.Option.{option_map}
 use Rattle.doc_table.specs.Table.{Table}
 use Rattle.ft_base.specs.declared.definition.IndexDef.{IndexDef}
 use Rattle.ft_base.specs.declared.doc.Doc.{Doc}
 use Rattle.ft_meaning.specs.Member.{members, most_failures, one_more}
-use Rattle.posting_block.specs.declared.hits.TextHit.{TextHit}
-use Rattle.term_dict.specs.Terms.{Lists, entries_of}
-use Rattle.ft_index.specs.Hits.{hits}
+use Rattle.index_lists.specs.Has.{Has}
+use Rattle.index_lists.specs.Lists.{AllLists}
 use Rattle.ft_index.specs.Kept.{AreKept}
-use Rattle.ft_index.specs.Live.{alive}
 use Rattle.ft_index.specs.declared.ready.Fit.{Fit}
 use Rattle.ft_index.specs.declared.ready.Fit.TheVariants.{Member, NoPrefix, Failed}
 use Rattle.ft_index.specs.declared.ready.Ready.{Ready}
@@ -18,22 +16,17 @@ pub record Index : Type 0 where
   pub def : IndexDef
   -- the documents that are members
   pub table : Table
-  -- the posting lists of their words
-  pub terms : Lists TextHit
+  -- the posting lists of their words, of their tags and of their numbers
+  pub lists : AllLists
   -- the document that was prepared last, until it is committed
   pub waits : Option Ready
   -- how often a document failed to be a member
   pub failures : ℕ
 
--- The index has these documents: they are its live ones, and the live entries of each word are those of just the
--- documents that have the word.
-pub record Has (index : Index) (docs : List Doc) : Type 0 where
-  pub live : index.table.live ≡ map (λ (doc : Doc). (doc.id, doc.key)) docs
-  pub words : (word : List ℕ) → alive index.table.live (entries_of index.terms word) ≡ hits index.def word docs
-
--- The index stands for documents: it has those that are its members.
+-- The index stands for documents: its live ids are those of the members among them, and so are the live entries of its
+-- lists.
 abbrev pub Indexes : Index → List Doc → Type 0
-Indexes index docs = Has index (members index.def docs)
+Indexes index docs = Has index.def index.table.live index.lists (members index.def docs)
 
 -- the table once the document that waits is live
 abbrev pub commits : Option (ℕ × List ℕ) → Table → Table
@@ -61,6 +54,6 @@ WaitsIn (Some ready) table = ready.fit ≡ Member → option_map (λ (row : ℕ 
 
 -- What holds of every index.
 pub record IsIndex (index : Index) : Type 0 where
-  pub kept : AreKept index.table index.terms
+  pub kept : AreKept index.table index.lists
   pub waits : WaitsIn index.waits index.table
   pub counted : index.failures ≤ most_failures

@@ -1,4 +1,4 @@
-//! An index over its documents' ids: postings first, liveness last.
+//! An index over its documents' ids: entries of lists first, liveness last.
 ghost use Rattle.std.specs.Prelude.{◌≡◌, ◌<◌, ◌≤◌, ◌++◌, ◌∷◌, List, None, Some, [], nat_eq, length, IfOk, OnOk};
 ghost use Rattle.std.specs.Map.{remove_entry};
 ghost use Rattle.ft_base.specs.declared.doc.Doc.{Doc};
@@ -6,28 +6,29 @@ ghost use Rattle.ft_meaning.specs.Meaning.{ValuesFit};
 ghost use Rattle.ft_meaning.specs.Member.{most_failures, one_more};
 ghost use Rattle.ft_index.specs.Fits.{fit_of};
 ghost use Rattle.ft_index.specs.Index.{Indexes, IsIndex, committed};
-ghost use Rattle.ft_index.specs.Kept.{AreBefore, GainsMarkers};
-ghost use Rattle.ft_index.specs.Live.{has_id, without};
+ghost use Rattle.index_lists.specs.Lists.{has_id};
+ghost use Rattle.index_lists.specs.Markers.{AreBefore, GainsMarkers, HasMarker, IsGiven};
+ghost use Rattle.index_lists.specs.Without.{without};
+ghost use Rattle.inverted_list.specs.declared.marker.Marker.{Marker};
 
 use crate::entering::enter;
 use crate::ready::{Fit, Ready, fit_of};
 use doc_table::DocTable;
 use ft_base::{Doc, IndexDef, NoMemory};
+use index_lists::IndexLists;
 use inverted_list::Markers;
 use std::alloc::Global;
 use std::marker::Model;
-use term_dict::Terms;
 
 /// How often a document that fails to be indexed is counted at the most.
 const MOST_FAILURES: u64 = 9_223_372_036_854_775_807;
 
-/// An index of documents by the words of their TEXT fields.
+/// An index of documents by the words, the tags and the numbers of their fields.
 #[derive(Drop)]
 pub struct FtIndex {
-    alloc: Global,
     def: IndexDef,
     table: DocTable,
-    terms: Terms,
+    lists: IndexLists,
     waits: Option<Ready>,
     failures: u64,
 }
@@ -40,7 +41,7 @@ impl Model for FtIndex {
     ghost view = { λ i. record {
       def = i.def;
       table = i.table;
-      terms = i.terms;
+      lists = i.lists;
       waits = i.waits;
       failures = i.failures;
     } };
@@ -51,30 +52,37 @@ impl Model for FtIndex {
     ghost invariant = { λ i. IsIndex (record {
       def = i.def;
       table = i.table;
-      terms = i.terms;
+      lists = i.lists;
       waits = i.waits;
       failures = i.failures;
     }) × (length i.def.fields ≤ 1_024) };
 }
 
 impl FtIndex {
-    /// An index without documents. It takes no memory of its own.
+    /// An index without documents, whose lists have no entries.
     pub fn new(alloc: Global, def: IndexDef, markers: &mut Markers) -> Result<FtIndex, NoMemory>
         requires { length def.fields ≤ 1_024 }
         ensures empty { IfOk result (λ index. index ≡ record {
           def = def;
           table = record { live = []; ready = None; last = 0 };
-          terms = [];
+          lists = index.lists;
           waits = None;
           failures = 0;
         }) }
-        ensures markers { markers.new ≡ markers.old }
+        ensures none { IfOk result (λ index. Indexes index []) }
+        ensures sound { IfOk result IsIndex }
+        // Which markers its lists have.
+        ensures before { IfOk result (λ index. AreBefore markers.new index.lists) }
+        ensures given { IfOk result (λ index. (marker : Marker)
+            → HasMarker index.lists marker → IsGiven markers.old markers.new marker) }
+        ensures event { markers.new.event ≡ markers.old.event }
+        ensures next { markers.old.next ≤ markers.new.next }
     {
+        let lists = IndexLists::new(alloc, &def, markers)?;
         Ok(FtIndex {
-            alloc,
             def,
             table: DocTable::new(alloc),
-            terms: Terms::new(alloc),
+            lists,
             waits: None,
             failures: 0,
         })
@@ -96,11 +104,11 @@ impl FtIndex {
         &self.table
     }
 
-    /// The posting lists of the index's words, lent.
-    pub fn terms(&self) -> &Terms
-        ensures { result.now ≡ self.now.terms }
+    /// The posting lists of the index, lent.
+    pub fn lists(&self) -> &IndexLists
+        ensures { result.now ≡ self.now.lists }
     {
-        &self.terms
+        &self.lists
     }
 
     /// The number of live documents.
@@ -133,12 +141,12 @@ impl FtIndex {
         self.failures = failures;
     }
 
-    /// Tries a document, and puts the postings of a member into the lists, under an id that is not
+    /// Tries a document, and puts the entries of a member into the lists, under an id that is not
     /// live. Where memory is wanting some of them may have come, which are dead.
     pub fn prepare(&mut self, doc: &Doc, markers: &mut Markers) -> Result<Ready, NoMemory>
         requires id { self.old.table.last < doc.now.id }
         requires values { ValuesFit doc.now.hash }
-        requires markers { AreBefore markers.old self.old.terms }
+        requires markers { AreBefore markers.old self.old.lists }
         // Nothing of it is seen yet, whether memory was wanting or not.
         ensures unseen { (docs : List Doc) → Indexes self.old docs → Indexes self.new docs }
         ensures live { self.new.table.live ≡ self.old.table.live }
@@ -153,8 +161,8 @@ impl FtIndex {
         ensures last { self.new.table.last ≤ doc.now.id }
         ensures sound { IsIndex self.new }
         // Which markers its lists have.
-        ensures before { AreBefore markers.new self.new.terms }
-        ensures gains { GainsMarkers self.old.terms self.new.terms markers.old markers.new }
+        ensures before { AreBefore markers.new self.new.lists }
+        ensures gains { GainsMarkers self.old.lists self.new.lists markers.old markers.new }
         ensures event { markers.new.event ≡ markers.old.event }
         ensures next { markers.old.next ≤ markers.new.next }
     {
@@ -167,8 +175,7 @@ impl FtIndex {
                 return Ok(ready);
             }
         }
-        let (def, alloc) = (&self.def, self.alloc);
-        enter(alloc, def, &mut self.table, &mut self.terms, doc, markers)?;
+        enter(&self.def, &mut self.table, &mut self.lists, doc, markers)?;
         self.waits = Some(ready);
         Ok(ready)
     }
@@ -187,7 +194,7 @@ impl FtIndex {
         }
     }
 
-    /// Takes a document out, and answers whether it was live. Its postings stay, and are dead. It
+    /// Takes a document out, and answers whether it was live. Its entries stay, and are dead. It
     /// takes no memory.
     pub fn kill(&mut self, id: u64) -> bool
         ensures was { result ≡ has_id self.old.table.live id }

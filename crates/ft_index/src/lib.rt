@@ -1,21 +1,20 @@
-//! One index: which documents are live, and for each word the list of where it stands.
+//! One index: which documents are live, and the posting lists of their words, tags and numbers.
 //!
-//! A document goes in under the number of the event that wrote it. Its postings go into the lists
+//! A document goes in under the number of the event that wrote it. Its entries go into the lists
 //! while it is not live yet, which may want memory; then it is made live, which wants none. A document
 //! that is written again gets a new id: the old id is killed, and what it left in the lists is dead.
 //! So a list may hold entries that no search may answer, and whoever reads one asks what is live.
-//! Read first `specs/Hits.antt` and `specs/Index.antt`, then `index.rt`.
+//! Read first `specs/Index.antt`, then `index.rt`.
 #![tactic(auto)]
 
-mod adding;
 mod entering;
 mod index;
-mod occurrences;
+mod reading;
 mod ready;
 #[cfg(test)]
 mod tests;
 
-/// One index.
+/// One index. It is what iterators of ids read.
 pub use index::FtIndex;
 /// A document that was prepared, and how it fits the index.
 pub use ready::{Fit, Ready};

@@ -1,14 +1,15 @@
 //! Against mistakes that the check would pass: a call that always finds memory wanting, a condition
 //! that no caller can meet, codes that mean something else than a field and a place in it, and a
 //! document that is taken otherwise than RediSearch takes it.
-ghost use Rattle.std.specs.Prelude.{◌≡◌, ◌<◌, ◌≤◌, [], IfOk, IfSome, IsTrue};
+ghost use Rattle.std.specs.Prelude.{◌≡◌, ◌<◌, ◌≤◌, IfOk, IfSome, IsTrue};
 ghost use Rattle.ft_meaning.specs.Meaning.{ValuesFit};
-ghost use Rattle.ft_index.specs.Kept.{AreBefore};
+ghost use Rattle.index_lists.specs.Markers.{AreBefore};
 
 use crate::{Fit, FtIndex};
 use ft_base::{
     Bytes, Doc, Field, FieldKind, HashRec, IndexDef, ListOf, NoMemory, Steps, StopWords, put_int,
 };
+use id_iters::Lists;
 use inverted_list::{List, Markers};
 use posting_block::TextHit;
 use std::alloc::Global;
@@ -32,7 +33,7 @@ fn field(alloc: Global, name: &[u8], kind: FieldKind, noindex: bool) -> Result<F
 }
 
 // It takes the keys of books. The fields are two TEXT fields, of which the first is NOINDEX, a
-// NUMERIC field and a third TEXT field, and `the` is a stop word.
+// NUMERIC field, a third TEXT field, and a TAG field over the title, and `the` is a stop word.
 fn books(alloc: Global) -> Result<IndexDef, NoMemory> {
     let mut prefixes = ListOf::new(alloc);
     prefixes.push(Bytes::from_slice(alloc, b"book:")?)?;
@@ -41,6 +42,11 @@ fn books(alloc: Global) -> Result<IndexDef, NoMemory> {
     fields.push(field(alloc, b"title", FieldKind::Text, false)?)?;
     fields.push(field(alloc, b"year", FieldKind::Numeric, false)?)?;
     fields.push(field(alloc, b"body", FieldKind::Text, false)?)?;
+    let tags = FieldKind::Tag {
+        separator: b',',
+        case: false,
+    };
+    fields.push(field(alloc, b"title", tags, false)?)?;
     let mut words = ListOf::new(alloc);
     words.push(Bytes::from_slice(alloc, b"the")?)?;
     Ok(IndexDef {
@@ -53,12 +59,11 @@ fn books(alloc: Global) -> Result<IndexDef, NoMemory> {
 }
 
 fn begin(alloc: Global, markers: &mut Markers) -> Result<Option<FtIndex>, NoMemory>
-    ensures empty { IfOk result (λ begun. IfSome begun (λ index. (index.terms ≡ [])
-        × (index.table.last ≡ 0))) }
-    ensures markers { markers.new ≡ markers.old }
+    ensures last { IfOk result (λ begun. IfSome begun (λ index. index.table.last ≡ 0)) }
+    ensures before { IfOk result (λ begun. IfSome begun (λ index. AreBefore markers.new index.lists)) }
 {
     let def = books(alloc)?;
-    if 4 < def.fields.len() {
+    if 5 < def.fields.len() {
         return Ok(None);
     }
     Ok(Some(FtIndex::new(alloc, def, markers)?))
@@ -106,9 +111,9 @@ fn write(
     waits: bool,
 ) -> Result<Option<Seen>, NoMemory>
     requires id { index.old.table.last < doc.now.id }
-    requires before { AreBefore markers.old index.old.terms }
+    requires before { AreBefore markers.old index.old.lists }
     ensures last { index.new.table.last ≤ doc.now.id }
-    ensures before { AreBefore markers.new index.new.terms }
+    ensures before { AreBefore markers.new index.new.lists }
 {
     if !values_fit(&doc.hash) {
         return Ok(None);
@@ -150,7 +155,7 @@ fn shown<L: Ledger>(
 {
     let mut out = Vec::new(alloc);
     let mut steps = Steps::<L>::new(blank);
-    let Some(list) = index.terms().list(word) else {
+    let Some(list) = index.text(word) else {
         return Ok(out);
     };
     let mut last = 0;
@@ -272,7 +277,11 @@ fn counts(alloc: Global) -> Result<Option<(usize, u64, usize)>, NoMemory> {
         return Ok(None);
     };
     let index = &done.0;
-    Ok(Some((index.terms().len(), done.1, index.def().fields.len())))
+    Ok(Some((
+        index.lists().terms().len(),
+        done.1,
+        index.def().fields.len(),
+    )))
 }
 
 // Of the index that was filled, whether an id is live, and whether killing it tells so twice.
@@ -286,7 +295,7 @@ fn killed(alloc: Global, id: u64) -> Result<Option<(bool, bool, bool)>, NoMemory
 
 #[test]
 fn kills_live_documents_alone(rt: HostRuntime) -> Result<(), Fail> {
-    assert_eq!(rt; counts(rt.alloc())?, Some((4, 4, 4)));
+    assert_eq!(rt; counts(rt.alloc())?, Some((4, 9, 5)));
     for (id, was) in [
         (2, false),
         (5, false),
@@ -298,6 +307,32 @@ fn kills_live_documents_alone(rt: HostRuntime) -> Result<(), Fail> {
     ] {
         let found = killed(rt.alloc(), id)?;
         assert_eq!(rt; found, Some((was, was, false)), "id {id}");
+    }
+    Ok(())
+}
+
+// Of the index that was filled, how many entries a tag of the title has and how many the range of all
+// years, and the least live id from a number on.
+fn read(alloc: Global, tag: &str, from: u64) -> Result<Option<(u64, u64, Option<u64>)>, NoMemory> {
+    let Some(done) = filled(alloc)? else {
+        return Ok(None);
+    };
+    let index = &done.0;
+    let tags = index.tag(4, tag.as_bytes()).map_or(0, List::len);
+    let years = index.range(2, i64::MIN).map_or(0, List::len);
+    Ok(Some((tags, years, index.next_live(from))))
+}
+
+#[test]
+fn reads_tags_and_numbers_and_live_ids(rt: HostRuntime) -> Result<(), Fail> {
+    for (tag, from, tags, live) in [
+        ("red", 0, 2, Some(6)),
+        ("the red fox", 6, 1, Some(6)),
+        ("far", 7, 0, Some(11)),
+        ("lost red", 12, 1, None),
+    ] {
+        let found = read(rt.alloc(), tag, from)?;
+        assert_eq!(rt; found, Some((tags, 2, live)), "{tag} and from {from}");
     }
     Ok(())
 }

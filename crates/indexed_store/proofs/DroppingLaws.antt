@@ -1,20 +1,21 @@
 -- An index that is dropped, and the documents of its live rows.
 use Rattle.std.specs.Prelude.{◌≡◌, ◌<◌, ℕ, Bool, true, false, cond, List, [], ◌∷◌, Option, None, Some, find, length, map, nat_eq, nat_le, refl}
-use Rattle.std.specs.List.{All}
+use Rattle.std.specs.List.{All, AllPairs}
 use Rattle.std.specs.Map.{lookup, remove_entry}
 use Rattle.std.specs.Option.{option_map}
 use Rattle.std.proofs.Common.{sym, ap, ◌∙◌, subst, arith}
 use Rattle.std.proofs.lemmas.Bool.Decides.{nat_tests}
 use Rattle.ft_base.specs.Space.{erase}
 use Rattle.ft_base.specs.declared.doc.Doc.{Doc}
-use Rattle.ft_index.proofs.LiveLaws.{row_of, same-yes}
+use Rattle.index_lists.proofs.AliveLaws.{row_of, same-yes}
 use Rattle.ft_index.specs.Index.{Index}
 use Rattle.ft_meaning.specs.Member.{members}
 use Rattle.hash_store.specs.Store.{Store}
 use Rattle.indexed_store.specs.Definitions.{Defined, defined, definitions_of, index_of}
 use Rattle.indexed_store.specs.Named.{is_named, without_named}
 use Rattle.indexed_store.specs.Removing.{without_keys, without_members}
-use Rattle.indexed_store.specs.Standing.{IndexStands, InStep, markers_at}
+use Rattle.indexed_store.specs.Standing.{AreApart, IndexStands, InStep, markers_at}
+use Rattle.indexed_store.proofs.ApartLaws.{apart-others}
 use Rattle.indexed_store.proofs.NamedLaws.{index_of-named, named-has, others-have}
 
 -- the indexes but one
@@ -23,6 +24,7 @@ in_step-others store indexes now name next is step = record {
   last = step.last;
   documents = step.documents;
   stand = subst (All (IndexStands store.space next (markers_at next))) (sym is) (others-have (IndexStands store.space next (markers_at next)) indexes name step.stand);
+  apart = subst (AllPairs AreApart) (sym is) (apart-others indexes name step.apart);
 }
 
 -- the row of the least live id is the first one

@@ -7,7 +7,7 @@ use Rattle.std.proofs.lemmas.List.Elements.{All-head, All-tail}
 use Rattle.std.proofs.lemmas.Bool.Decides.{nat_tests}
 use Rattle.ft_base.specs.declared.doc.Doc.{Doc}
 use Rattle.indexed_store.specs.Filling.{beyond, upto}
-use Rattle.ft_index.proofs.LiveLaws.{last_id-low, row_of}
+use Rattle.index_lists.proofs.AliveLaws.{last_id-low, row_of}
 use Rattle.inverted_list.specs.Listing.{RisesAbove, last_id}
 
 lt-yes : (a b : ℕ) → a < b → nat_lt a b ≡ true

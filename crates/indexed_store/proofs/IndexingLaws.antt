@@ -1,16 +1,15 @@
 -- What the indexes stand for while a document is written.
-use Rattle.std.specs.Prelude.{◌≡◌, ◌<◌, ◌≤◌, ◌+◌, ◌≢◌, ◌⊎◌, ℕ, zero, suc, List, [], ◌∷◌, ◌++◌, Option, None, Some, IfSome, length, map, take, drop, slice_index_or, slice_set, refl}
+use Rattle.std.specs.Prelude.{◌≡◌, ◌<◌, ◌≤◌, ◌+◌, ◌≢◌, ◌⊎◌, ℕ, zero, suc, List, [], ◌∷◌, ◌++◌, length, map, take, drop, slice_index_or, slice_set, refl}
 use Rattle.std.proofs.Common.{sym, ap, ◌∙◌, subst, inl, inr, arith, add-one, length-set, get_or-set_same, get_or-set_other}
 use Rattle.std.proofs.lemmas.Bool.Decides.{eqb_tells}
 use Rattle.ft_base.specs.declared.doc.Doc.{Doc}
 use Rattle.indexed_store.specs.Standing.{IndexStands}
-use Rattle.ft_index.specs.Kept.{AreBefore, IsBefore}
+use Rattle.index_lists.proofs.TakingLaws.{all-before, before-of}
+use Rattle.index_lists.specs.Lists.{AllLists}
+use Rattle.index_lists.specs.Markers.{AreBefore, IsBefore, marker_at}
 use Rattle.ft_index.specs.Index.{Index, Indexes, IsIndex}
-use Rattle.inverted_list.specs.Listing.{Listing}
 use Rattle.inverted_list.specs.declared.marker.Marker.{Marker}
 use Rattle.inverted_list.specs.declared.marker.Markers.{Markers}
-use Rattle.posting_block.specs.declared.hits.TextHit.{TextHit}
-use Rattle.term_dict.specs.Terms.{Lists, list_of}
 
 -- what was given before some markers was given before later ones
 is_before-later : (old new : Markers) (marker : Marker) → (old.event < new.event) ⊎ ((old.event ≡ new.event) × (old.next ≤ new.next)) → IsBefore old marker → IsBefore new marker
@@ -19,12 +18,8 @@ is_before-later old new marker (inl h) (inr before) = inl (omega (arith, h, befo
 is_before-later old new marker (inr h) (inl before) = inl (omega (arith, h.0, before))
 is_before-later old new marker (inr h) (inr before) = inr (before.0 ∙ h.0, omega (arith, h.1, before.1))
 
-pub are_before-later : (old new : Markers) (terms : Lists TextHit) → (old.event < new.event) ⊎ ((old.event ≡ new.event) × (old.next ≤ new.next)) → AreBefore old terms → AreBefore new terms
-are_before-later old new terms later before word = by_list (list_of terms word) (before word)
-  where
-    by_list : (list : Option (Listing TextHit)) → IfSome list (λ l. IsBefore old l.marker) → IfSome list (λ l. IsBefore new l.marker)
-    by_list None h = tt
-    by_list (Some l) h = is_before-later old new l.marker later h
+pub are_before-later : (old new : Markers) (lists : AllLists) → (old.event < new.event) ⊎ ((old.event ≡ new.event) × (old.next ≤ new.next)) → AreBefore old lists → AreBefore new lists
+are_before-later old new lists later before = all-before new (marker_at lists) (λ name marker has. is_before-later old new marker later (before-of old (marker_at lists) name marker before has))
 
 pub stands-later : (space : List Doc) (next next' : ℕ) (old new : Markers) (index : Index) → next ≤ next' → (old.event < new.event) ⊎ ((old.event ≡ new.event) × (old.next ≤ new.next))
     → IndexStands space next old index → IndexStands space next' new index
@@ -32,7 +27,7 @@ stands-later space next next' old new index more later stands = record {
   documents = stands.documents;
   sound = stands.sound;
   earlier = omega (arith, more, stands.earlier);
-  before = are_before-later old new index.terms later stands.before;
+  before = are_before-later old new index.lists later stands.before;
 }
 
 -- what holds of one item and of all others holds of a list whose item was set to it
@@ -46,7 +41,7 @@ all-set P xs i x within here others k d short =
     ]
 
 -- an index in which a document was prepared, or was to be
-pub prepared : (space : List Doc) (id : ℕ) (markers : Markers) (new : Index) → Indexes new space → IsIndex new → new.table.last ≤ id → AreBefore markers new.terms
+pub prepared : (space : List Doc) (id : ℕ) (markers : Markers) (new : Index) → Indexes new space → IsIndex new → new.table.last ≤ id → AreBefore markers new.lists
     → IndexStands space (id + 1) markers new
 prepared space id markers new documents sound last before = record { documents = documents; sound = sound; earlier = omega (arith, last); before = before }
 

@@ -1,3 +1,4 @@
+pub mod ApartLaws
 pub mod DroppingLaws
 pub mod FillingLaws
 pub mod IndexingLaws

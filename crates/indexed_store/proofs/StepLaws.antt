@@ -1,7 +1,7 @@
 -- Documents that are written and removed: the space, and what each index stands for.
 use Rattle.std.specs.Prelude.{◌≡◌, ◌<◌, ◌≤◌, ◌+◌, ◌&&◌, ℕ, Bool, true, false, cond, not, List, [], ◌∷◌, ◌++◌, suc, Option, None, Some, IfSome, is_some, length, drop, map, nat_eq, slice_index_or, refl, if◌then◌else◌}
 use Rattle.std.proofs.Common.{sym, ap, ◌∙◌, subst, inl, inr, arith, drop-cons}
-use Rattle.std.specs.List.{All}
+use Rattle.std.specs.List.{All, AllPairs}
 use Rattle.std.specs.Map.{remove_entry}
 use Rattle.std.specs.Option.{option_map}
 use Rattle.std.specs.Str.{bytes_eq}
@@ -11,12 +11,12 @@ use Rattle.std.proofs.lemmas.List.Elements.{All-map, All-append, All-cons, All-f
 use Rattle.ft_base.specs.Space.{doc_of, erase, write}
 use Rattle.ft_base.specs.declared.doc.Doc.{Doc}
 use Rattle.ft_index.proofs.IndexLaws.{last-push, last-removed, rises-push, rises-removed}
-use Rattle.ft_index.proofs.LiveLaws.{above-no, below-no, last_id-low, row_of, rows-without, same-yes, without-below}
+use Rattle.index_lists.proofs.AliveLaws.{above-no, below-no, last_id-low, row_of, rows-without, same-yes, without-below}
 use Rattle.ft_index.proofs.MemberLaws.{commits-is, index-committed, index-gone, indexes-gone}
 use Rattle.ft_index.specs.Fits.{fit_of}
 use Rattle.ft_index.specs.Index.{Index, Indexes, IsIndex, commits, commits_as, commits_ready, committed}
-use Rattle.ft_index.specs.Kept.{AreBefore}
-use Rattle.ft_index.specs.Live.{without}
+use Rattle.index_lists.specs.Markers.{AreBefore}
+use Rattle.index_lists.specs.Without.{without}
 use Rattle.ft_index.specs.declared.ready.Fit.{Fit}
 use Rattle.ft_index.specs.declared.ready.Fit.TheVariants.{Member, NoPrefix, Failed}
 use Rattle.ft_index.specs.declared.ready.Ready.{Ready}
@@ -28,8 +28,9 @@ use Rattle.inverted_list.specs.declared.marker.Markers.{Markers}
 use Rattle.indexed_store.specs.Definitions.{Defined, all_tried, defined, definitions_of, tried}
 use Rattle.indexed_store.specs.Indexing.{Awaits, killed, settled}
 use Rattle.indexed_store.specs.Removing.{without_keys}
-use Rattle.indexed_store.specs.Standing.{AreWritten, IndexStands, InStep, markers_at}
+use Rattle.indexed_store.specs.Standing.{AreApart, AreWritten, IndexStands, InStep, markers_at}
 use Rattle.indexed_store.specs.Writing.{Waits}
+use Rattle.indexed_store.proofs.ApartLaws.{apart-mapped, apart-more}
 use Rattle.indexed_store.proofs.IndexingLaws.{stands-later}
 
 -- the documents but that of an id, where there is an id
@@ -136,14 +137,18 @@ last-committed : (ready : Option Ready) (index : Index) → (commits_ready ready
 last-committed None index = refl
 last-committed (Some ready) index = last-commits ready.fit (record index { waits = None })
 
-pub terms-commits : (fit : Fit) (index : Index) → (commits_as fit index).terms ≡ index.terms
-terms-commits Member index = refl
-terms-commits NoPrefix index = refl
-terms-commits Failed index = refl
+pub lists-commits : (fit : Fit) (index : Index) → (commits_as fit index).lists ≡ index.lists
+lists-commits Member index = refl
+lists-commits NoPrefix index = refl
+lists-commits Failed index = refl
 
-pub terms-committed : (ready : Option Ready) (index : Index) → (commits_ready ready index).terms ≡ index.terms
-terms-committed None index = refl
-terms-committed (Some ready) index = terms-commits ready.fit (record index { waits = None })
+pub lists-committed : (ready : Option Ready) (index : Index) → (commits_ready ready index).lists ≡ index.lists
+lists-committed None index = refl
+lists-committed (Some ready) index = lists-commits ready.fit (record index { waits = None })
+
+lists-settled : (replaced : Option ℕ) (index : Index) → (settled replaced index).lists ≡ index.lists
+lists-settled None index = lists-committed index.waits index
+lists-settled (Some id) index = lists-committed index.waits index
 
 -- An index that a document waits in stands for the written space once it is settled.
 pub index-settled : (docs : List Doc) (doc : Doc) (replaced : Option ℕ) (index : Index) → IfSome replaced (λ id. id < doc.id)
@@ -152,7 +157,7 @@ index-settled docs doc replaced index earlier stands awaits = record {
   documents = documents replaced earlier;
   sound = sound replaced;
   earlier = rw (settled-last replaced) stands.earlier;
-  before = subst (AreBefore (markers_at (doc.id + 1))) (sym (settled-terms replaced)) stands.before;
+  before = subst (AreBefore (markers_at (doc.id + 1))) (sym (lists-settled replaced index)) stands.before;
 }
   where
     whole : IsIndex (committed index)
@@ -171,15 +176,11 @@ index-settled docs doc replaced index earlier stands awaits = record {
     settled-last None = last-committed index.waits index
     settled-last (Some id) = last-committed index.waits index
 
-    settled-terms : (replaced : Option ℕ) → (settled replaced index).terms ≡ index.terms
-    settled-terms None = terms-committed index.waits index
-    settled-terms (Some id) = terms-committed index.waits index
-
 -- All of them do.
 pub in_step-written : (store : Store) (docs : List Doc) (doc : Doc) (replaced : Option ℕ) (indexes : List Index) → store.space ≡ write docs doc.key doc.hash doc.id → store.last < doc.id + 1
     → replaced ≡ id_of docs doc.key → AreWritten docs doc.id → ValuesFit doc.hash → 0 < length doc.hash → All (IndexStands docs (doc.id + 1) (markers_at (doc.id + 1))) indexes → All (Awaits docs doc) indexes
-    → InStep store (map (settled replaced) indexes) (doc.id + 1)
-in_step-written store docs doc replaced indexes space last same written fits filled stand waits =
+    → AllPairs AreApart indexes → InStep store (map (settled replaced) indexes) (doc.id + 1)
+in_step-written store docs doc replaced indexes space last same written fits filled stand waits apart =
     let whole : store.space ≡ kept replaced docs ++ doc ∷ [] = space ∙ (ap (λ rest. rest ++ doc ∷ []) (erase-kept 0 docs doc.key written.rise) ∙ ap (λ (r : Option ℕ). kept r docs ++ doc ∷ []) (sym same)) in
     let earlier : IfSome replaced (λ id. id < doc.id) = subst (λ (r : Option ℕ). IfSome r (λ id. id < doc.id)) (sym same) (found-earlier 0 doc.id docs doc.key written.rise written.earlier) in
     let documents : AreWritten (kept replaced docs ++ doc ∷ []) (doc.id + 1) = subst (λ (r : Option ℕ). AreWritten (kept r docs ++ doc ∷ []) (doc.id + 1)) (sym same) (space-written docs doc written fits filled) in
@@ -189,16 +190,18 @@ in_step-written store docs doc replaced indexes space last same written fits fil
       stand = subst (λ (space : List Doc). All (IndexStands space (doc.id + 1) (markers_at (doc.id + 1))) (map (settled replaced) indexes)) (sym whole)
           (All-map (IndexStands (kept replaced docs ++ doc ∷ []) (doc.id + 1) (markers_at (doc.id + 1))) (settled replaced) indexes
           (λ k d short. index-settled docs doc replaced (slice_index_or indexes k d) earlier (stand k d short) (waits k d short)));
+      apart = apart-mapped (settled replaced) indexes (lists-settled replaced) apart;
     }
 
 -- Where nothing is written, each index stands for what it stood for.
 pub in_step-unwritten : (store : Store) (docs : List Doc) (id : ℕ) (markers : Markers) (indexes : List Index) → store.space ≡ docs → store.last < id + 1 → AreWritten docs id
-    → markers.event ≡ id → All (IndexStands docs (id + 1) markers) indexes → InStep store indexes (id + 1)
-in_step-unwritten store docs id markers indexes same last written event stand = record {
+    → markers.event ≡ id → All (IndexStands docs (id + 1) markers) indexes → AllPairs AreApart indexes → InStep store indexes (id + 1)
+in_step-unwritten store docs id markers indexes same last written event stand apart = record {
   last = last;
   documents = subst (λ (space : List Doc). AreWritten space (id + 1)) (sym same) (space-later docs id written);
   stand = subst (λ (space : List Doc). All (IndexStands space (id + 1) (markers_at (id + 1))) indexes) (sym same)
       (λ k d short. stands-later docs (id + 1) (id + 1) markers (markers_at (id + 1)) (slice_index_or indexes k d) (omega arith) (inl (omega (arith, event))) (stand k d short));
+  apart = apart;
 }
 
 -- a command that touches neither documents nor indexes
@@ -207,6 +210,7 @@ in_step-later store indexes id step = record {
   last = omega (arith, step.last);
   documents = space-later store.space id step.documents;
   stand = λ k d short. stands-later store.space id (id + 1) (markers_at id) (markers_at (id + 1)) (slice_index_or indexes k d) (omega arith) (inl (omega arith)) (step.stand k d short);
+  apart = step.apart;
 }
 
 -- a commit counts a failure, and keeps the definition
@@ -246,6 +250,7 @@ in_step-same old new indexes id space last step = record {
   last = subst (λ n. n < id) (sym last) step.last;
   documents = subst (λ (docs : List Doc). AreWritten docs id) (sym space) step.documents;
   stand = subst (λ (docs : List Doc). All (IndexStands docs id (markers_at id)) indexes) (sym space) step.stand;
+  apart = step.apart;
 }
 
 -- a command that reads
@@ -280,6 +285,7 @@ in_step-erased old new key id indexes next space last was step =
       stand = subst (λ (docs : List Doc). All (IndexStands docs next (markers_at next)) (map (killed (Some id)) indexes)) (sym whole)
           (All-map (IndexStands (kept (Some id) old.space) next (markers_at next)) (killed (Some id)) indexes
           (λ k d short. index-killed old.space id next (markers_at next) (slice_index_or indexes k d) (step.stand k d short)));
+      apart = apart-mapped (killed (Some id)) indexes (λ index. refl) step.apart;
     }
 
 -- no document has the key
@@ -319,13 +325,14 @@ without-next docs now keys i key within is out =
     ap (λ (n : ℕ). without_keys now (drop n keys)) up ∙ (ap (λ (d : List Doc). without_keys d (drop (suc i) keys)) out ∙ ap (without_keys docs) (sym next))
 
 -- an index more that stands for the documents
-pub in_step-more : (store : Store) (indexes : List Index) (index : Index) (n : ℕ) → InStep store indexes n → IndexStands store.space n (markers_at n) index → InStep store (indexes ++ index ∷ []) n
-in_step-more store indexes index n step stands =
+pub in_step-more : (store : Store) (indexes : List Index) (index : Index) (n : ℕ) → InStep store indexes n → IndexStands store.space n (markers_at n) index → All (AreApart index) indexes → InStep store (indexes ++ index ∷ []) n
+in_step-more store indexes index n step stands apart =
     let P : Index → Type 0 = IndexStands store.space n (markers_at n) in
     record {
       last = step.last;
       documents = step.documents;
       stand = All-append P indexes (index ∷ []) step.stand (All-cons P index [] stands (All-nil P));
+      apart = apart-more indexes index apart step.apart;
     }
 
 -- The document that waited is written, in the store and in each index.
@@ -339,4 +346,4 @@ settled-step old new indexes now put number (Some doc) replaced written step wai
     subst (λ n. InStep new now (n + 1)) at
     (subst (λ (is : List Index). InStep new is (doc.id + 1)) (sym made)
     (in_step-written new old.space doc replaced indexes (ap (λ (s : Store). s.space) is) (omega (arith, last, at, step.last)) was (subst (AreWritten old.space) (sym at) written) waits.fits waits.filled
-    (subst (λ n. All (IndexStands old.space (n + 1) (markers_at (n + 1))) indexes) (sym at) step.stand) waits.awaits))
+    (subst (λ n. All (IndexStands old.space (n + 1) (markers_at (n + 1))) indexes) (sym at) step.stand) waits.awaits step.apart))

@@ -2,7 +2,7 @@
 ghost use Rattle.std.specs.Prelude.{◌≡◌, ◌≤◌, ◌+◌, length, IfOk};
 ghost use Rattle.ft_meaning.specs.Member.{most_failures};
 ghost use Rattle.indexed_store.specs.Definitions.{failures_over};
-ghost use Rattle.indexed_store.specs.Standing.{AreWritten, IndexStands, markers_at};
+ghost use Rattle.indexed_store.specs.Standing.{AreOfEvent, AreWritten, IndexStands, markers_at};
 
 use crate::filling::fill;
 use ft_base::{IndexDef, NoMemory};
@@ -28,6 +28,7 @@ pub fn index_over(
         index.failures ≡ failures_over def store.old.space failures) }
     ensures stands { IfOk result (λ index.
         IndexStands store.new.space (event + 1) (markers_at (event + 1)) index) }
+    ensures given { IfOk result (λ index. AreOfEvent event index) }
     ensures space { store.new.space ≡ store.old.space }
     ensures last { store.new.last ≡ store.old.last }
 {

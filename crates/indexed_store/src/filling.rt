@@ -3,8 +3,8 @@ ghost use Rattle.std.specs.Prelude.{◌≡◌, ℕ, ◌<◌, ◌≤◌, [], leng
 ghost use Rattle.ft_base.specs.declared.doc.Doc.{Doc};
 ghost use Rattle.indexed_store.specs.Filling.{beyond, upto};
 ghost use Rattle.indexed_store.specs.Definitions.{failures_over};
-ghost use Rattle.indexed_store.specs.Standing.{AreWritten, IndexStands};
-ghost use Rattle.ft_index.specs.Kept.{AreBefore};
+ghost use Rattle.indexed_store.specs.Standing.{AreOfEvent, AreWritten, IndexStands};
+ghost use Rattle.index_lists.specs.Markers.{AreBefore};
 ghost use Rattle.ft_index.specs.Index.{Indexes, IsIndex};
 ghost use Rattle.inverted_list.specs.Listing.{last_id};
 
@@ -23,7 +23,8 @@ pub fn fill(
     requires none { Indexes index.old [] }
     requires first { index.old.table.last ≡ 0 }
     requires sound { IsIndex index.old }
-    requires before { AreBefore markers.old index.old.terms }
+    requires before { AreBefore markers.old index.old.lists }
+    requires given { AreOfEvent markers.old.event index.old }
     ensures stands { OnOk result (IndexStands store.new.space markers.new.event markers.new index.new) }
     ensures failures { OnOk result (index.new.failures
         ≡ failures_over index.old.def store.old.space index.old.failures) }
@@ -31,6 +32,7 @@ pub fn fill(
     ensures space { store.new.space ≡ store.old.space }
     ensures last { store.new.last ≡ store.old.last }
     ensures event { markers.new.event ≡ markers.old.event }
+    ensures given { AreOfEvent markers.old.event index.new }
 {
     let mut after = 0;
     'filling: while let Some(id) = put_next(index, store, after, markers)? {
@@ -50,7 +52,8 @@ fn put_next(
     requires stands { Indexes index.old (upto after store.old.space) }
     requires last { index.old.table.last ≤ after }
     requires sound { IsIndex index.old }
-    requires before { AreBefore markers.old index.old.terms }
+    requires before { AreBefore markers.old index.old.lists }
+    requires given { AreOfEvent markers.old.event index.old }
     ensures stands { IfOk result (λ id. Indexes index.new (upto (unwrap_or id after) store.old.space)) }
     ensures indexed { IfOk result (λ id. index.new.table.last ≤ unwrap_or id after) }
     ensures failures { IfOk result (λ id. (first : ℕ)
@@ -65,8 +68,9 @@ fn put_next(
     ensures sound { IsIndex index.new }
     ensures space { store.new.space ≡ store.old.space }
     ensures last { store.new.last ≡ store.old.last }
-    ensures before { AreBefore markers.new index.new.terms }
+    ensures before { AreBefore markers.new index.new.lists }
     ensures event { markers.new.event ≡ markers.old.event }
+    ensures given { AreOfEvent markers.old.event index.new }
 {
     let Some(doc) = store.by_id_after(after) else {
         return Ok(None);

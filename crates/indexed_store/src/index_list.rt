@@ -1,11 +1,11 @@
 //! The list of indexes, in order of creation, and the index of a name.
 ghost use Rattle.std.specs.Prelude.{◌≡◌, ◌<◌, ◌≤◌, ◌++◌, ◌∷◌, ℕ, [], length, position, vec_capacity};
-ghost use Rattle.std.specs.List.{find};
+ghost use Rattle.std.specs.List.{All, find};
 ghost use Rattle.std.specs.Option.{option_copied};
 ghost use Rattle.hash_store.specs.Store.{Store};
 ghost use Rattle.indexed_store.specs.Definitions.{defined, definitions_of, with_index};
 ghost use Rattle.indexed_store.specs.Named.{is_named, without_named};
-ghost use Rattle.indexed_store.specs.Standing.{IndexStands, InStep, markers_at};
+ghost use Rattle.indexed_store.specs.Standing.{AreApart, IndexStands, InStep, markers_at};
 
 use ft_index::FtIndex;
 
@@ -34,7 +34,7 @@ pub fn replace_index(indexes: &mut [FtIndex], index: FtIndex)
     ensures definitions { definitions_of indexes.new
         ≡ with_index (definitions_of indexes.old) (defined index) }
     ensures kept { (store : Store) (next : ℕ) → IndexStands store.space next (markers_at next) index
-        → InStep store indexes.old next → InStep store indexes.new next }
+        → All (AreApart index) indexes.old → InStep store indexes.old next → InStep store indexes.new next }
 {
     if let Some(place) = place_of(indexes, index.def().name.as_slice()) {
         indexes[place] = index;

@@ -1,17 +1,17 @@
-//! What a write does to every index: postings first, liveness last.
+//! What a write does to every index: entries of lists first, liveness last.
 ghost use Rattle.std.specs.Prelude.{◌≡◌, ◌+◌, List, Some, map, OnOk};
-ghost use Rattle.std.specs.List.{All};
+ghost use Rattle.std.specs.List.{All, AllPairs};
 ghost use Rattle.ft_base.specs.declared.doc.Doc.{Doc};
 ghost use Rattle.ft_meaning.specs.Meaning.{ValuesFit};
 ghost use Rattle.indexed_store.specs.Definitions.{definitions_of};
 ghost use Rattle.indexed_store.specs.Indexing.{Awaits, killed, settled};
-ghost use Rattle.indexed_store.specs.Standing.{IndexStands};
+ghost use Rattle.indexed_store.specs.Standing.{AreApart, IndexStands};
 
 use ft_base::{Doc, NoMemory};
 use ft_index::FtIndex;
 use inverted_list::Markers;
 
-/// Puts a document's postings into each index, where nothing sees them yet. Where memory is wanting,
+/// Puts a document's entries into each index, where nothing sees them yet. Where memory is wanting,
 /// some indexes may have them.
 pub fn prepare_all(
     indexes: &mut [FtIndex],
@@ -20,8 +20,10 @@ pub fn prepare_all(
 ) -> Result<(), NoMemory>
     ghost space: { List Doc }
     requires stand { All (IndexStands space doc.now.id markers.old) indexes.old }
+    requires apart { AllPairs AreApart indexes.old }
     requires values { ValuesFit doc.now.hash }
     ensures stand { All (IndexStands space (doc.now.id + 1) markers.new) indexes.new }
+    ensures apart { AllPairs AreApart indexes.new }
     ensures definitions { definitions_of indexes.new ≡ definitions_of indexes.old }
     ensures waits { OnOk result (All (Awaits space doc.now) indexes.new) }
     ensures event { markers.new.event ≡ markers.old.event }

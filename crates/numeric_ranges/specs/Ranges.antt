@@ -1,5 +1,5 @@
 -- What a contract sees of the ranges of a field: rows of a low and a posting list.
-use Rattle.std.specs.Prelude.{◌≡◌, ◌<◌, ℕ, suc, zero, Bool, true, false, cond, ◌&&◌, ℤ, negsuc, int_le, int_lt, List, [], ◌∷◌, Option, None, Some, IsTrue}
+use Rattle.std.specs.Prelude.{◌≡◌, ◌<◌, ℕ, suc, zero, Bool, true, false, cond, ◌&&◌, ℤ, negsuc, int_le, int_lt, List, [], ◌∷◌, Option, None, Some, IsTrue, length, sum_by}
 use Rattle.std.specs.List.{AllByRecursion, filter}
 use Rattle.std.specs.Map.{lookup}
 use Rattle.std.specs.Ordering.{int_eq}
@@ -15,6 +15,10 @@ Rows = List (ℤ × Listing NumHit)
 abbrev pub low_of : Rows → Option ℤ
 low_of [] = None
 low_of (row ∷ rows) = Some row.0
+
+-- how many entries all rows have together
+abbrev pub entries_in_rows : Rows → ℕ
+entries_in_rows rows = sum_by (λ row. length row.1.entries) rows
 
 -- whether a value is below a bound, as each is where there is no bound
 abbrev pub is_below : Option ℤ → ℤ → Bool

@@ -1,12 +1,12 @@
 //! The ranges of a field: rows of a low and a posting list, in rising order of the lows.
-ghost use Rattle.std.specs.Prelude.{◌≡◌, ◌<◌, ◌≤◌, ◌+◌, ◌-◌, ◌*◌, ◌↔◌, ◌++◌, ◌∷◌, [], ℕ, negsuc, Some, length, slice_get, IfOk, IfNone, IfSome, IsSome, IsTrue, OnOk, OnErr};
+ghost use Rattle.std.specs.Prelude.{◌≡◌, ◌<◌, ◌≤◌, ◌+◌, ◌-◌, ◌*◌, ◌^◌, ◌↔◌, ◌++◌, ◌∷◌, [], ℕ, negsuc, Some, length, slice_get, IfOk, IfNone, IfSome, IsSome, IsTrue, OnOk, OnErr};
 ghost use Rattle.std.specs.List.{AllByRecursion};
 ghost use Rattle.std.specs.Map.{set_value};
 ghost use Rattle.std.specs.Option.{option_copied, option_map};
 ghost use Rattle.std.specs.Ordering.{int_eq};
 ghost use Rattle.inverted_list.specs.Listing.{marker_of};
 ghost use Rattle.numeric_ranges.specs.Added.{added};
-ghost use Rattle.numeric_ranges.specs.Ranges.{AreParted, IsPartition, IsAbove, lies_at, list_at, meets, bare};
+ghost use Rattle.numeric_ranges.specs.Ranges.{AreParted, IsPartition, IsAbove, entries_in_rows, lies_at, list_at, meets, bare};
 ghost use Rattle.numeric_ranges.specs.Rows.{Held, rows_of};
 ghost use Rattle.numeric_ranges.specs.Values.{Entries};
 
@@ -64,6 +64,16 @@ impl Ranges {
         ensures partition { IsPartition self.now }
     {
         self.rows.len()
+    }
+
+    /// The number of entries of all ranges: none where it is no `u64`. It walks over the ranges, and
+    /// reads no entry.
+    pub fn entries(&self) -> Option<u64>
+        ensures some { IfSome result (λ n. n ≡ entries_in_rows self.now) }
+        ensures none { IfNone result (2 ^ 64 ≤ entries_in_rows self.now) }
+        ensures partition { IsPartition self.now }
+    {
+        entries_in_rows(self.rows.as_slice())
     }
 
     /// Where the range at an index begins.
@@ -144,6 +154,17 @@ impl Ranges {
     {
         put_into(&mut self.rows, low, list);
     }
+}
+
+fn entries_in_rows(rows: &[Row]) -> Option<u64>
+    ensures some { IfSome result (λ n. n ≡ entries_in_rows (rows_of rows.now)) }
+    ensures none { IfNone result (2 ^ 64 ≤ entries_in_rows (rows_of rows.now)) }
+{
+    let mut total: u64 = 0;
+    for row in rows {
+        total = total.checked_add(row.list.len())?;
+    }
+    Some(total)
 }
 
 // A value goes into the row that it lies in, which may split.

@@ -82,6 +82,7 @@ fn meets_intervals(rt: HostRuntime) -> Result<(), Fail> {
     let mut markers = Markers { event: 7, next: 3 };
     let values = values_of(rt.alloc(), (0, 0), 1, 1026)?;
     let ranges = filled(rt.alloc(), values.as_slice(), &mut markers)?;
+    assert_eq!(rt; ranges.entries(), Some(1025));
     let cases: [(i64, i64, usize, usize); 8] = [
         (1, 1025, 0, 2),
         (512, 513, 0, 2),

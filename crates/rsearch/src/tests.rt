@@ -17,7 +17,7 @@ const HSET: &[u8] = b"*4\r\n$4\r\nHSET\r\n$2\r\nd1\r\n$1\r\nt\r\n$11\r\nHello wo
 const HSET_AGAIN: &[u8] = b"*4\r\n$4\r\nhSet\r\n$2\r\nd1\r\n$1\r\nt\r\n$1\r\nx\r\n";
 
 /// A command that is known, and not built.
-const INFO: &[u8] = b"*2\r\n$7\r\nFT.INFO\r\n$1\r\ni\r\n";
+const CURSOR: &[u8] = b"*2\r\n$9\r\nFT.CURSOR\r\n$1\r\ni\r\n";
 
 const QUIT: &[u8] = b"*1\r\n$4\r\nqUIt\r\n";
 
@@ -69,7 +69,7 @@ fn answers_each_command(rt: HostRuntime) -> Result<(), Fail> {
     let replies = ":1\r\n:0\r\n-ERR not built\r\n-ERR unknown command\r\n";
     let cases: [(&[&[u8]], &str, Exit); 10] = [
         (
-            &[HSET, HSET_AGAIN, b"*0\r\n", INFO, NOPE],
+            &[HSET, HSET_AGAIN, b"*0\r\n", CURSOR, NOPE],
             replies,
             Exit::Done,
         ),
@@ -87,7 +87,7 @@ fn answers_each_command(rt: HostRuntime) -> Result<(), Fail> {
             Exit::Protocol,
         ),
         (
-            &[HSET, b"*1\r\n$+4\r\nPING\r\n", INFO],
+            &[HSET, b"*1\r\n$+4\r\nPING\r\n", CURSOR],
             ":1\r\n-ERR Protocol error: invalid bulk length\r\n",
             Exit::Protocol,
         ),
@@ -261,7 +261,7 @@ fn a_failed_call_ends_the_run(rt: HostRuntime) -> Result<(), Fail> {
         ((0, 3), both, Exit::Done),
     ] {
         let mut out = Vec::new(rt.alloc());
-        let ended = script(rt.alloc(), &mut out, &[HSET, INFO], fails, 1_000)?;
+        let ended = script(rt.alloc(), &mut out, &[HSET, CURSOR], fails, 1_000)?;
         assert_eq!(rt; ended, exit, "at {fails:?}");
         assert_eq!(rt; out.as_slice(), want.as_bytes());
     }
@@ -297,7 +297,7 @@ fn other_words_are_refused(rt: HostRuntime) -> Result<(), Fail> {
         }
         let mut link = MemLink::new(
             rt.alloc(),
-            pieces_of(rt.alloc(), &[INFO])?,
+            pieces_of(rt.alloc(), &[CURSOR])?,
             ListOf::new(rt.alloc()),
             ListOf::new(rt.alloc()),
             1_000,

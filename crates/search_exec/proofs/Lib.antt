@@ -1,2 +1,4 @@
+pub mod AskLaws
+pub mod FoundLaws
 pub mod RepliesLaws
 pub mod WalkLaws

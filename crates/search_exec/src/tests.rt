@@ -13,6 +13,8 @@ use hash_store::HashStore;
 use std::alloc::Global;
 use std::test::Fail;
 
+mod ids;
+
 // An index of the keys with the prefix `d`, with a TEXT field `t`.
 fn index(alloc: Global) -> Result<IndexDef, NoMemory> {
     let mut prefixes = ListOf::new(alloc);

@@ -1,12 +1,12 @@
 -- What a contract sees of the posting lists of tags: each field's dictionary.
-use Rattle.std.specs.Prelude.{◌≡◌, ℕ, List, [], Option, nat_eq}
+use Rattle.std.specs.Prelude.{◌≡◌, ℕ, List, [], Option, nat_eq, sum_by}
 use Rattle.std.specs.List.Sorted.{IsStrictlySortedBy}
 use Rattle.std.specs.Map.{keys_of, lookup}
 use Rattle.std.specs.Option.{unwrap_or}
 use Rattle.std.specs.Ordering.{nat_cmp}
 use Rattle.inverted_list.specs.Listing.{Listing}
 use Rattle.posting_block.specs.declared.hits.TagHit.{TagHit}
-use Rattle.term_dict.specs.Terms.{Lists, Sets, WordsRise, IdsRise, list_of, entries_of}
+use Rattle.term_dict.specs.Terms.{Lists, Sets, WordsRise, IdsRise, list_of, entries_of, entries_in_all}
 
 -- the numbers of fields, each with its tags and their lists
 abbrev pub FieldTags : Type 0
@@ -23,6 +23,10 @@ list_in lists field tag = list_of (tags_of lists field) tag
 -- the entries of a field's tag: none where it has no list
 abbrev pub entries_in : FieldTags → ℕ → List ℕ → List (ℕ × TagHit)
 entries_in lists field tag = entries_of (tags_of lists field) tag
+
+-- how many entries the lists of all fields have together
+abbrev pub entries_in_fields : FieldTags → ℕ
+entries_in_fields lists = sum_by (λ row. entries_in_all row.1) lists
 
 -- The fields rise, so none is there twice.
 abbrev pub FieldsRise : FieldTags → Type 0

@@ -1,9 +1,9 @@
 //! Posting lists by field and tag: a dictionary for each field.
-ghost use Rattle.std.specs.Prelude.{◌≡◌, ◌<◌, ◌≤◌, ◌+◌, ℕ, [], None, Some, false, is_some, length, IfOk, IfNone, IfSome, IsSome, IsTrue, OnOk, OnErr, if◌then◌else◌};
+ghost use Rattle.std.specs.Prelude.{◌≡◌, ◌<◌, ◌≤◌, ◌+◌, ◌^◌, ℕ, [], None, Some, false, is_some, length, IfOk, IfNone, IfSome, IsSome, IsTrue, OnOk, OnErr, if◌then◌else◌};
 ghost use Rattle.std.specs.Option.{option_copied};
 ghost use Rattle.inverted_list.specs.Listing.{last_id, with_entry};
 ghost use Rattle.term_dict.specs.Terms.{Sets, bare, entries_of, list_of, list_or_fresh, next_word, is_drained};
-ghost use Rattle.tag_index.specs.Tags.{FieldTags, FieldsRise, TagsRise, SetsTag, tags_of, list_in, entries_in};
+ghost use Rattle.tag_index.specs.Tags.{FieldTags, FieldsRise, TagsRise, SetsTag, tags_of, list_in, entries_in, entries_in_fields};
 
 use ft_base::NoMemory;
 use inverted_list::{List, Markers};
@@ -49,6 +49,15 @@ impl TagLists {
         ensures tags { (field : ℕ) → TagsRise (tags_of self.now field) }
     {
         self.fields.len()
+    }
+
+    /// The number of entries of all lists: none where it is no `u64`. It walks over the fields and their
+    /// tags, and reads no entry.
+    pub fn entries(&self) -> Option<u64>
+        ensures some { IfSome result (λ n. n ≡ entries_in_fields self.now) }
+        ensures none { IfNone result (2 ^ 64 ≤ entries_in_fields self.now) }
+    {
+        entries_in_fields(&self.fields)
     }
 
     /// The list of a field's tag.
@@ -130,6 +139,17 @@ impl TagLists {
     {
         drop_from(&mut self.fields, field, tag)
     }
+}
+
+fn entries_in_fields(fields: &BTreeMap<u16, Dictionary<TagHit>>) -> Option<u64>
+    ensures some { IfSome result (λ n. n ≡ entries_in_fields fields.now.entries) }
+    ensures none { IfNone result (2 ^ 64 ≤ entries_in_fields fields.now.entries) }
+{
+    let mut total: u64 = 0;
+    for (_, tags) in fields {
+        total = total.checked_add(tags.entries()?)?;
+    }
+    Some(total)
 }
 
 // An entry of a tag goes into its field's dictionary, or into one that is made with it.

@@ -40,6 +40,7 @@ fn gives_each_field_lists_of_its_own(rt: HostRuntime) -> Result<(), Fail> {
     let tags: [(u16, &[u8]); 4] = [(2, b"red"), (1, b"red"), (2, b"red"), (258, b"red")];
     let mut lists = filled(rt.alloc(), &tags, &mut markers)?;
     assert_eq!(rt; lists.len(), 3);
+    assert_eq!(rt; lists.entries(), Some(3));
     let cases: [(u16, &[u8], Option<u64>); 6] = [
         (2, b"red", Some(3)),
         (1, b"red", Some(4)),

@@ -1,5 +1,5 @@
 -- What a contract sees of a term dictionary: its words, each with its posting list.
-use Rattle.std.specs.Prelude.{◌≡◌, ◌&&◌, ◌==◌, ℕ, Bool, true, false, List, [], Option, None, Some, eqb, find, length, IfSome}
+use Rattle.std.specs.Prelude.{◌≡◌, ◌&&◌, ◌==◌, ℕ, Bool, true, false, List, [], Option, None, Some, eqb, find, length, sum_by, IfSome}
 use Rattle.std.specs.Cmp.Lexicographic.{slice_cmp}
 use Rattle.std.specs.List.{starts_with}
 use Rattle.std.specs.List.Sorted.{IsStrictlySortedBy}
@@ -32,6 +32,10 @@ module _ {P : Type 0} where
   -- the entries of a word: none where it has no list
   abbrev pub entries_of : Lists P → List ℕ → List (ℕ × P)
   entries_of lists word = unwrap_or (option_map (λ l. l.entries) (list_of lists word)) []
+
+  -- how many entries all lists have together
+  abbrev pub entries_in_all : Lists P → ℕ
+  entries_in_all lists = sum_by (λ row. length row.1.entries) lists
 
   -- The words rise, so none is there twice.
   abbrev pub WordsRise : Lists P → Type 0

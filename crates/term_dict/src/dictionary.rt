@@ -1,12 +1,12 @@
 //! Posting lists by word.
-ghost use Rattle.std.specs.Prelude.{◌≡◌, ◌<◌, ◌≤◌, ◌+◌, [], None, Some, false, is_some, length, IfOk, IfNone, IfSome, IsSome, IsTrue, OnOk, OnErr, if◌then◌else◌};
+ghost use Rattle.std.specs.Prelude.{◌≡◌, ◌<◌, ◌≤◌, ◌+◌, ◌^◌, [], None, Some, false, is_some, length, IfOk, IfNone, IfSome, IsSome, IsTrue, OnOk, OnErr, if◌then◌else◌};
 ghost use Rattle.std.specs.Option.{option_copied};
 ghost use Rattle.std.specs.Map.{keys_of};
 ghost use Rattle.std.specs.Range.Bound.{bound_map};
 ghost use Rattle.inverted_list.specs.Listing.{RisesAbove, last_id, with_entry};
 ghost use Rattle.term_dict.specs.Rows.{lists_of};
 ghost use Rattle.term_dict.specs.Starts.{start_of, words_from, first_with};
-ghost use Rattle.term_dict.specs.Terms.{Sets, WordsRise, IdsRise, list_of, entries_of, bare, fresh_list, list_or_fresh, next_word, is_drained};
+ghost use Rattle.term_dict.specs.Terms.{Sets, WordsRise, IdsRise, list_of, entries_of, entries_in_all, bare, fresh_list, list_or_fresh, next_word, is_drained};
 
 use ft_base::NoMemory;
 use inverted_list::{List, Markers};
@@ -55,6 +55,15 @@ impl<P: Payload> Dictionary<P> {
         ensures ids { IdsRise self.now }
     {
         self.lists.len()
+    }
+
+    /// The number of entries of all lists: none where it is no `u64`. It walks over the words, and reads
+    /// no entry.
+    pub fn entries(&self) -> Option<u64>
+        ensures some { IfSome result (λ n. n ≡ entries_in_all self.now) }
+        ensures none { IfNone result (2 ^ 64 ≤ entries_in_all self.now) }
+    {
+        entries_in_all(&self.lists)
     }
 
     /// The list of a word.
@@ -123,6 +132,17 @@ impl<P: Payload> Dictionary<P> {
     {
         drop_from(&mut self.lists, word)
     }
+}
+
+fn entries_in_all<P: Payload>(lists: &BTreeMap<Vec<u8>, List<P>>) -> Option<u64>
+    ensures some { IfSome result (λ n. n ≡ entries_in_all (lists_of lists.now.entries)) }
+    ensures none { IfNone result (2 ^ 64 ≤ entries_in_all (lists_of lists.now.entries)) }
+{
+    let mut total: u64 = 0;
+    for (_, list) in lists {
+        total = total.checked_add(list.len())?;
+    }
+    Some(total)
 }
 
 // An entry of a word goes behind the others, or into a new list.

@@ -37,6 +37,7 @@ fn finds_words_by_prefix(rt: HostRuntime) -> Result<(), Fail> {
     let words: [&[u8]; 6] = [b"b", b"ab", b"", b"a", b"a\xff", b"abc"];
     let terms = filled(rt.alloc(), &words)?;
     assert_eq!(rt; terms.len(), 6);
+    assert_eq!(rt; terms.entries(), Some(6));
     let cases: [(&[u8], Option<&[u8]>, Option<&[u8]>); 14] = [
         (b"", None, Some(b"")),
         (b"", Some(b""), Some(b"a")),

@@ -154,6 +154,42 @@ fn finds_numbers_and_tags(rt: HostRuntime) -> Result<(), Fail> {
 }
 
 #[test]
+fn tells_of_an_index(rt: HostRuntime) -> Result<(), Fail> {
+    let differs = differs(
+        rt.alloc(),
+        &[
+            ("FT.INFO/ix", "-Unknown index name"),
+            (
+                "FT.INFO",
+                "-ERR wrong number of arguments for 'ft.info' command",
+            ),
+            ("FT.CREATE/ix/SCHEMA/p/NUMERIC", "+OK"),
+            ("FT.CREATE/iy/SCHEMA/t/TEXT", "+OK"),
+            ("HSET/d/p/19.99/t/pen", ":2"),
+            ("FT.SEARCH/ix/*", "*1 :0"),
+            ("FT.SEARCH/iy/pen/NOCONTENT", "*2 :1 $1 d"),
+            (
+                "FT.INFO/ix",
+                "*14 $10 index_name $2 ix $8 prefixes *0 $10 attributes *1 *6 $10 identifier $1 p \
+                 $9 attribute $1 p $4 type $7 NUMERIC $8 num_docs :0 $11 num_records :0 \
+                 $22 hash_indexing_failures :1 $7 cursors :0",
+            ),
+            // A word that stands twice is one record, and what an old version left counts until it is taken out.
+            ("HSET/e/t/pen ink pen", ":1"),
+            ("HSET/e/t/pen", ":0"),
+            (
+                "ft.info/iy",
+                "*14 $10 index_name $2 iy $8 prefixes *0 $10 attributes *1 *7 $10 identifier $1 t \
+                 $9 attribute $1 t $4 type $4 TEXT $6 NOSTEM $8 num_docs :2 $11 num_records :4 \
+                 $22 hash_indexing_failures :0 $7 cursors :0",
+            ),
+        ],
+    )?;
+    assert_eq!(rt; differs.as_str(), "");
+    Ok(())
+}
+
+#[test]
 fn refuses_what_is_no_query(rt: HostRuntime) -> Result<(), Fail> {
     let differs = differs(
         rt.alloc(),

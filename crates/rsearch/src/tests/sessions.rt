@@ -61,11 +61,24 @@ fn the_first_search(rt: HostRuntime) -> Result<(), Fail> {
         ("FT.CREATE|idx|SCHEMA|t|TEXT", "-Index already exists\r\n"),
         ("ft.create|Idx|schema|u|text", "+OK\r\n"),
         ("FT.SEARCH|Idx|hello|NOCONTENT", "*1\r\n:0\r\n"),
-        ("FT.SEARCH|idx|hello world|NOCONTENT", "-ERR not built\r\n"),
-        ("FT.SEARCH|idx|hello", "-ERR not built\r\n"),
+        (
+            "FT.SEARCH|idx|hello world|NOCONTENT",
+            "*2\r\n:1\r\n$2\r\nd1\r\n",
+        ),
+        (
+            "FT.SEARCH|idx|hello -bye",
+            "*3\r\n:1\r\n$2\r\nd1\r\n*2\r\n$1\r\nt\r\n$11\r\nHello world\r\n",
+        ),
+        ("FT.SEARCH|idx|hello (", "-Syntax error at offset 7\r\n"),
         ("FT.CREATE|iy|SCHEMA|t|TAG", "+OK\r\n"),
         ("FT.TAGVALS|iy|t", "*1\r\n$11\r\nhello world\r\n"),
-        ("FT.INFO|iy", "-ERR not built\r\n"),
+        (
+            "FT.INFO|iy",
+            "*14\r\n$10\r\nindex_name\r\n$2\r\niy\r\n$8\r\nprefixes\r\n*0\r\n$10\r\nattributes\r\n*1\r\n*8\r\n\
+             $10\r\nidentifier\r\n$1\r\nt\r\n$9\r\nattribute\r\n$1\r\nt\r\n$4\r\ntype\r\n$3\r\nTAG\r\n$9\r\nSEPARATOR\r\n\
+             $1\r\n,\r\n$8\r\nnum_docs\r\n:1\r\n$11\r\nnum_records\r\n:1\r\n$22\r\nhash_indexing_failures\r\n:0\r\n\
+             $7\r\ncursors\r\n:0\r\n",
+        ),
         ("NOPE", "-ERR unknown command\r\n"),
     ];
     assert_eq!(rt; are_answered(rt.alloc(), &rows)?, true);

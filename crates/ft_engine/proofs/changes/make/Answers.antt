@@ -8,7 +8,7 @@ use Rattle.ft_engine.specs.Preparing.{changed}
 use Rattle.ft_engine.specs.Stands.{state_of}
 use Rattle.ft_engine.specs.declared.prepared.Change.{Change}
 use Rattle.ft_engine.specs.declared.prepared.Change.TheVariants.{Alter, Move, Write}
-use Rattle.ft_engine.proofs.PreparingLaws.{altered-stands, created-step, lent-step, made-before, whole-step}
+use Rattle.ft_engine.proofs.PreparingLaws.{altered-apart, altered-stands, created-step, lent-step, made-before, whole-step}
 use Rattle.ft_engine.proofs.changes.make.Goals as goal
 
 pub settle-requires-clause-kept : goal.settle-requires-clause-kept
@@ -56,9 +56,10 @@ pub returns-in-Alter-clause-kept : goal.returns-in-Alter-clause-kept
 returns-in-Alter-clause-kept c =
     let at = made-before c.args.change (Alter c.in-Alter.index) c.args.number c.in-Alter.is refl c.requires.before in
     let lent = lent-step c.args.store.now c.as_mut_slice-in-Alter.result.now c.args.indexes.now.items (next_number c.args.number) (c.args.number + 1) c.as_mut_slice-in-Alter.ensures.value at c.requires.kept in
+    let apart = altered-apart c.args.change c.in-Alter.index c.args.number c.args.store.now.space c.args.store.now.ready c.args.indexes.now.items c.as_mut_slice-in-Alter.result.now c.in-Alter.is c.as_mut_slice-in-Alter.ensures.value c.requires.ready in
     let stands = altered-stands c.args.change c.in-Alter.index c.args.number c.args.store.now.space c.args.store.now.ready c.args.indexes.now.items c.in-Alter.is c.requires.ready in
     whole-step c.args.store.now c.args.indexes.now.len c.args.indexes.now.items c.replace_index.new.indexes (next_number c.args.number) (c.args.number + 1) (omega (arith, c.replace_index.auto.indexes, c.as_mut_slice-in-Alter.ensures.len)) at
-    (c.replace_index.ensures.kept c.args.store.now (c.args.number + 1) stands lent)
+    (c.replace_index.ensures.kept c.args.store.now (c.args.number + 1) stands apart lent)
 
 pub returns-in-Drop-clause-kept : goal.returns-in-Drop-clause-kept
 returns-in-Drop-clause-kept c = c.drop_index.ensures.kept c.args.store.now (next_number c.args.number) c.requires.kept

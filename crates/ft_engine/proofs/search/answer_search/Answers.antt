@@ -1,6 +1,19 @@
-use Rattle.std.proofs.Common.{sym}
+use Rattle.std.proofs.Common.{arith, sym}
+use Rattle.indexed_store.proofs.NamedLaws.{named-has}
+use Rattle.indexed_store.specs.Standing.{IndexStands, markers_at}
 use Rattle.ft_engine.proofs.SearchLaws.{searches-fault_of, searches-found, searches-none}
 use Rattle.ft_engine.proofs.search.answer_search.Goals as goal
+
+pub found_in-requires-clause-stands : goal.found_in-requires-clause-stands
+found_in-requires-clause-stands c =
+    let here = c.requires.searchable in
+    (named-has (IndexStands c.args.store.now.space here.number (markers_at here.number)) c.args.indexes.now c.args.search.now.index.now c.in-Some.index.now here.step.stand (sym c.in-Some.ensures)).documents
+
+pub found_in-requires-clause-few : goal.found_in-requires-clause-few
+found_in-requires-clause-few c =
+    let here = c.requires.searchable in
+    let stands = named-has (IndexStands c.args.store.now.space here.number (markers_at here.number)) c.args.indexes.now c.args.search.now.index.now c.in-Some.index.now here.step.stand (sym c.in-Some.ensures) in
+    omega (arith, stands.earlier, here.few)
 
 pub returns-in_default-clause-does : goal.returns-in_default-clause-does
 returns-in_default-clause-does c number state all same =
@@ -9,11 +22,11 @@ returns-in_default-clause-does c number state all same =
 pub returns-in-Ok-clause-does : goal.returns-in-Ok-clause-does
 returns-in-Ok-clause-does c number state all same =
     let search = c.args.search.now in
-    searches-found c.args.indexes.now c.in-Some.index.now c.def-def.result.now state number search.index.now search.query.now search.no_content search.params c.put_made.new.out.items c.in-Ok.query c.args.store.now.space
-    c.search_store.result same (sym c.in-Some.ensures) c.def-def.ensures.def all c.in-Ok.ensures.exact c.search_store.ensures.reply c.put_made.ensures.told
+    searches-found c.args.indexes.now c.in-Some.index.now c.def.result.now state number search.index.now search.query.now search.no_content search.params c.put_made.new.out.items c.in-Ok.query c.args.store.now.space
+    c.found_in.result same (sym c.in-Some.ensures) c.def.ensures.def all c.in-Ok.ensures.exact c.found_in.ensures.reply c.put_made.ensures.told
 
 pub returns-in-Err-clause-does : goal.returns-in-Err-clause-does
 returns-in-Err-clause-does c number state all same =
     let search = c.args.search.now in
-    searches-fault_of c.args.indexes.now c.in-Some.index.now c.def-def.result.now state number search.index.now search.query.now search.no_content search.params c.put_query_refusal.new.out.items c.in-Err.fault same
-    (sym c.in-Some.ensures) c.def-def.ensures.def c.in-Err.ensures.exact c.put_query_refusal.ensures.fault
+    searches-fault_of c.args.indexes.now c.in-Some.index.now c.def.result.now state number search.index.now search.query.now search.no_content search.params c.put_query_refusal.new.out.items c.in-Err.fault same
+    (sym c.in-Some.ensures) c.def.ensures.def c.in-Err.ensures.exact c.put_query_refusal.ensures.fault

@@ -1,8 +1,9 @@
 use Rattle.std.specs.Prelude.{◌≡◌, ◌<◌, ◌≤◌, length}
 use Rattle.indexed_store.specs.Definitions.{failures_over}
 use Rattle.indexed_store.specs.Filling.{beyond, upto}
-use Rattle.ft_index.specs.Kept.{AreBefore}
+use Rattle.index_lists.specs.Markers.{AreBefore}
 use Rattle.ft_index.specs.Index.{Indexes, IsIndex}
+use Rattle.indexed_store.specs.Standing.{AreOfEvent}
 use Rattle.indexed_store.proofs.filling.fill.Given as goal
 
 -- the index has the documents with ids so far
@@ -12,7 +13,8 @@ invariant-filling l = record {
   indexed : l.index.table.last ≤ l.after;
   earlier : l.after < l.fn.markers.event;
   sound : IsIndex l.index;
-  before : AreBefore l.markers l.index.terms;
+  before : AreBefore l.markers l.index.lists;
+  given : AreOfEvent l.fn.markers.event l.index;
   failures : l.index.failures ≡ failures_over l.fn.index.def (upto l.after l.fn.store.space) l.fn.index.failures;
   def : l.index.def ≡ l.fn.index.def;
   space : l.store.space ≡ l.fn.store.space;

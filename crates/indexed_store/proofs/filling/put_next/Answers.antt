@@ -4,11 +4,13 @@ use Rattle.ft_base.specs.declared.definition.IndexDef.{IndexDef}
 use Rattle.ft_index.specs.Fits.{fit_of}
 use Rattle.ft_meaning.specs.Member.{failures_with}
 use Rattle.indexed_store.specs.Definitions.{Defined, failures_over}
-use Rattle.indexed_store.proofs.StepLaws.{defined-committed}
-use Rattle.std.proofs.Common.{◌∙◌, ap, sym, subst, arith}
+use Rattle.indexed_store.proofs.StepLaws.{defined-committed, lists-committed}
+use Rattle.std.proofs.Common.{◌∙◌, ap, sym, subst, inl, inr, arith}
+use Rattle.index_lists.specs.Lists.{AllLists}
+use Rattle.index_lists.specs.Markers.{HasMarker}
 use Rattle.ft_base.specs.declared.doc.Doc.{Doc}
 use Rattle.indexed_store.specs.Filling.{beyond, upto}
-use Rattle.ft_index.specs.Index.{Index, Indexes, IsIndex}
+use Rattle.ft_index.specs.Index.{Index, Indexes, IsIndex, committed}
 use Rattle.ft_index.proofs.MemberLaws.{index-committed}
 use Rattle.ft_index.specs.declared.ready.Ready.{Ready}
 use Rattle.ft_meaning.specs.Meaning.{ValuesFit}
@@ -31,7 +33,7 @@ returns-clause-stands c =
     let next = next-found c.args.after c.args.store.now.space c.in-Some.doc.now c.requires.documents.rise (sym c.in-Some.ensures.found) in
     let seen = c.in_ok-ready.ensures.seen (upto c.args.after c.args.store.now.space) c.requires.stands in
     subst (λ (index : Index). Indexes index (upto c.in_ok-ready.ready.id c.args.store.now.space)) (sym c.commit.ensures)
-    (subst (Indexes _) (sym (ap (λ (id : ℕ). upto id c.args.store.now.space) (ap (λ (r : Ready). r.id) c.in_ok-ready.ensures.ready) ∙ next.first)) seen)
+    (subst (Indexes (committed c.prepare.new.self)) (sym (ap (λ (id : ℕ). upto id c.args.store.now.space) (ap (λ (r : Ready). r.id) c.in_ok-ready.ensures.ready) ∙ next.first)) seen)
 
 pub returns-clause-earlier : goal.returns-clause-earlier
 returns-clause-earlier c =
@@ -61,3 +63,11 @@ returns-clause-failures c first before =
     ∙ (ap (λ (d : IndexDef). failures_with d c.in-Some.doc.now c.prepare.new.self.failures) c.prepare.ensures.def ∙ ap (failures_with def c.in-Some.doc.now) (c.prepare.ensures.failures ∙ before))) in
     let same = ap (λ (r : Ready). upto r.id docs) c.in_ok-ready.ensures.ready ∙ next.first in
     counted ∙ (sym (fold-append (λ count doc. failures_with def doc count) first (upto c.args.after docs) (c.in-Some.doc.now ∷ [])) ∙ sym (ap (λ (ds : List Doc). failures_over def ds first) same))
+
+pub returns-in_err-ready-clause-given : goal.returns-in_err-ready-clause-given
+returns-in_err-ready-clause-given c marker has = elim (c.prepare.ensures.gains marker has) [ inl old ↦ c.requires.given marker old | inr given ↦ given.event ]
+
+pub returns-clause-given : goal.returns-clause-given
+returns-clause-given c marker has =
+    let same : c.commit.new.self.lists ≡ c.prepare.new.self.lists = ap (λ (index : Index). index.lists) c.commit.ensures ∙ lists-committed c.prepare.new.self.waits c.prepare.new.self in
+    elim (c.prepare.ensures.gains marker (subst (λ (lists : AllLists). HasMarker lists marker) same has)) [ inl old ↦ c.requires.given marker old | inr given ↦ given.event ]

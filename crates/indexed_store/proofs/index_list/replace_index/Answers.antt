@@ -3,6 +3,7 @@ use Rattle.std.proofs.Common.{◌∙◌, ap, sym}
 use Rattle.ft_base.specs.declared.definition.IndexDef.{IndexDef}
 use Rattle.indexed_store.specs.Named.{is_named}
 use Rattle.indexed_store.specs.Standing.{IndexStands, markers_at}
+use Rattle.indexed_store.proofs.ApartLaws.{apart-set}
 use Rattle.indexed_store.proofs.IndexingLaws.{all-set}
 use Rattle.indexed_store.proofs.NamedLaws.{place-is, replaced-none, replaced-one}
 use Rattle.indexed_store.proofs.index_list.replace_index.Goals as goal
@@ -13,10 +14,11 @@ returns-in-Some-clause-definitions c =
     (ap (λ (name : List ℕ). position (is_named name) c.args.indexes.now) (sym (c.as_slice.ensures ∙ ap (λ (d : IndexDef). d.name) c.def.ensures.def)) ∙ (sym c.place_of.ensures ∙ c.in-Some.is))
 
 pub returns-in-Some-clause-kept : goal.returns-in-Some-clause-kept
-returns-in-Some-clause-kept c store next stands step = record {
+returns-in-Some-clause-kept c store next stands others step = record {
   last = step.last;
   documents = step.documents;
   stand = all-set (IndexStands store.space next (markers_at next)) c.args.indexes.now c.in-Some.place c.args.index (place-is (is_named _) c.args.indexes.now c.in-Some.place (sym c.in-Some.ensures)).1 stands (λ k d apart short. step.stand k d short);
+  apart = apart-set c.args.indexes.now c.in-Some.place c.args.index (place-is (is_named _) c.args.indexes.now c.in-Some.place (sym c.in-Some.ensures)).1 (λ k d differ short. others k d short) step.apart;
 }
 
 pub returns-in_default-clause-definitions : goal.returns-in_default-clause-definitions

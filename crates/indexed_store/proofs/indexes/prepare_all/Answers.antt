@@ -8,6 +8,7 @@ use Rattle.inverted_list.proofs.ReachLaws.{le_or_lt}
 use Rattle.indexed_store.specs.Indexing.{Awaits}
 use Rattle.indexed_store.specs.Standing.{IndexStands}
 use Rattle.ft_index.specs.Index.{Index}
+use Rattle.indexed_store.proofs.ApartLaws.{apart-prepared}
 use Rattle.indexed_store.proofs.IndexingLaws.{all-set, prepared, set-above, set-below, stands-later}
 use Rattle.indexed_store.proofs.indexes.prepare_all.Goals as goal
 
@@ -27,6 +28,13 @@ returns-in_err-prepare-clause-stand g c =
       | inl more ↦ stands-later g.space c.args.doc.now.id (c.args.doc.now.id + 1) c.loop-index.markers c.prepare.new.markers (slice_index_or c.loop-index.indexes k d) (omega arith) later (c.loop-index.invariant.left k d more short)
       | inr less ↦ stands-later g.space (c.args.doc.now.id + 1) (c.args.doc.now.id + 1) c.loop-index.markers c.prepare.new.markers (slice_index_or c.loop-index.indexes k d) (omega arith) later (c.loop-index.invariant.done k d less).0
     ])
+
+pub returns-in_err-prepare-clause-apart : goal.returns-in_err-prepare-clause-apart
+returns-in_err-prepare-clause-apart g c =
+    let at = c.loop-index.index-index in
+    let within : at < length c.loop-index.indexes = omega (arith, c.loop-index-test.true, c.loop-index.auto.indexes) in
+    apart-prepared c.loop-index.indexes at c.index-item.result c.prepare.new.self c.loop-index.markers c.prepare.new.markers within c.prepare.ensures.gains
+    (λ k d short. elim (le_or_lt at k) [ inl more ↦ (c.loop-index.invariant.left k d more short).before | inr less ↦ (c.loop-index.invariant.done k d less).0.before ]) c.loop-index.invariant.apart
 
 pub returns-in_err-prepare-clause-definitions : goal.returns-in_err-prepare-clause-definitions
 returns-in_err-prepare-clause-definitions g c =
@@ -53,5 +61,7 @@ loop-index-preserved g c =
           (λ j e above there. stands-later g.space c.args.doc.now.id c.args.doc.now.id c.loop-index.markers c.prepare.new.markers (slice_index_or c.loop-index.indexes j e) (omega arith) later (c.loop-index.invariant.left j e (omega (arith, above)) there)) k d (omega (arith, more)) short;
       definitions = map-set_same defined c.loop-index.indexes at c.prepare.new.self c.index-item.result (same_defined (slice_index_or c.loop-index.indexes c.loop-index.index-index c.index-item.result) c.prepare.new.self c.prepare.ensures.def c.prepare.ensures.failures)
           ∙ c.loop-index.invariant.definitions;
+      apart = apart-prepared c.loop-index.indexes at c.index-item.result c.prepare.new.self c.loop-index.markers c.prepare.new.markers within c.prepare.ensures.gains
+          (λ k d short. elim (le_or_lt at k) [ inl more ↦ (c.loop-index.invariant.left k d more short).before | inr less ↦ (c.loop-index.invariant.done k d less).0.before ]) c.loop-index.invariant.apart;
       event = c.prepare.ensures.event ∙ c.loop-index.invariant.event;
     }

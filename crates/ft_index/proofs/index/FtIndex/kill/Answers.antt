@@ -14,5 +14,6 @@ invariant_of-self c =
 
 pub returns-clause-docs : goal.returns-clause-docs
 returns-clause-docs c docs stands =
+    let inside = the_view c.self.inside in
     let before = subst (λ (i : Index). Indexes i docs) (sym c.self.view_is) stands in
-    indexes-gone (the_view c.self.inside) _ c.args.id docs refl refl (ap (λ (t : Table). t.live) c.kill.ensures.gone) c.self.invariant.0.kept before
+    indexes-gone inside (record inside { table = c.kill.new.self }) c.args.id docs refl refl (ap (λ (t : Table). t.live) c.kill.ensures.gone) c.self.invariant.0.kept before

@@ -1,14 +1,14 @@
 -- A document that is no member changes nothing that is seen; a member enters the lists.
-use Rattle.std.proofs.Common.{◌≡◌, ◌<◌, ◌∙◌, ◌⊎◌, Some, ap, sym, subst, inl, inr, refl, arith}
+use Rattle.std.proofs.Common.{ℕ, List, ◌≡◌, ◌∙◌, ◌⊎◌, Some, ap, sym, subst, inl, inr, refl, arith}
+use Rattle.ft_meaning.specs.Member.{members}
+use Rattle.index_lists.specs.Has.{Has}
 use Rattle.ft_index.specs.Fits.{fit_of}
 use Rattle.ft_index.specs.Index.{Index, Indexes}
-use Rattle.ft_index.specs.Kept.{AreBefore, GainsMarkers}
+use Rattle.index_lists.specs.Markers.{AreBefore, GainsMarkers}
 use Rattle.ft_index.specs.contracts.index.FtIndex.{the_view}
 use Rattle.ft_index.specs.declared.ready.Fit.{Fit}
 use Rattle.ft_index.specs.declared.ready.Fit.TheVariants.{Member, NoPrefix, Failed}
 use Rattle.ft_index.specs.declared.ready.Ready.{Ready}
-use Rattle.ft_index.proofs.GainsLaws.{gains-none}
-use Rattle.ft_index.proofs.IndexLaws.{unseen}
 use Rattle.ft_index.proofs.MemberLaws.{indexes-same, seen-member, seen-other}
 use Rattle.ft_index.proofs.index.FtIndex.prepare.Goals as goal
 
@@ -32,35 +32,34 @@ returns-in-NoPrefix c =
           seen-other inside now ready c.args.doc.now docs refl refl refl refl c.fit_of-fit.ensures other (subst (λ (i : Index). Indexes i docs) (sym c.self.view_is) stands);
       last = omega (arith, c.requires.id, ap (λ (i : Index). i.table.last) c.self.view_is);
       sound = record { kept = c.self.invariant.0.kept; waits = λ is. absurd (no-member c.fit_of-fit.result c.in-NoPrefix.is is); counted = c.self.invariant.0.counted };
-      before = subst (λ (i : Index). AreBefore c.args.markers.now i.terms) (sym c.self.view_is) c.requires.markers;
-      gains = subst (λ (i : Index). GainsMarkers i.terms inside.terms c.args.markers.now c.args.markers.now) c.self.view_is (gains-none inside.terms c.args.markers.now c.args.markers.now);
+      before = subst (λ (i : Index). AreBefore c.args.markers.now i.lists) (sym c.self.view_is) c.requires.markers;
+      gains = subst (λ (i : Index). GainsMarkers i.lists inside.lists c.args.markers.now c.args.markers.now) c.self.view_is (λ marker has. inl has);
       event = refl;
       next = omega arith;
     }
 
 pub enter-requires-clause-markers : goal.enter-requires-clause-markers
-enter-requires-clause-markers c = subst (λ (i : Index). AreBefore c.args.markers.now i.terms) (sym c.self.view_is) c.requires.markers
+enter-requires-clause-markers c = subst (λ (i : Index). AreBefore c.args.markers.now i.lists) (sym c.self.view_is) c.requires.markers
 
 pub returns-in_err-enter-clause-unseen : goal.returns-in_err-enter-clause-unseen
 returns-in_err-enter-clause-unseen c docs stands =
     let inside = the_view c.self.inside in
     let before : Indexes inside docs = subst (λ (i : Index). Indexes i docs) (sym c.self.view_is) stands in
-    let later : inside.table.last < c.args.doc.now.id = subst (λ (i : Index). i.table.last < c.args.doc.now.id) (sym c.self.view_is) c.requires.id in
-    unseen inside _ c.args.doc.now.id _ refl c.in_err-enter.ensures.live c.in_err-enter.ensures.grown c.self.invariant.0.kept later before
+    let has = c.enter.ensures.unseen (members inside.def docs) before in
+    subst (λ (rows : List (ℕ × List ℕ)). Has inside.def rows c.enter.new.lists (members inside.def docs)) (sym c.enter.ensures.live) has
 
 pub returns-clause-unseen : goal.returns-clause-unseen
 returns-clause-unseen c docs stands =
     let inside = the_view c.self.inside in
     let before : Indexes inside docs = subst (λ (i : Index). Indexes i docs) (sym c.self.view_is) stands in
-    let later : inside.table.last < c.args.doc.now.id = subst (λ (i : Index). i.table.last < c.args.doc.now.id) (sym c.self.view_is) c.requires.id in
-    unseen inside _ c.args.doc.now.id _ refl c.enter.ensures.live c.enter.ensures.grown c.self.invariant.0.kept later before
+    let has = c.enter.ensures.unseen (members inside.def docs) before in
+    subst (λ (rows : List (ℕ × List ℕ)). Has inside.def rows c.enter.new.lists (members inside.def docs)) (sym c.enter.ensures.live) has
 
 pub returns-clause-seen : goal.returns-clause-seen
 returns-clause-seen c docs stands =
     let inside = the_view c.self.inside in
     let ready : Ready = record { id = c.args.doc.now.id; fit = c.fit_of-fit.result } in
-    let now : Index = record inside { table = c.enter.new.table; terms = c.enter.new.terms; waits = Some ready } in
+    let now : Index = record inside { table = c.enter.new.table; lists = c.enter.new.lists; waits = Some ready } in
     let before : Indexes inside docs = subst (λ (i : Index). Indexes i docs) (sym c.self.view_is) stands in
-    let later : inside.table.last < c.args.doc.now.id = subst (λ (i : Index). i.table.last < c.args.doc.now.id) (sym c.self.view_is) c.requires.id in
-    seen-member inside now ready c.args.doc.now docs refl c.in_ok-enter.ensures.waits c.in_ok-enter.ensures.entries refl c.fit_of-fit.ensures (sym c.fit_of-fit.ensures ∙ c.in-Member.is)
-    c.self.invariant.0.kept later before
+    seen-member inside now ready c.args.doc.now docs refl c.in_ok-enter.ensures.waits refl c.fit_of-fit.ensures (sym c.fit_of-fit.ensures ∙ c.in-Member.is)
+    (c.in_ok-enter.ensures.seen (members inside.def docs) before)

@@ -1,0 +1,10 @@
+use Rattle.std.proofs.lemmas.Result.{on_ok_weaker}
+use Rattle.ft_index.proofs.IndexLaws.{dead-yet}
+use Rattle.ft_index.proofs.entering.enter.Goals as goal
+
+pub returns-clause-unseen : goal.returns-clause-unseen
+returns-clause-unseen c docs has =
+    c.add.ensures.unseen c.args.table.now.live docs (dead-yet c.args.table.now c.args.lists.now c.args.doc.now.id c.requires.kept c.requires.later) has
+
+pub returns-clause-seen : goal.returns-clause-seen
+returns-clause-seen c = on_ok_weaker c.add.result (λ seen docs has. seen c.args.table.now.live docs has) c.add.ensures.seen

@@ -1,0 +1,40 @@
+-- What is told of an index (RediSearch, FT.INFO, of which it has seven fields).
+use Rattle.std.specs.Prelude.{ℕ, pos, List, [], ◌∷◌, ◌++◌, map, Bool, codes, if◌then◌else◌}
+use Rattle.ft_base.specs.declared.definition.Field.{Field}
+use Rattle.ft_base.specs.declared.definition.FieldKind.{FieldKind}
+use Rattle.ft_base.specs.declared.definition.FieldKind.TheVariants.{Text, Tag, Numeric}
+use Rattle.ft_base.specs.declared.definition.IndexDef.{IndexDef}
+use Rattle.ft_base.specs.declared.reply.Reply.{Reply}
+use Rattle.ft_base.specs.declared.reply.Reply.TheVariants.{Array, Bulk, Number}
+use Rattle.index_info.specs.declared.info.Counts.{Counts}
+
+-- a word where something is declared
+abbrev pub word_if : Bool → List ℕ → List Reply
+word_if declared word = if declared then Bulk word ∷ [] else []
+
+-- the kind of a field, and what belongs to the kind
+abbrev pub kind_words : FieldKind → List Reply
+kind_words Text = Bulk (codes "TEXT") ∷ Bulk (codes "NOSTEM") ∷ []
+kind_words (Tag separator case) =
+    Bulk (codes "TAG") ∷ Bulk (codes "SEPARATOR") ∷ Bulk (separator ∷ []) ∷ word_if case (codes "CASESENSITIVE")
+kind_words Numeric = Bulk (codes "NUMERIC") ∷ []
+
+-- the field of the hash, the alias, the kind, and the options as they were declared
+abbrev pub attribute : Field → Reply
+attribute field = Array (
+    Bulk (codes "identifier") ∷ Bulk field.name ∷ Bulk (codes "attribute") ∷ Bulk field.alias ∷ Bulk (codes "type")
+    ∷ (kind_words field.kind ++ word_if field.sortable (codes "SORTABLE") ++ word_if field.unf (codes "UNF") ++ word_if field.noindex (codes "NOINDEX"))
+    )
+
+-- what FT.INFO tells of an index with these counts
+abbrev pub info_reply : IndexDef → Counts → Reply
+info_reply def counts = Array (
+    Bulk (codes "index_name") ∷ Bulk def.name
+    ∷ Bulk (codes "prefixes") ∷ Array (map Bulk def.prefixes)
+    ∷ Bulk (codes "attributes") ∷ Array (map attribute def.fields)
+    ∷ Bulk (codes "num_docs") ∷ Number (pos counts.docs)
+    ∷ Bulk (codes "num_records") ∷ Number (pos counts.records)
+    ∷ Bulk (codes "hash_indexing_failures") ∷ Number (pos counts.failures)
+    ∷ Bulk (codes "cursors") ∷ Number (pos counts.cursors)
+    ∷ []
+    )

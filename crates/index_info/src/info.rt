@@ -1,0 +1,71 @@
+//! The reply as a whole.
+ghost use Rattle.std.specs.Prelude.{◌≡◌, ◌<◌, ◌^◌, ◌∷◌, ◌++◌, [], codes, map, pos, IfOk, IsTrue, OnOk};
+ghost use Rattle.ft_base.specs.Reply.{fits_wire};
+ghost use Rattle.ft_base.specs.declared.reply.Reply.TheVariants.{Array, Bulk, Number};
+ghost use Rattle.index_info.specs.Info.{info_reply};
+
+use crate::attributes::attributes;
+use crate::words::push_pair;
+use ft_base::{Bytes, IndexDef, ListOf, NoMemory, Reply};
+use std::alloc::Global;
+
+/// How many documents an index has, how many entries its lists have, how often a hash failed to be
+/// indexed, and how many cursors are open on it.
+#[derive(Clone, Copy, Debug, PartialEq, Eq)]
+pub struct Counts {
+    pub docs: u64,
+    pub records: u64,
+    pub failures: u64,
+    pub cursors: u64,
+}
+
+/// What FT.INFO tells of an index with these counts.
+pub fn info_reply(alloc: Global, def: &IndexDef, counts: Counts) -> Result<Reply, NoMemory>
+    requires docs { counts.docs < 2 ^ 63 }
+    requires records { counts.records < 2 ^ 63 }
+    requires failures { counts.failures < 2 ^ 63 }
+    requires cursors { counts.cursors < 2 ^ 63 }
+    ensures reply { IfOk result (λ reply. reply ≡ info_reply def.now counts) }
+    ensures fits { IfOk result (λ reply. IsTrue (fits_wire reply)) }
+{
+    let name = def.name.clone()?;
+    let prefixes = bulks(alloc, def.prefixes.as_slice())?;
+    let fields = attributes(alloc, def.fields.as_slice())?;
+    let mut replies = Vec::new(alloc);
+    push_pair(alloc, &mut replies, b"index_name", Reply::Bulk(name))?;
+    push_pair(alloc, &mut replies, b"prefixes", prefixes)?;
+    push_pair(alloc, &mut replies, b"attributes", fields)?;
+    push_count(alloc, &mut replies, b"num_docs", counts.docs)?;
+    push_count(alloc, &mut replies, b"num_records", counts.records)?;
+    push_count(
+        alloc,
+        &mut replies,
+        b"hash_indexing_failures",
+        counts.failures,
+    )?;
+    push_count(alloc, &mut replies, b"cursors", counts.cursors)?;
+    Ok(Reply::Array(ListOf::from_vec(replies)))
+}
+
+fn bulks(alloc: Global, texts: &[Bytes]) -> Result<Reply, NoMemory>
+    ensures reply { IfOk result (λ reply. reply ≡ Array (map Bulk texts.now)) }
+    ensures fits { IfOk result (λ reply. IsTrue (fits_wire reply)) }
+{
+    let mut replies = Vec::new(alloc);
+    for text in texts {
+        replies.push(Reply::Bulk(text.clone()?))?;
+    }
+    Ok(Reply::Array(ListOf::from_vec(replies)))
+}
+
+fn push_count(
+    alloc: Global,
+    replies: &mut Vec<Reply>,
+    name: &[u8],
+    count: u64,
+) -> Result<(), NoMemory>
+    requires { count < 2 ^ 63 }
+    ensures { OnOk result (replies.new.items ≡ replies.old.items ++ Bulk name.now ∷ Number (pos count) ∷ []) }
+{
+    push_pair(alloc, replies, name, Reply::Number(count as i64))
+}

@@ -1,0 +1,16 @@
+pub mod AddingLaws
+pub mod AliveLaws
+pub mod CollectedLaws
+pub mod CountLaws
+pub mod FieldLaws
+pub mod ListLaws
+pub mod ListsLaws
+pub mod NumberLaws
+pub mod OutcomeLaws
+pub mod PartedLaws
+pub mod RangeLaws
+pub mod RecordsLaws
+pub mod SlotLaws
+pub mod TagLaws
+pub mod TakingLaws
+pub mod WordLaws

@@ -1,0 +1,12 @@
+pub mod Adding
+pub mod Collected
+pub mod Entries
+pub mod Has
+pub mod Lists
+pub mod Markers
+pub mod Numbering
+pub mod Records
+pub mod Tagging
+pub mod Taking
+pub mod UpTo
+pub mod Without

@@ -1,0 +1,14 @@
+pub mod AnyLaws
+pub mod TokenLaws
+pub mod CodeLaws
+pub mod EntryLaws
+pub mod WordLaws
+pub mod FieldLaws
+pub mod PrefixLaws
+pub mod TagLaws
+pub mod RangeLaws
+pub mod MeetLaws
+pub mod NameLaws
+pub mod UnionLaws
+pub mod PlanLaws
+pub mod FoundLaws

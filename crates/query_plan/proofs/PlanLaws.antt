@@ -1,0 +1,234 @@
+-- What the sets of a query's parts tell of documents.
+use Rattle.std.proofs.Common.{◌≡◌, ℕ, ℤ, ◌<◌, ◌≤◌, Bool, true, false, not, ◌&&◌, ◌||◌, List, [], ◌∷◌, ◌++◌, map, length, Option, Some, None, IsTrue, ◌↔◌, refl, sym, ap, ◌∙◌, subst, arith}
+use Rattle.std.specs.Prelude.{int_le, negsuc}
+use Rattle.std.specs.List.{list_all, list_any}
+use Rattle.std.proofs.lemmas.Bool.{le-leb}
+use Rattle.std.proofs.lemmas.List.{map-append}
+use Rattle.std.proofs.lemmas.List.Folds.{list_all-map}
+use Rattle.ft_base.specs.declared.definition.Field.{Field}
+use Rattle.ft_base.specs.declared.definition.IndexDef.{IndexDef}
+use Rattle.ft_base.specs.declared.doc.Doc.{Doc}
+use Rattle.ft_base.specs.declared.query.Fields.{Fields}
+use Rattle.ft_base.specs.declared.query.Query.{Query}
+use Rattle.ft_base.specs.declared.query.Query.TheFolds.{fold-roll-Query}
+use Rattle.ft_base.specs.declared.query.Query.TheOpen as layer
+use Rattle.ft_base.specs.declared.query.Query.TheVariants as query
+use Rattle.ft_base.specs.declared.query.TagPart.{TagPart}
+use Rattle.ft_meaning.specs.Holds.{Has, has_of, has_phrase, holds, holds_by, holds_step, named, searched}
+use Rattle.ft_meaning.specs.Meaning.{field_tokens, has_words}
+use Rattle.id_iters.specs.Entries.{codes_at, phrase_has, stand_together}
+use Rattle.id_iters.specs.Held.{Held, codes_of}
+use Rattle.id_iters.specs.Leaves.{list_has, list_names, phrase_ids, word_entries}
+use Rattle.id_iters.specs.Ready.{Ready}
+use Rattle.id_iters.specs.declared.list_name.ListName.{ListName}
+use Rattle.id_iters.specs.declared.list_name.ListName.TheVariants as names
+use Rattle.id_iters.specs.declared.phrase.PhraseIter.{PhraseIter}
+use Rattle.index_lists.specs.Lists.{AllLists, rows_of}
+use Rattle.numeric_ranges.specs.Ranges.{IsPartition, Rows, meets}
+use Rattle.phrase_match.specs.Phrase.{within}
+use Rattle.tag_index.specs.Tags.{tags_of}
+use Rattle.query_plan.specs.Plans.{AllReady, AllTell, Joins, Tells, ids_of, some_has}
+use Rattle.query_plan.specs.Sought.{all_sought, rows_from, words_with}
+use Rattle.query_plan.specs.declared.size.Planned.{Planned}
+use Rattle.query_plan.proofs.AnyLaws.{any_cong, any_filter_and, any_map}
+use Rattle.query_plan.proofs.MeetLaws.{no_range_meets, phrase_meets, prefix_meets, range_meets, tags_meet, word_meets}
+use Rattle.query_plan.proofs.NameLaws.{range_name}
+
+module _ (def : IndexDef) (lists : AllLists) (held : Held) where
+  -- ---- parts that read lists
+
+  pub word_tells : (looked : Fields) (text : List ℕ) (low high : ℤ) (ids : ℕ → Bool) → ids ≡ list_has held (names.Word text) looked low high
+      → Tells def lists held (λ doc. (has_of def doc).word looked text) ids
+  word_tells looked text low high ids same = record {
+    at = λ live docs doc are among.
+        ap (λ (set : ℕ → Bool). set doc.id) same ∙ word_meets def lists held live docs are doc among looked text;
+  }
+
+  pub prefix_tells : (looked : Fields) (text : List ℕ) (low high : ℤ) (found : List ListName) (ids : ℕ → Bool)
+      → ids ≡ some_has held found looked low high → found ≡ map (λ word. names.Word word) (words_with text lists.words)
+      → Tells def lists held (λ doc. (has_of def doc).prefix looked text) ids
+  prefix_tells looked text low high found ids same named = record {
+    at = λ live docs doc are among.
+        ap (λ (set : ℕ → Bool). set doc.id) same
+        ∙ ap (λ ns. some_has held ns looked low high doc.id) named
+        ∙ any_map (λ name. list_has held name looked low high doc.id) (λ word. names.Word word) (words_with text lists.words)
+        ∙ prefix_meets def lists held live docs are doc among looked text;
+  }
+
+  pub tags_tell : (field : ℕ) (parts : List TagPart) (looked : Fields) (low high : ℤ) (found : List ListName) (ids : ℕ → Bool)
+      → ids ≡ some_has held found looked low high → found ≡ map (λ tag. names.Tag field tag) (all_sought (tags_of lists.tags field) parts)
+      → Tells def lists held (λ doc. (has_of def doc).tags field parts) ids
+  tags_tell field parts looked low high found ids same named = record {
+    at = λ live docs doc are among.
+        ap (λ (set : ℕ → Bool). set doc.id) same
+        ∙ ap (λ ns. some_has held ns looked low high doc.id) named
+        ∙ any_map (λ name. list_has held name looked low high doc.id) (λ tag. names.Tag field tag) (all_sought (tags_of lists.tags field) parts)
+        ∙ tags_meet def lists held live docs are doc among field parts;
+  }
+
+  pub range_tells : (field : ℕ) (low high : ℤ) (looked : Fields) (rows : Rows) (from to : ℕ) (found : List ListName) (ids : ℕ → Bool)
+      → ids ≡ some_has held found looked low high → found ≡ map (range_name field) (rows_from rows from to)
+      → rows_of lists.ranges field ≡ Some rows → IsPartition rows → int_le (negsuc 9223372036854775807) low ≡ true
+      → ((i : ℕ) → i < length rows → ((from ≤ i) × (i < to)) ↔ IsTrue (meets rows i low high))
+      → Tells def lists held (λ doc. (has_of def doc).range field low high) ids
+  range_tells field low high looked rows from to found ids same named there partition bound met = record {
+    at = λ live docs doc are among.
+        ap (λ (set : ℕ → Bool). set doc.id) same
+        ∙ ap (λ ns. some_has held ns looked low high doc.id) named
+        ∙ any_map (λ name. list_has held name looked low high doc.id) (range_name field) (rows_from rows from to)
+        ∙ range_meets def lists held live docs are doc among field low high rows from to there partition bound met;
+  }
+
+  -- the same where the ends are known by equations
+  pub range_tells_as : (field : ℕ) (low high l h : ℤ) (looked : Fields) (rows : Rows) (from to : ℕ) (found : List ListName) (ids : ℕ → Bool) → l ≡ low → h ≡ high
+      → ids ≡ some_has held found looked l h → found ≡ map (range_name field) (rows_from rows from to)
+      → rows_of lists.ranges field ≡ Some rows → IsPartition rows → int_le (negsuc 9223372036854775807) low ≡ true
+      → ((i : ℕ) → i < length rows → ((from ≤ i) × (i < to)) ↔ IsTrue (meets rows i l h))
+      → Tells def lists held (λ doc. (has_of def doc).range field low high) ids
+  range_tells_as field low high l h looked rows from to found ids is_low is_high same named there partition bound met =
+      range_tells field low high looked rows from to found ids
+      (same ∙ ap (λ n. some_has held found looked n h) is_low ∙ ap (λ n. some_has held found looked low n) is_high)
+      named there partition bound
+      (λ i within. subst (λ (n : ℤ). ((from ≤ i) × (i < to)) ↔ IsTrue (meets rows i low n)) is_high
+      (subst (λ (n : ℤ). ((from ≤ i) × (i < to)) ↔ IsTrue (meets rows i n h)) is_low (met i within)))
+
+  pub no_range_tells : (field : ℕ) (low high : ℤ) (ids : ℕ → Bool) → ids ≡ (λ id. false) → rows_of lists.ranges field ≡ None
+      → Tells def lists held (λ doc. (has_of def doc).range field low high) ids
+  no_range_tells field low high ids same none = record {
+    at = λ live docs doc are among.
+        ap (λ (set : ℕ → Bool). set doc.id) same ∙ no_range_meets def lists held live docs are doc among field low high none;
+  }
+
+  pub phrase_tells : (phrase : PhraseIter) (looked : Fields) (words : List (List ℕ)) (slop : Option ℕ) (in_order : Bool) (ids : ℕ → Bool)
+      → 0 < length words → ids ≡ phrase_ids held phrase → list_names phrase.words ≡ map (λ word. names.Word word) words
+      → phrase.fields ≡ looked → phrase.slop ≡ slop → phrase.in_order ≡ in_order
+      → Tells def lists held (λ doc. (has_of def doc).phrase looked words slop in_order) ids
+  phrase_tells phrase looked [] slop in_order ids some same named is_looked is_slop is_order = absurd (omega (arith, some))
+  phrase_tells phrase looked (word ∷ words) slop in_order ids some same named is_looked is_slop is_order = record {
+    at = λ live docs doc are among.
+        ap (λ (set : ℕ → Bool). set doc.id) same
+        ∙ ap (λ ns. phrase_has phrase.fields phrase.slop phrase.in_order (map (word_entries held) ns) doc.id) named
+        ∙ ap (λ l. phrase_has l phrase.slop phrase.in_order (map (word_entries held) (map (λ w. names.Word w) (word ∷ words))) doc.id) is_looked
+        ∙ ap (λ s. phrase_has looked s phrase.in_order (map (word_entries held) (map (λ w. names.Word w) (word ∷ words))) doc.id) is_slop
+        ∙ ap (λ o. phrase_has looked slop o (map (word_entries held) (map (λ w. names.Word w) (word ∷ words))) doc.id) is_order
+        ∙ ap (λ cs. stand_together looked slop in_order cs) (codes_are doc.id (word ∷ words))
+        ∙ phrase_meets def lists held live docs are doc among looked word words slop in_order;
+  }
+    where
+      codes_are : (id : ℕ) (ws : List (List ℕ)) → map (λ entries. codes_at entries id) (map (word_entries held) (map (λ w. names.Word w) ws)) ≡ map (λ w. codes_of held w id) ws
+      codes_are id [] = refl
+      codes_are id (w ∷ ws) = ap (λ rest. codes_of held w id ∷ rest) (codes_are id ws)
+
+  -- without a word a phrase stands in each field that is searched
+  pub no_words_tell : (looked : Fields) (words : List (List ℕ)) (slop : Option ℕ) (in_order : Bool) (ids : ℕ → Bool) → length words ≡ 0
+      → ids ≡ (λ id. list_any has_words (named def looked))
+      → Tells def lists held (λ doc. (has_of def doc).phrase looked words slop in_order) ids
+  no_words_tell looked (word ∷ words) slop in_order ids none same = absurd (omega (arith, none))
+  no_words_tell looked [] slop in_order ids none same = record {
+    at = λ live docs doc are among. ap (λ (set : ℕ → Bool). set doc.id) same ∙ each doc;
+  }
+    where
+      stands : (s : Option ℕ) (o : Bool) → within [] s o ≡ true
+      stands None true = refl
+      stands None false = refl
+      stands (Some s) true = rw (le-leb 0 s (omega arith)) refl
+      stands (Some s) false = rw (le-leb 0 s (omega arith)) refl
+
+      and_one : (b : Bool) → b ≡ (b && true)
+      and_one true = refl
+      and_one false = refl
+
+      each : (doc : Doc) → list_any has_words (named def looked)
+          ≡ list_any (λ (field : Field). has_phrase [] slop in_order (field_tokens def doc field)) (searched def looked)
+      each doc =
+          any_cong has_words (λ field. has_words field && has_phrase [] slop in_order (field_tokens def doc field)) (named def looked)
+          (λ field. and_one (has_words field) ∙ ap (λ b. has_words field && b) (sym (stands slop in_order)))
+          ∙ sym (any_filter_and (λ (field : Field). has_phrase [] slop in_order (field_tokens def doc field)) has_words (named def looked))
+
+  -- ---- parts made of others
+
+  pub holds-And : (has : Has) (parts : List Query) → holds_by has (query.And parts) ≡ list_all (holds_by has) parts
+  holds-And has parts =
+      ap (holds_by has) (sym (query.rolls-And parts))
+      ∙ (fold-roll-Query Bool (holds_step has) (layer.And parts) ∙ list_all-map (λ met. met) (holds_by has) parts)
+
+  pub holds-Or : (has : Has) (parts : List Query) → holds_by has (query.Or parts) ≡ list_any (holds_by has) parts
+  holds-Or has parts =
+      ap (holds_by has) (sym (query.rolls-Or parts))
+      ∙ (fold-roll-Query Bool (holds_step has) (layer.Or parts) ∙ any_map (λ met. met) (holds_by has) parts)
+
+  pub every_tells : (queries : List Query) (whole : Query) (plans : List Planned) (ids : ℕ → Bool) → whole ≡ query.And queries → AllTell def lists held queries plans
+      → ((id : ℕ) → ids id ≡ list_all (λ planned. ids_of held planned id) plans) → Tells def lists held (λ doc. holds whole def doc) ids
+  every_tells queries whole plans ids is tell set = record {
+    at = λ live docs doc are among.
+        set doc.id
+        ∙ sym (list_all-map (λ b. b) (λ planned. ids_of held planned doc.id) plans)
+        ∙ ap (list_all (λ b. b)) (tell.at live docs doc are among)
+        ∙ list_all-map (λ b. b) (λ q. holds q def doc) queries
+        ∙ sym (holds-And (has_of def doc) queries)
+        ∙ ap (λ q. holds q def doc) (sym is);
+  }
+
+  pub some_tells : (queries : List Query) (whole : Query) (plans : List Planned) (made : Planned) → whole ≡ query.Or queries → AllTell def lists held queries plans
+      → Joins plans (made ∷ []) → Tells def lists held (λ doc. holds whole def doc) (ids_of held made)
+  some_tells queries whole plans made is tell joins = record {
+    at = λ live docs doc are among.
+        or_false (ids_of held made doc.id)
+        ∙ joins.set held doc.id
+        ∙ sym (any_map (λ b. b) (λ planned. ids_of held planned doc.id) plans)
+        ∙ ap (list_any (λ b. b)) (tell.at live docs doc are among)
+        ∙ any_map (λ b. b) (λ q. holds q def doc) queries
+        ∙ sym (holds-Or (has_of def doc) queries)
+        ∙ ap (λ q. holds q def doc) (sym is);
+  }
+    where
+      or_false : (b : Bool) → b ≡ (b || false)
+      or_false true = refl
+      or_false false = refl
+
+  pub some_ready : (plans : List Planned) (made : Planned) (from : ℕ) → Joins plans (made ∷ []) → AllReady held plans from → Ready held made.iter from
+  some_ready plans made from joins all = (joins.ready held from all).0
+
+  pub none_tells : (whole : Query) (ids : ℕ → Bool) → whole ≡ query.Empty → ids ≡ (λ id. false) → Tells def lists held (λ doc. holds whole def doc) ids
+  none_tells whole ids is same = record {
+    at = λ live docs doc are among.
+        ap (λ (set : ℕ → Bool). set doc.id) same ∙ sym (ap (λ q. holds q def doc) (is ∙ sym query.rolls-Empty) ∙ fold-roll-Query Bool (holds_step (has_of def doc)) layer.Empty);
+  }
+
+  pub all_tell : (whole : Query) (ids : ℕ → Bool) → whole ≡ query.All → ids ≡ (λ id. true) → Tells def lists held (λ doc. holds whole def doc) ids
+  all_tell whole ids is same = record {
+    at = λ live docs doc are among.
+        ap (λ (set : ℕ → Bool). set doc.id) same ∙ sym (ap (λ q. holds q def doc) (is ∙ sym query.rolls-All) ∙ fold-roll-Query Bool (holds_step (has_of def doc)) layer.All);
+  }
+
+  pub optional_tells : (part whole : Query) (ids : ℕ → Bool) → whole ≡ query.Optional part → ids ≡ (λ id. true) → Tells def lists held (λ doc. holds whole def doc) ids
+  optional_tells part whole ids is same = record {
+    at = λ live docs doc are among.
+        ap (λ (set : ℕ → Bool). set doc.id) same
+        ∙ sym (ap (λ q. holds q def doc) (is ∙ sym (query.rolls-Optional part)) ∙ fold-roll-Query Bool (holds_step (has_of def doc)) (layer.Optional part));
+  }
+
+  pub other_tells : (part whole : Query) (ids others : ℕ → Bool) → whole ≡ query.Not part → Tells def lists held (λ doc. holds part def doc) ids
+      → ((id : ℕ) → others id ≡ not (ids id)) → Tells def lists held (λ doc. holds whole def doc) others
+  other_tells part whole ids others is tells set = record {
+    at = λ live docs doc are among.
+        set doc.id ∙ ap not (tells.at live docs doc are among)
+        ∙ sym (ap (λ q. holds q def doc) (is ∙ sym (query.rolls-Not part)) ∙ fold-roll-Query Bool (holds_step (has_of def doc)) (layer.Not part));
+  }
+
+  -- ---- plans that are gathered
+
+  pub none_tell : AllTell def lists held [] []
+  none_tell = record { at = λ live docs doc are among. refl }
+
+  pub one_more_tells : (queries more : List Query) (one : Query) (plans new : List Planned) (planned : Planned)
+      → more ≡ queries ++ one ∷ [] → new ≡ plans ++ planned ∷ []
+      → AllTell def lists held queries plans → Tells def lists held (λ doc. holds one def doc) (ids_of held planned) → AllTell def lists held more new
+  one_more_tells queries more one plans new planned is_more is_new tell tells = record {
+    at = λ live docs doc are among.
+        ap (map (λ p. ids_of held p doc.id)) is_new
+        ∙ map-append _ _ _
+        ∙ ap (λ xs. xs ++ ids_of held planned doc.id ∷ []) (tell.at live docs doc are among)
+        ∙ ap (λ b. map (λ q. holds q def doc) queries ++ b ∷ []) (tells.at live docs doc are among)
+        ∙ sym (ap (map (λ q. holds q def doc)) is_more ∙ map-append _ _ _);
+  }

@@ -1,0 +1,207 @@
+-- The numbers of an interval, in the ranges of a field and in a document.
+use mir.Syntax.{w64}
+use mir.Val.{SFits}
+use Rattle.std.proofs.Common.{◌≡◌, ◌⊎◌, ℕ, ℤ, zero, suc, ◌<◌, ◌≤◌, Bool, true, false, ◌&&◌, ◌||◌, List, [], ◌∷◌, length, get_or, Option, Some, None, IsTrue, ◌↔◌, refl, sym, ap, ◌∙◌, inl, inr, arith}
+use Rattle.std.specs.Prelude.{nat_eq, int_le, int_lt, negsuc, pos}
+use Rattle.std.specs.List.{AllByRecursion, list_any, slice_get}
+use Rattle.std.proofs.lemmas.Bool.{cases_Bool, false≢true, le-leb, and_parts, and_from, and_right, or_from, or_left, or_right, false_from_ne_true}
+use Rattle.std.proofs.lemmas.Option.{slice_get_within, get_or_from_slice_get}
+use Rattle.ft_base.specs.Kinds.{is_numeric}
+use Rattle.ft_base.specs.declared.definition.Field.{Field}
+use Rattle.ft_base.specs.declared.definition.FieldKind.{FieldKind}
+use Rattle.ft_base.specs.declared.definition.FieldKind.TheVariants as kinds
+use Rattle.ft_base.specs.declared.doc.Doc.{Doc}
+use Rattle.ft_base.specs.Hash.{get_field}
+use Rattle.ft_meaning.specs.Holds.{field_number, has_number, is_between, value_number}
+use Rattle.id_iters.specs.Entries.{lies_in, range_has, wanted}
+use Rattle.id_iters.specs.Held.{entries_of}
+use Rattle.index_lists.specs.Entries.{is_ranged, searched_number}
+use Rattle.inverted_list.specs.Listing.{Listing}
+use Rattle.numeric_ranges.specs.Ranges as ranges
+use Rattle.numeric_ranges.specs.Ranges.{AreParted, EntriesLie, IsPartition, LowsRise, Rows, is_below, list_at, low_of, meets}
+use Rattle.numeric_ranges.specs.Values.{Entries}
+use Rattle.numeric_ranges.proofs.ReachLaws.{list_here}
+use Rattle.numeric_ranges.proofs.ValueLaws.{le_from_not_lt, lt_from_le, le_trans}
+use Rattle.posting_block.specs.declared.hits.NumHit.{NumHit}
+use Rattle.query_plan.specs.Sought.{rows_from}
+use Rattle.query_plan.proofs.AnyLaws.{any_cong, any_filter_and, any_none, any_or, or_and}
+use Rattle.query_plan.proofs.WordLaws.{num_hit}
+
+-- ---- the number of a document
+
+pub number_in : (low high : ℤ) (doc : Doc) (field : Option Field) → wanted (lies_in low high) (num_hit (searched_number field doc)) ≡ has_number doc low high field
+number_in low high doc None = refl
+number_in low high doc (Some field) =
+    elim (cases_Bool field.noindex) [
+      | inl y ↦ rw y refl
+      | inr n ↦ rw n (same (field_number doc field))
+    ]
+  where
+    same : (n : Option ℤ) → wanted (lies_in low high) (num_hit n) ≡ is_between low high n
+    same None = refl
+    same (Some n) = refl
+
+-- a field without ranges has no number that is looked for
+pub unranged : (low high : ℤ) (doc : Doc) (field : Option Field) → is_ranged field ≡ false → has_number doc low high field ≡ false
+unranged low high doc None none = refl
+unranged low high doc (Some field) none =
+    elim (cases_Bool field.noindex) [
+      | inl y ↦ rw y refl
+      | inr n ↦
+          let other : is_numeric field.kind ≡ false = rw n at none in
+          rw n (ap (is_between low high) (no_number field.kind (get_field doc.hash field.name) other))
+    ]
+  where
+    no_number : (kind : FieldKind) (value : Option (List ℕ)) → is_numeric kind ≡ false → value_number kind value ≡ None
+    no_number kinds.Text value h = refl
+    no_number (kinds.Tag separator case) value h = refl
+    no_number kinds.Numeric value h = absurd (false≢true (sym h))
+
+-- ---- the ranges of an interval
+
+-- what no row outside of two places passes
+any_within : (test : ℤ × Listing NumHit → Bool) (rows : Rows) (from to : ℕ)
+    → ((k : ℕ) (row : ℤ × Listing NumHit) → slice_get rows k ≡ Some row → (k < from) ⊎ (to ≤ k) → test row ≡ false)
+    → list_any test (rows_from rows from to) ≡ list_any test rows
+any_within test [] zero zero none = refl
+any_within test [] (suc from) zero none = refl
+any_within test [] zero (suc to) none = refl
+any_within test [] (suc from) (suc to) none = refl
+any_within test (row ∷ rows) zero zero none =
+    sym (ap (λ b. b || list_any test rows) (none 0 row refl (inr (omega arith)))
+    ∙ sym (any_within test rows 0 0 (λ k other at out. none (suc k) other at (inr (omega arith)))))
+any_within test (row ∷ rows) (suc from) zero none =
+    sym (ap (λ b. b || list_any test rows) (none 0 row refl (inr (omega arith)))
+    ∙ sym (any_within test rows (suc from) 0 (λ k other at out. none (suc k) other at (inr (omega arith)))))
+any_within test (row ∷ rows) zero (suc to) none =
+    ap (λ b. test row || b) (any_within test rows 0 to (λ k other at out. none (suc k) other at (further k out)))
+  where
+    further : (k : ℕ) → (k < 0) ⊎ (to ≤ k) → (suc k < 0) ⊎ (suc to ≤ suc k)
+    further k (inl h) = absurd (omega (arith, h))
+    further k (inr h) = inr (omega (arith, h))
+any_within test (row ∷ rows) (suc from) (suc to) none =
+    any_within test rows from to (λ k other at out. none (suc k) other at (further k out))
+    ∙ sym (ap (λ b. b || list_any test rows) (none 0 row refl (inl (omega arith))))
+  where
+    further : (k : ℕ) → (k < from) ⊎ (to ≤ k) → (suc k < suc from) ⊎ (suc to ≤ suc k)
+    further k (inl h) = inl (omega (arith, h))
+    further k (inr h) = inr (omega (arith, h))
+
+-- tests that agree on the items that are there
+any_there : {X : Type 0} (f g : X → Bool) (xs : List X) → ((k : ℕ) (x : X) → slice_get xs k ≡ Some x → f x ≡ g x) → list_any f xs ≡ list_any g xs
+any_there f g [] same = refl
+any_there f g (x ∷ xs) same = ap (λ b. b || list_any f xs) (same 0 x refl) ∙ ap (λ b. g x || b) (any_there f g xs (λ k y at. same (suc k) y at))
+
+le_lt_trans : (a b c : ℤ) → int_le a b ≡ true → int_lt b c ≡ true → int_lt a c ≡ true
+le_lt_trans a b c below less =
+    elim (cases_Bool (int_lt a c)) [
+      | inl y ↦ y
+      | inr n ↦ absurd (false≢true (sym (lt_from_le c b (le_trans c a b (le_from_not_lt a c n) below)) ∙ less))
+    ]
+
+below_trans : (next : Option ℤ) (a b : ℤ) → int_le a b ≡ true → is_below next b ≡ true → is_below next a ≡ true
+below_trans None a b le below = refl
+below_trans (Some bound) a b le below = le_lt_trans a b bound le below
+
+-- a row that a number lies in, or one behind it
+rows_lie : Rows → ℤ → Bool
+rows_lie [] v = false
+rows_lie (row ∷ rows) v = ranges.lies_in row.0 (low_of rows) v || rows_lie rows v
+
+covered : (row : ℤ × Listing NumHit) (rows : Rows) (v : ℤ) → int_le row.0 v ≡ true → rows_lie (row ∷ rows) v ≡ true
+unfolding rows_lie
+covered row [] v from = or_left (int_le row.0 v && true) false (and_from (int_le row.0 v) true from refl)
+covered row (next ∷ rows) v from =
+    elim (cases_Bool (int_lt v next.0)) [
+      | inl y ↦ or_left (ranges.lies_in row.0 (Some next.0) v) (rows_lie (next ∷ rows) v) (and_from (int_le row.0 v) (int_lt v next.0) from y)
+      | inr n ↦ or_right (ranges.lies_in row.0 (Some next.0) v) (rows_lie (next ∷ rows) v) (covered next rows v (le_from_not_lt v next.0 n))
+    ]
+
+module _ (low high : ℤ) (id : ℕ) where
+  -- the entries of a row that no number of the interval lies in have none of its numbers
+  row_none : (row : ℤ × Listing NumHit) (next : Option ℤ) (es : Entries) → AllByRecursion (λ e. IsTrue (ranges.lies_in row.0 next e.1.value)) es
+      → (int_le low high && int_le row.0 high && is_below next low) ≡ false → range_has low high es id ≡ false
+  row_none row next [] lie out = refl
+  row_none row next (e ∷ es) lie out =
+      or_from (nat_eq id e.0 && lies_in low high e.1) (range_has low high es id)
+      (and_right (nat_eq id e.0) (lies_in low high e.1) (false_from_ne_true (lies_in low high e.1) (λ within.
+      let ends = and_parts (int_le low e.1.value) (int_le e.1.value high) within in
+      let here = and_parts (int_le row.0 e.1.value) (is_below next e.1.value) lie.0 in
+      false≢true (sym out ∙ and_from (int_le low high && int_le row.0 high) (is_below next low)
+      (and_from (int_le low high) (int_le row.0 high) (le_trans low e.1.value high ends.0 ends.1) (le_trans row.0 e.1.value high here.0 ends.1))
+      (below_trans next low e.1.value ends.0 here.1)))))
+      (row_none row next es lie.1 out)
+
+  rows_none : (rows : Rows) (k : ℕ) (row : ℤ × Listing NumHit) → EntriesLie rows → slice_get rows k ≡ Some row → meets rows k low high ≡ false
+      → range_has low high row.1.entries id ≡ false
+  rows_none [] k row lie at out = absurd (cc (at))
+  rows_none (first ∷ rows) zero row lie at out =
+      let same : first ≡ row = cc (at) in
+      ap (λ (r : ℤ × Listing NumHit). range_has low high r.1.entries id) (sym same) ∙ row_none first (low_of rows) first.1.entries lie.0 out
+  rows_none (first ∷ rows) (suc k) row lie at out = rows_none rows k row lie.1 at out
+
+  parted_any : (es : Entries) (rows : Rows) → AreParted es rows
+      → list_any (λ (row : ℤ × Listing NumHit). range_has low high row.1.entries id) rows
+      ≡ list_any (λ e. rows_lie rows e.1.value && (nat_eq id e.0 && lies_in low high e.1)) es
+  unfolding rows_lie
+  parted_any es [] parts = sym (any_none es)
+  parted_any es (row ∷ rows) parts =
+      ap (λ b. b || list_any (λ (r : ℤ × Listing NumHit). range_has low high r.1.entries id) rows)
+      (ap (λ (found : Entries). range_has low high found id) parts.0
+      ∙ any_filter_and (λ e. nat_eq id e.0 && lies_in low high e.1) (λ e. ranges.lies_in row.0 (low_of rows) e.1.value) es)
+      ∙ ap (λ b. list_any (λ e. ranges.lies_in row.0 (low_of rows) e.1.value && (nat_eq id e.0 && lies_in low high e.1)) es || b) (parted_any es rows parts.1)
+      ∙ sym (any_or (λ e. ranges.lies_in row.0 (low_of rows) e.1.value && (nat_eq id e.0 && lies_in low high e.1))
+      (λ e. rows_lie rows e.1.value && (nat_eq id e.0 && lies_in low high e.1)) es)
+      ∙ any_cong _ _ es (λ e. sym (or_and (ranges.lies_in row.0 (low_of rows) e.1.value) (rows_lie rows e.1.value) (nat_eq id e.0 && lies_in low high e.1)))
+
+  module _ (rows : Rows) (partition : IsPartition rows) (bound : int_le (negsuc 9223372036854775807) low ≡ true) where
+    covers : (v : ℤ) → int_le low v ≡ true → rows_lie rows v ≡ true
+    covers v above = first rows partition.first
+      where
+        first : (rs : Rows) → low_of rs ≡ Some (negsuc 9223372036854775807) → rows_lie rs v ≡ true
+        first [] none = absurd (cc (none))
+        first (row ∷ rs) is =
+            let least : row.0 ≡ negsuc 9223372036854775807 = cc (is) in
+            covered row rs v (ap (λ (n : ℤ). int_le n v) least ∙ le_trans (negsuc 9223372036854775807) low v bound above)
+
+    rows_have : (es : Entries) → AreParted es rows → list_any (λ (row : ℤ × Listing NumHit). range_has low high row.1.entries id) rows ≡ range_has low high es id
+    rows_have es parts =
+        parted_any es rows parts
+        ∙ any_cong _ (λ e. nat_eq id e.0 && lies_in low high e.1) es
+        (λ e. absorbed (rows_lie rows e.1.value) (nat_eq id e.0) (int_le low e.1.value) (int_le e.1.value high) (covers e.1.value))
+      where
+        absorbed : (lie here from to : Bool) → (from ≡ true → lie ≡ true) → (lie && (here && (from && to))) ≡ (here && (from && to))
+        absorbed true here from to h = refl
+        absorbed false true true true h = h refl
+        absorbed false true true false h = refl
+        absorbed false true false to h = refl
+        absorbed false false from to h = refl
+
+    -- The ranges in which some number of the interval lies have the numbers that all entries have.
+    pub ranges_have : (es : Entries) (from to : ℕ) → AreParted es rows
+        → ((i : ℕ) → i < length rows → ((from ≤ i) × (i < to)) ↔ IsTrue (meets rows i low high))
+        → list_any (λ (row : ℤ × Listing NumHit). range_has low high (entries_of (list_at rows row.0)) id) (rows_from rows from to) ≡ range_has low high es id
+    ranges_have es from to parts met =
+        any_within (λ (row : ℤ × Listing NumHit). range_has low high (entries_of (list_at rows row.0)) id) rows from to
+        (λ k row at out. own k row at ∙ rows_none rows k row partition.lie at (out_of k (slice_get_within rows k row at) out))
+        ∙ any_there _ (λ (row : ℤ × Listing NumHit). range_has low high row.1.entries id) rows own
+        ∙ rows_have es parts
+      where
+        own : (k : ℕ) (row : ℤ × Listing NumHit) → slice_get rows k ≡ Some row → range_has low high (entries_of (list_at rows row.0)) id ≡ range_has low high row.1.entries id
+        own k row at =
+            let here : get_or rows k row ≡ row = get_or_from_slice_get rows k row row at in
+            ap (λ (list : Option (Listing NumHit)). range_has low high (entries_of list) id)
+            (list_here row.0 rows k row partition.lows (slice_get_within rows k row at) (ap (λ (r : ℤ × Listing NumHit). r.0) here)
+            ∙ ap (λ (r : ℤ × Listing NumHit). Some r.1) here)
+
+        out_of : (k : ℕ) → k < length rows → (k < from) ⊎ (to ≤ k) → meets rows k low high ≡ false
+        out_of k within out = false_from_ne_true (meets rows k low high) (λ yes. never out ((met k within).1 yes))
+          where
+            never : (k < from) ⊎ (to ≤ k) → (from ≤ k) × (k < to) → ⊥
+            never (inl h) both = omega (arith, h, both.0)
+            never (inr h) both = omega (arith, h, both.1)
+
+-- no number of 64 bits is below the least
+pub above_least : (n : ℤ) → SFits w64 n → int_le (negsuc 9223372036854775807) n ≡ true
+above_least (pos n) fits = refl
+above_least (negsuc n) fits = le-leb n 9223372036854775807 (omega (arith, fits.sfits))

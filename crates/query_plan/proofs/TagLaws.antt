@@ -1,0 +1,57 @@
+-- The tags that a query looks for, in a document.
+use Rattle.std.proofs.Common.{◌≡◌, ℕ, Bool, true, false, cond, ◌||◌, List, Option, Some, None, refl, ◌∙◌, inl, inr}
+use Rattle.std.specs.List.{list_any, slice_get}
+use Rattle.std.specs.Map.{keys_of}
+use Rattle.std.specs.Str.{bytes_eq}
+use Rattle.std.proofs.lemmas.Bool.{cases_Bool}
+use Rattle.ft_base.specs.declared.definition.Field.{Field}
+use Rattle.ft_base.specs.declared.definition.IndexDef.{IndexDef}
+use Rattle.ft_base.specs.declared.doc.Doc.{Doc}
+use Rattle.ft_base.specs.declared.query.TagPart.{TagPart}
+use Rattle.ft_meaning.specs.Holds as holds
+use Rattle.ft_meaning.specs.Holds.{begins, is_sought}
+use Rattle.index_lists.specs.Entries.{searched_tags}
+use Rattle.posting_block.specs.declared.hits.TagHit.{TagHit}
+use Rattle.term_dict.specs.Terms.{Lists}
+use Rattle.query_plan.specs.Sought.{sought_by, all_sought}
+use Rattle.query_plan.proofs.AnyLaws.{any_cong, any_swap}
+use Rattle.query_plan.proofs.PrefixLaws.{any_flat, begins_among}
+
+-- a document has a tag that is looked for where one of its tags, by which the field is searched, is
+searched_sought : (doc : Doc) (parts : List TagPart) (field : Option Field) → list_any (is_sought parts) (searched_tags field doc) ≡ holds.has_tag doc parts field
+searched_sought doc parts None = refl
+searched_sought doc parts (Some field) =
+    elim (cases_Bool field.noindex) [
+      | inl y ↦ rw y refl
+      | inr n ↦ rw n refl
+    ]
+
+-- whether a part looks for a tag
+abbrev looks_for : TagPart → List ℕ → Bool
+looks_for part tag = cond part.prefix (begins part.text tag) (bytes_eq part.text tag)
+
+module _ (tags : Lists TagHit) (found : List (List ℕ)) (named : (tag : List ℕ) → list_any (bytes_eq tag) found ≡ true → list_any (bytes_eq tag) (keys_of tags) ≡ true) where
+  sought_here : (part : TagPart) → list_any (λ tag. list_any (bytes_eq tag) found) (sought_by tags part) ≡ list_any (looks_for part) found
+  sought_here part =
+      elim (cases_Bool part.prefix) [
+        | inl y ↦ rw y (begins_among part.text (keys_of tags) found named)
+        | inr n ↦ rw n (or_false (list_any (bytes_eq part.text) found))
+      ]
+    where
+      or_false : (b : Bool) → (b || false) ≡ b
+      or_false true = refl
+      or_false false = refl
+
+  -- One of the tags that are found is looked for where a tag that has a list and is looked for is one of them.
+  pub sought_among : (parts : List TagPart) → list_any (λ tag. list_any (bytes_eq tag) found) (all_sought tags parts) ≡ list_any (is_sought parts) found
+  sought_among parts =
+      any_flat (λ tag. list_any (bytes_eq tag) found) (sought_by tags) parts
+      ∙ any_cong (λ part. list_any (λ tag. list_any (bytes_eq tag) found) (sought_by tags part)) (λ part. list_any (looks_for part) found) parts sought_here
+      ∙ any_swap looks_for parts found
+
+pub tags_are : (def : IndexDef) (doc : Doc) (field : ℕ) (parts : List TagPart) (tags : Lists TagHit)
+    → ((tag : List ℕ) → list_any (bytes_eq tag) (searched_tags (slice_get def.fields field) doc) ≡ true → list_any (bytes_eq tag) (keys_of tags) ≡ true)
+    → list_any (λ tag. list_any (bytes_eq tag) (searched_tags (slice_get def.fields field) doc)) (all_sought tags parts)
+    ≡ holds.has_tag doc parts (slice_get def.fields field)
+tags_are def doc field parts tags named =
+    sought_among tags (searched_tags (slice_get def.fields field) doc) named parts ∙ searched_sought doc parts (slice_get def.fields field)

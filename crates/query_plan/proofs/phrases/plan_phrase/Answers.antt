@@ -1,0 +1,25 @@
+use Rattle.std.proofs.Common.{refl, sym, length, ◌≢◌, arith}
+use Rattle.std.proofs.lemmas.Bool.{eqb-true, eqb-false}
+use Rattle.query_plan.proofs.PlanLaws.{no_words_tell, phrase_tells}
+use Rattle.query_plan.proofs.phrases.plan_phrase.Goals as goal
+
+pub returns-then-is_empty-clause-set : goal.returns-then-is_empty-clause-set
+returns-then-is_empty-clause-set g c =
+    let held = g.T.Lists.held c.args.sources.now.lists.now in
+    no_words_tell c.args.sources.now.def.now c.args.sources.now.parts.now held c.args.phrase.now.fields.now c.args.phrase.now.words.now c.args.phrase.now.slop
+    c.args.phrase.now.in_order _ (eqb-true (length c.args.phrase.now.words.now) 0 (sym c.if-is_empty.ensures)) (c.plan_no_words.ensures.set held)
+
+pub returns-clause-set : goal.returns-clause-set
+returns-clause-set g c =
+    let held = g.T.Lists.held c.args.sources.now.lists.now in
+    let some : length c.args.phrase.now.words.now ≢ 0 = eqb-false (length c.args.phrase.now.words.now) 0 (sym c.if-is_empty.ensures) in
+    phrase_tells c.args.sources.now.def.now c.args.sources.now.parts.now held
+    (record {
+      alloc = c.args.sources.now.alloc;
+      words = c.in_ok-words.words;
+      fields = c.in_ok-fields.fields;
+      slop = c.args.phrase.now.slop;
+      in_order = c.args.phrase.now.in_order;
+    })
+    c.args.phrase.now.fields.now c.args.phrase.now.words.now c.args.phrase.now.slop
+    c.args.phrase.now.in_order _ (omega (arith, some)) (c.of_phrase.ensures.set held) c.in_ok-words.ensures.names c.in_ok-fields.ensures refl refl

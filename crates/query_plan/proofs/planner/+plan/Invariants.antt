@@ -1,0 +1,10 @@
+use Rattle.std.proofs.Common.{◌≤◌, ◌+◌, take}
+use Rattle.query_plan.specs.Plans.{AllReady, AllTell}
+use Rattle.query_plan.proofs.planner.+plan.Given as goal
+
+abbrev pub invariant-plan_each-queries : goal.invariant-plan_each-queries
+invariant-plan_each-queries g l = record {
+  set : AllTell l.fn.sources.def.now l.fn.sources.parts.now (g.T.Lists.held l.fn.sources.lists.now) (take l.query-index l.fn.queries) l.plans.items;
+  ready : AllReady (g.T.Lists.held l.fn.sources.lists.now) l.plans.items (l.fn.sources.after + 1);
+  counts : l.initial.steps ≤ l.steps;
+}

@@ -1,0 +1,8 @@
+use Rattle.std.proofs.Common.{◌≡◌, map, take}
+use Rattle.id_iters.specs.declared.list_name.ListName.TheVariants as names
+use Rattle.query_plan.specs.Sought.{all_sought}
+use Rattle.tag_index.specs.Tags.{tags_of}
+use Rattle.query_plan.proofs.tags.tags_sought.Given as goal
+
+abbrev pub invariant-parts : goal.invariant-parts
+invariant-parts l = l.lists.items ≡ map (λ tag. names.Tag l.field tag) (all_sought (tags_of l.tags l.field) (take l.part-index l.parts))

@@ -1,0 +1,53 @@
+-- What a planned part tells of the documents of an index.
+use Rattle.std.specs.Prelude.{◌≡◌, ◌⊎◌, ℕ, ℤ, List, [], ◌∷◌, map, Bool}
+use Rattle.std.specs.List.{All, AllByRecursion, list_any}
+use Rattle.ft_base.specs.declared.definition.IndexDef.{IndexDef}
+use Rattle.ft_base.specs.declared.doc.Doc.{Doc}
+use Rattle.ft_base.specs.declared.query.Fields.{Fields}
+use Rattle.ft_base.specs.declared.query.Query.{Query}
+use Rattle.ft_meaning.specs.Holds.{holds}
+use Rattle.id_iters.specs.Held.{Held}
+use Rattle.id_iters.specs.Leaves.{list_has}
+use Rattle.id_iters.specs.Places.{FitsList}
+use Rattle.id_iters.specs.Ready.{Ready}
+use Rattle.id_iters.specs.Sets.{about}
+use Rattle.id_iters.specs.declared.hint.Hint.{Hint}
+use Rattle.id_iters.specs.declared.list_name.ListName.{ListName}
+use Rattle.index_lists.specs.Lists.{AllLists}
+use Rattle.query_plan.specs.Finds.{AreOf}
+use Rattle.query_plan.specs.declared.size.Planned.{Planned}
+
+-- a document is one of those listed
+abbrev pub IsIn : Doc → List Doc → Type 0
+IsIn doc [] = ⊥
+IsIn doc (first ∷ docs) = (doc ≡ first) ⊎ IsIn doc docs
+
+-- At the documents of an index with these lists a set of ids has the ids of those that pass a test.
+pub record Tells (def : IndexDef) (lists : AllLists) (held : Held) (test : Doc → Bool) (ids : ℕ → Bool) : Type 0 where
+  pub at : (live : List (ℕ × List ℕ)) (docs : List Doc) (doc : Doc) → AreOf def lists held live docs → IsIn doc docs → ids doc.id ≡ test doc
+
+-- the ids of a planned part
+abbrev pub ids_of : Held → Planned → ℕ → Bool
+ids_of held planned = (about held planned.iter).has
+
+-- the parts tell of queries, in their order
+pub record AllTell (def : IndexDef) (lists : AllLists) (held : Held) (queries : List Query) (plans : List Planned) : Type 0 where
+  pub at : (live : List (ℕ × List ℕ)) (docs : List Doc) (doc : Doc) → AreOf def lists held live docs → IsIn doc docs
+      → map (λ planned. ids_of held planned doc.id) plans ≡ map (λ query. holds query def doc) queries
+
+-- each part may be asked from a number on
+abbrev pub AllReady : Held → List Planned → ℕ → Type 0
+AllReady held plans from = AllByRecursion (λ (planned : Planned). Ready held planned.iter from) plans
+
+-- Parts are put together to others that have the same ids in all, and may be asked where they could.
+pub record Joins (old new : List Planned) : Type 0 where
+  pub set : (held : Held) (id : ℕ) → list_any (λ planned. ids_of held planned id) new ≡ list_any (λ planned. ids_of held planned id) old
+  pub ready : (held : Held) (from : ℕ) → AllReady held old from → AllReady held new from
+
+-- whether some list of these names has an id
+abbrev pub some_has : Held → List ListName → Fields → ℤ → ℤ → ℕ → Bool
+some_has held names looked low high id = list_any (λ name. list_has held name looked low high id) names
+
+-- each hint is a place in its list
+abbrev pub HintsFit : Held → List Hint → Type 0
+HintsFit held hints = All (λ (hint : Hint). FitsList held hint.list hint.place) hints

@@ -1,0 +1,30 @@
+-- Which words, tags and ranges a part of a query looks for among those that have lists.
+use Rattle.std.specs.Prelude.{ℕ, Bool, false, List, [], ◌∷◌, filter, take, drop, Option, None, Some, if◌then◌else◌}
+use Rattle.std.specs.List.{flat_map}
+use Rattle.std.specs.Map.{keys_of}
+use Rattle.ft_base.specs.declared.query.TagPart.{TagPart}
+use Rattle.ft_meaning.specs.Holds.{begins}
+use Rattle.numeric_ranges.specs.Ranges.{Rows}
+use Rattle.posting_block.specs.declared.hits.TagHit.{TagHit}
+use Rattle.term_dict.specs.Terms.{Lists}
+
+-- the words of a dictionary that begin with a text
+abbrev pub words_with : {P : Type 0} → List ℕ → Lists P → List (List ℕ)
+words_with text lists = filter (begins text) (keys_of lists)
+
+-- the tags of a field that a part looks for: one, or each that begins with it
+abbrev pub sought_by : Lists TagHit → TagPart → List (List ℕ)
+sought_by tags part = if part.prefix then words_with part.text tags else part.text ∷ []
+
+-- the tags of a field that some part looks for
+abbrev pub all_sought : Lists TagHit → List TagPart → List (List ℕ)
+all_sought tags parts = flat_map (sought_by tags) parts
+
+-- the ranges from one place on and before another one
+abbrev pub rows_from : Rows → ℕ → ℕ → Rows
+rows_from rows from to = drop from (take to rows)
+
+-- whether there is something and it passes a test
+abbrev pub passes : {X : Type 0} → (X → Bool) → Option X → Bool
+passes test None = false
+passes test (Some x) = test x

@@ -1,0 +1,105 @@
+//! The leaves of a plan: lists that are opened behind an id.
+ghost use Rattle.std.specs.Prelude.{◌≡◌, ◌≤◌, ◌+◌, IfOk};
+ghost use Rattle.id_iters.specs.Leaves.{list_has};
+ghost use Rattle.id_iters.specs.Places.{LeafReady};
+ghost use Rattle.id_iters.specs.Ready.{Ready};
+ghost use Rattle.query_plan.specs.Plans.{HintsFit, ids_of, some_has};
+
+use crate::hints::take_hint;
+use crate::size::{Planned, list_size};
+use crate::sources::{Sources, Wanted};
+use crate::union::some_of;
+use ft_base::{Fields, ListOf, NoMemory, Steps};
+use id_iters::{Iter, Leaf, ListName, Lists};
+use std::alloc::Global;
+use std::sync::ledger::Ledger;
+
+/// A copy of the fields.
+pub fn copy_of(alloc: Global, fields: &Fields) -> Result<Fields, NoMemory>
+    ensures { IfOk result (λ copy. copy ≡ fields.now) }
+{
+    match fields {
+        Fields::All => Ok(Fields::All),
+        Fields::Named(numbers) => {
+            let copy = Vec::from_slice(alloc, numbers.as_slice())?;
+            Ok(Fields::Named(ListOf::from_vec(copy)))
+        }
+    }
+}
+
+/// The leaf of a list, behind the ids up to the one that the sources name.
+pub fn leaf_of<T: Lists, L: Ledger>(
+    sources: &Sources<T>,
+    list: ListName,
+    wanted: &Wanted,
+    used: &mut usize,
+    steps: &mut Steps<L>,
+) -> Result<Leaf, NoMemory>
+    requires { HintsFit (T.held sources.now.lists.now) sources.now.hints.now }
+    ensures leaf { IfOk result (λ leaf. leaf ≡ record {
+      list = list;
+      place = leaf.place;
+      fields = wanted.now.fields.now;
+      low = wanted.now.low;
+      high = wanted.now.high;
+    }) }
+    ensures ready { IfOk result (λ leaf.
+        LeafReady (T.held sources.now.lists.now) leaf (sources.now.after + 1)) }
+    ensures counts { steps.old ≤ steps.new }
+{
+    let hint = take_hint(sources.hints, used, &list);
+    let place = list.open_at(sources.lists, hint, sources.after, steps);
+    let fields = copy_of(sources.alloc, wanted.fields)?;
+    Ok(Leaf {
+        list,
+        place,
+        fields,
+        low: wanted.low,
+        high: wanted.high,
+    })
+}
+
+/// The ids of a list.
+pub fn plan_list<T: Lists, L: Ledger>(
+    sources: &Sources<T>,
+    list: ListName,
+    wanted: &Wanted,
+    used: &mut usize,
+    steps: &mut Steps<L>,
+) -> Result<Planned, NoMemory>
+    requires { HintsFit (T.held sources.now.lists.now) sources.now.hints.now }
+    ensures set { IfOk result (λ planned. ids_of (T.held sources.now.lists.now) planned
+        ≡ list_has (T.held sources.now.lists.now) list wanted.now.fields.now wanted.now.low wanted.now.high) }
+    ensures ready { IfOk result (λ planned.
+        Ready (T.held sources.now.lists.now) planned.iter (sources.now.after + 1)) }
+    ensures counts { steps.old ≤ steps.new }
+{
+    let size = list_size(sources.lists, &list);
+    let leaf = leaf_of(sources, list, wanted, used, steps)?;
+    Ok(Planned {
+        iter: Iter::of_leaf(leaf),
+        size,
+    })
+}
+
+/// The ids that some list has.
+pub fn plan_lists<T: Lists, L: Ledger>(
+    sources: &Sources<T>,
+    lists: Vec<ListName>,
+    wanted: &Wanted,
+    used: &mut usize,
+    steps: &mut Steps<L>,
+) -> Result<Planned, NoMemory>
+    requires { HintsFit (T.held sources.now.lists.now) sources.now.hints.now }
+    ensures set { IfOk result (λ planned. ids_of (T.held sources.now.lists.now) planned
+        ≡ some_has (T.held sources.now.lists.now) lists.items wanted.now.fields.now wanted.now.low wanted.now.high) }
+    ensures ready { IfOk result (λ planned.
+        Ready (T.held sources.now.lists.now) planned.iter (sources.now.after + 1)) }
+    ensures counts { steps.old ≤ steps.new }
+{
+    let mut plans = Vec::new(sources.alloc);
+    'lists: for list in lists {
+        plans.push(plan_list(sources, list, wanted, used, steps)?)?;
+    }
+    Ok(some_of(sources.alloc, plans)?)
+}

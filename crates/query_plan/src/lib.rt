@@ -1,0 +1,25 @@
+//! The plan of a query: an iterator of the ids of the documents that it finds.
+//!
+//! Each part of the query becomes a set: a word a leaf, a prefix the union of the leaves of its words, an And what
+//! its parts have in common. `specs/Finds.antt` says which ids the whole has.
+//! Read `specs/Finds.antt` first, then `planner.rt`.
+#![tactic(auto)]
+
+mod hints;
+mod index_plan;
+mod leaves;
+mod phrases;
+mod planner;
+mod ranges;
+mod size;
+mod sources;
+mod tags;
+#[cfg(test)]
+mod tests;
+mod union;
+mod words;
+
+/// The plan of a query over an index.
+pub use index_plan::plan;
+/// The plan of a query over the lists of an index.
+pub use planner::plan_in;

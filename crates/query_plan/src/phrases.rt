@@ -1,0 +1,142 @@
+//! Phrases as sets of ids.
+ghost use Rattle.std.specs.Prelude.{◌≡◌, ◌≤◌, ◌+◌, ℕ, map, slice_get, IfOk};
+ghost use Rattle.std.specs.List.{list_any};
+ghost use Rattle.ft_meaning.specs.Holds.{has_of, named};
+ghost use Rattle.ft_meaning.specs.Meaning.{has_words};
+ghost use Rattle.id_iters.specs.Held.{Held};
+ghost use Rattle.id_iters.specs.Leaves.{list_names};
+ghost use Rattle.id_iters.specs.Places.{LeavesReady};
+ghost use Rattle.id_iters.specs.Ready.{Ready};
+ghost use Rattle.query_plan.specs.Plans.{HintsFit, Tells, ids_of};
+ghost use Rattle.query_plan.specs.Sought.{passes};
+
+use crate::leaves::{copy_of, leaf_of};
+use crate::size::{Planned, word_size};
+use crate::sources::{Sources, Wanted};
+use ft_base::{Bytes, Field, Fields, IndexDef, ListOf, NoMemory, Steps};
+use id_iters::{Iter, Leaf, ListName, Lists, PhraseIter};
+use std::sync::ledger::Ledger;
+
+/// What is asked of a phrase.
+#[derive(Drop)]
+pub struct Phrase<'a> {
+    pub fields: &'a Fields,
+    pub words: &'a [Bytes],
+    pub slop: Option<u32>,
+    pub in_order: bool,
+}
+
+/// The documents where the words of a phrase stand together in one of the fields. Without a word they do so wherever a
+/// field is searched.
+pub fn plan_phrase<T: Lists, L: Ledger>(
+    sources: &Sources<T>,
+    phrase: &Phrase,
+    used: &mut usize,
+    steps: &mut Steps<L>,
+) -> Result<Planned, NoMemory>
+    requires { HintsFit (T.held sources.now.lists.now) sources.now.hints.now }
+    ensures set { IfOk result (λ planned.
+        Tells sources.now.def.now sources.now.parts.now (T.held sources.now.lists.now)
+        (λ doc. (has_of sources.now.def.now doc).phrase phrase.now.fields.now phrase.now.words.now phrase.now.slop phrase.now.in_order)
+        (ids_of (T.held sources.now.lists.now) planned)) }
+    ensures ready { IfOk result (λ planned.
+        Ready (T.held sources.now.lists.now) planned.iter (sources.now.after + 1)) }
+    ensures counts { steps.old ≤ steps.new }
+{
+    if phrase.words.is_empty() {
+        return Ok(plan_no_words(sources.def, phrase.fields));
+    }
+    let size = least_size(sources.lists, phrase.words);
+    let words = phrase_leaves(sources, phrase, used, steps)?;
+    let fields = copy_of(sources.alloc, phrase.fields)?;
+    Ok(Planned {
+        iter: Iter::of_phrase(PhraseIter {
+            alloc: sources.alloc,
+            words,
+            fields,
+            slop: phrase.slop,
+            in_order: phrase.in_order,
+        }),
+        size,
+    })
+}
+
+// All ids where one of the fields is searched, and else none.
+fn plan_no_words(def: &IndexDef, fields: &Fields) -> Planned
+    ensures set { (held : Held) → ids_of held result
+        ≡ (λ id. list_any has_words (named def.now fields.now)) }
+    ensures ready { (held : Held) (from : ℕ) → Ready held result.iter from }
+{
+    if is_searched(def, fields) {
+        Planned::all()
+    } else {
+        Planned::none()
+    }
+}
+
+// Whether the words of one of the fields are found.
+fn is_searched(def: &IndexDef, fields: &Fields) -> bool
+    ensures { result ≡ list_any has_words (named def.now fields.now) }
+{
+    match fields {
+        Fields::All => def.fields.as_slice().iter().any(|field| has_words(field)),
+        Fields::Named(numbers) => has_words_at(def.fields.as_slice(), numbers.as_slice()),
+    }
+}
+
+fn has_words_at(fields: &[Field], numbers: &[u16]) -> bool
+    ensures { result ≡ list_any (λ number. passes has_words (slice_get fields.now number)) numbers.now }
+{
+    numbers.iter().any(|number| is_searched_at(fields, *number))
+}
+
+fn is_searched_at(fields: &[Field], number: u16) -> bool
+    ensures { result ≡ passes has_words (slice_get fields.now number) }
+{
+    match fields.get(usize::from(number)) {
+        Some(field) => has_words(field),
+        None => false,
+    }
+}
+
+fn has_words(field: &Field) -> bool
+    ensures { result ≡ has_words field.now }
+{
+    field.kind.is_text() && !field.noindex
+}
+
+// The fewest entries that the list of one of the words has.
+fn least_size<T: Lists>(lists: &T, words: &[Bytes]) -> u64 {
+    let mut least = u64::MAX;
+    for word in words {
+        least = least.min(word_size(lists, word.as_slice()));
+    }
+    least
+}
+
+// A leaf for each word of a phrase.
+fn phrase_leaves<T: Lists, L: Ledger>(
+    sources: &Sources<T>,
+    phrase: &Phrase,
+    used: &mut usize,
+    steps: &mut Steps<L>,
+) -> Result<ListOf<Leaf>, NoMemory>
+    requires { HintsFit (T.held sources.now.lists.now) sources.now.hints.now }
+    ensures names { IfOk result (λ leaves.
+        list_names leaves ≡ map (λ word. ListName.Word word) phrase.now.words.now) }
+    ensures ready { IfOk result (λ leaves.
+        LeavesReady (T.held sources.now.lists.now) leaves (sources.now.after + 1)) }
+    ensures counts { steps.old ≤ steps.new }
+{
+    let wanted = Wanted {
+        fields: phrase.fields,
+        low: 0,
+        high: 0,
+    };
+    let mut leaves = ListOf::new(sources.alloc);
+    'words: for word in phrase.words {
+        let text = word.clone()?;
+        leaves.push(leaf_of(sources, ListName::Word { text }, &wanted, used, steps)?)?;
+    }
+    Ok(leaves)
+}

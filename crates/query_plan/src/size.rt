@@ -1,0 +1,61 @@
+//! Planned parts, and how many ids each has at most.
+ghost use Rattle.std.specs.Prelude.{◌≡◌, true, false, ℕ};
+ghost use Rattle.id_iters.specs.Held.{Held};
+ghost use Rattle.id_iters.specs.Ready.{Ready};
+ghost use Rattle.id_iters.specs.Sets.{about};
+
+use id_iters::{Iter, ListName, Lists};
+
+/// A set of ids, and how many of them its lists can have. Where that is not known it is as large as can be.
+#[derive(Drop)]
+pub struct Planned {
+    pub iter: Iter,
+    pub size: u64,
+}
+
+impl Planned {
+    /// No id.
+    pub fn none() -> Planned
+        ensures set { (held : Held) → (about held result.iter).has ≡ (λ id. false) }
+        ensures ready { (held : Held) (from : ℕ) → Ready held result.iter from }
+    {
+        Planned {
+            iter: Iter::of_none(),
+            size: 0,
+        }
+    }
+
+    /// All ids.
+    pub fn all() -> Planned
+        ensures set { (held : Held) → (about held result.iter).has ≡ (λ id. true) }
+        ensures ready { (held : Held) (from : ℕ) → Ready held result.iter from }
+    {
+        Planned {
+            iter: Iter::of_all(),
+            size: u64::MAX,
+        }
+    }
+}
+
+/// The number of entries of a list, and 0 where there is none.
+pub fn list_size<T: Lists>(lists: &T, name: &ListName) -> u64 {
+    match name {
+        ListName::Word { text } => word_size(lists, text.as_slice()),
+        ListName::Tag { field, text } => match lists.tag(*field, text.as_slice()) {
+            Some(list) => list.len(),
+            None => 0,
+        },
+        ListName::Range { field, low } => match lists.range(*field, *low) {
+            Some(list) => list.len(),
+            None => 0,
+        },
+    }
+}
+
+/// The number of entries of a word's list.
+pub fn word_size<T: Lists>(lists: &T, word: &[u8]) -> u64 {
+    match lists.text(word) {
+        Some(list) => list.len(),
+        None => 0,
+    }
+}

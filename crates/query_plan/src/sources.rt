@@ -1,0 +1,26 @@
+//! What a plan is made from.
+use ft_base::{Fields, IndexDef};
+use id_iters::Hint;
+use index_lists::IndexLists;
+use std::alloc::Global;
+
+/// An index by its definition; its lists, which `parts` finds by prefix and by interval and `lists` has as iterators
+/// read them; and where a reader starts: behind an id, in some lists at places that it knows.
+#[derive(Drop)]
+pub struct Sources<'a, T> {
+    pub alloc: Global,
+    pub def: &'a IndexDef,
+    pub parts: &'a IndexLists,
+    pub lists: &'a T,
+    pub hints: &'a [Hint],
+    pub after: u64,
+}
+
+/// Which hits of a list count: of a word those in some fields, of a range the numbers from `low` to `high`. What does
+/// not belong to the kind of list is not looked at.
+#[derive(Drop)]
+pub struct Wanted<'a> {
+    pub fields: &'a Fields,
+    pub low: i64,
+    pub high: i64,
+}

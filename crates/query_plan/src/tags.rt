@@ -1,0 +1,102 @@
+//! Tags as sets of ids.
+ghost use Rattle.std.specs.Prelude.{◌≡◌, ◌≤◌, ◌+◌, ◌++◌, map, IfOk, OnOk};
+ghost use Rattle.ft_meaning.specs.Holds.{has_of};
+ghost use Rattle.id_iters.specs.Ready.{Ready};
+ghost use Rattle.query_plan.specs.Plans.{HintsFit, Tells, ids_of};
+ghost use Rattle.query_plan.specs.Sought.{all_sought, sought_by, words_with};
+ghost use Rattle.tag_index.specs.Tags.{tags_of};
+
+use crate::leaves::plan_lists;
+use crate::size::Planned;
+use crate::sources::{Sources, Wanted};
+use ft_base::{Bytes, Fields, NoMemory, Steps, TagPart};
+use id_iters::{ListName, Lists};
+use std::alloc::Global;
+use std::sync::ledger::Ledger;
+use tag_index::TagLists;
+
+/// The documents that have one of the tags in a field.
+pub fn plan_tags<T: Lists, L: Ledger>(
+    sources: &Sources<T>,
+    field: u16,
+    parts: &[TagPart],
+    used: &mut usize,
+    steps: &mut Steps<L>,
+) -> Result<Planned, NoMemory>
+    requires { HintsFit (T.held sources.now.lists.now) sources.now.hints.now }
+    ensures set { IfOk result (λ planned.
+        Tells sources.now.def.now sources.now.parts.now (T.held sources.now.lists.now)
+        (λ doc. (has_of sources.now.def.now doc).tags field parts.now)
+        (ids_of (T.held sources.now.lists.now) planned)) }
+    ensures ready { IfOk result (λ planned.
+        Ready (T.held sources.now.lists.now) planned.iter (sources.now.after + 1)) }
+    ensures counts { steps.old ≤ steps.new }
+{
+    let lists = tags_sought(sources.alloc, sources.parts.tag_lists(), field, parts)?;
+    let wanted = Wanted {
+        fields: &Fields::All,
+        low: 0,
+        high: 0,
+    };
+    Ok(plan_lists(sources, lists, &wanted, used, steps)?)
+}
+
+// The lists of the tags of a field that some part looks for.
+fn tags_sought(
+    alloc: Global,
+    tags: &TagLists,
+    field: u16,
+    parts: &[TagPart],
+) -> Result<Vec<ListName>, NoMemory>
+    ensures { IfOk result (λ lists. lists.items
+        ≡ map (λ tag. ListName.Tag field tag) (all_sought (tags_of tags.now field) parts.now)) }
+{
+    let mut lists = Vec::new(alloc);
+    'parts: for part in parts {
+        add_sought(alloc, tags, field, part, &mut lists)?;
+    }
+    Ok(lists)
+}
+
+// The lists of the tags of a field that a part looks for go behind the others.
+fn add_sought(
+    alloc: Global,
+    tags: &TagLists,
+    field: u16,
+    part: &TagPart,
+    lists: &mut Vec<ListName>,
+) -> Result<(), NoMemory>
+    ensures { OnOk result (lists.new.items ≡ lists.old.items
+        ++ map (λ tag. ListName.Tag field tag) (sought_by (tags_of tags.now field) part.now)) }
+{
+    if part.prefix {
+        return add_tags_with(alloc, tags, field, part.text.as_slice(), lists);
+    }
+    let text = part.text.clone()?;
+    lists.push(ListName::Tag { field, text })?;
+    Ok(())
+}
+
+// The lists of the tags of a field that begin with a text go behind the others.
+fn add_tags_with(
+    alloc: Global,
+    tags: &TagLists,
+    field: u16,
+    text: &[u8],
+    lists: &mut Vec<ListName>,
+) -> Result<(), NoMemory>
+    ensures { OnOk result (lists.new.items ≡ lists.old.items
+        ++ map (λ tag. ListName.Tag field tag) (words_with text.now (tags_of tags.now field))) }
+{
+    // Its clause tells that the tags rise.
+    let _ = tags.len();
+    let mut after = None;
+    'tags: while let Some(tag) = tags.next_name(field, text, after)? {
+        lists.push(ListName::Tag {
+            field,
+            text: Bytes::from_slice(alloc, tag)?,
+        })?;
+        after = Some(tag);
+    }
+    Ok(())
+}

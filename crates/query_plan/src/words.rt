@@ -1,0 +1,85 @@
+//! Words and prefixes as sets of ids.
+ghost use Rattle.std.specs.Prelude.{◌≡◌, ◌≤◌, ◌+◌, map, IfOk};
+ghost use Rattle.ft_meaning.specs.Holds.{has_of};
+ghost use Rattle.id_iters.specs.Ready.{Ready};
+ghost use Rattle.query_plan.specs.Plans.{HintsFit, Tells, ids_of};
+ghost use Rattle.query_plan.specs.Sought.{words_with};
+
+use crate::leaves::{plan_list, plan_lists};
+use crate::size::Planned;
+use crate::sources::{Sources, Wanted};
+use ft_base::{Bytes, Fields, NoMemory, Steps};
+use id_iters::{ListName, Lists};
+use std::alloc::Global;
+use std::sync::ledger::Ledger;
+use term_dict::Terms;
+
+/// The documents that have a word in some of the fields.
+pub fn plan_word<T: Lists, L: Ledger>(
+    sources: &Sources<T>,
+    fields: &Fields,
+    word: &Bytes,
+    used: &mut usize,
+    steps: &mut Steps<L>,
+) -> Result<Planned, NoMemory>
+    requires { HintsFit (T.held sources.now.lists.now) sources.now.hints.now }
+    ensures set { IfOk result (λ planned.
+        Tells sources.now.def.now sources.now.parts.now (T.held sources.now.lists.now)
+        (λ doc. (has_of sources.now.def.now doc).word fields.now word.now)
+        (ids_of (T.held sources.now.lists.now) planned)) }
+    ensures ready { IfOk result (λ planned.
+        Ready (T.held sources.now.lists.now) planned.iter (sources.now.after + 1)) }
+    ensures counts { steps.old ≤ steps.new }
+{
+    let text = word.clone()?;
+    let wanted = Wanted {
+        fields,
+        low: 0,
+        high: 0,
+    };
+    Ok(plan_list(sources, ListName::Word { text }, &wanted, used, steps)?)
+}
+
+/// The documents that have a word in some of the fields that begins with a text.
+pub fn plan_prefix<T: Lists, L: Ledger>(
+    sources: &Sources<T>,
+    fields: &Fields,
+    text: &[u8],
+    used: &mut usize,
+    steps: &mut Steps<L>,
+) -> Result<Planned, NoMemory>
+    requires { HintsFit (T.held sources.now.lists.now) sources.now.hints.now }
+    ensures set { IfOk result (λ planned.
+        Tells sources.now.def.now sources.now.parts.now (T.held sources.now.lists.now)
+        (λ doc. (has_of sources.now.def.now doc).prefix fields.now text.now)
+        (ids_of (T.held sources.now.lists.now) planned)) }
+    ensures ready { IfOk result (λ planned.
+        Ready (T.held sources.now.lists.now) planned.iter (sources.now.after + 1)) }
+    ensures counts { steps.old ≤ steps.new }
+{
+    let lists = words_with(sources.alloc, sources.parts.terms(), text)?;
+    let wanted = Wanted {
+        fields,
+        low: 0,
+        high: 0,
+    };
+    Ok(plan_lists(sources, lists, &wanted, used, steps)?)
+}
+
+// The lists of the words that begin with a text.
+fn words_with(alloc: Global, terms: &Terms, text: &[u8]) -> Result<Vec<ListName>, NoMemory>
+    ensures { IfOk result (λ lists. lists.items
+        ≡ map (λ word. ListName.Word word) (words_with text.now terms.now)) }
+{
+    // Its clause tells that the words rise, so that each search goes on behind the last one.
+    let _ = terms.len();
+    let mut lists = Vec::new(alloc);
+    let mut after = None;
+    'words: while let Some(word) = terms.next_name(text, after)? {
+        lists.push(ListName::Word {
+            text: Bytes::from_slice(alloc, word)?,
+        })?;
+        after = Some(word);
+    }
+    Ok(lists)
+}
