@@ -28,6 +28,29 @@ def searches(count, word):
     return [request("FT.SEARCH", "i", word, "NOCONTENT")] * count
 
 
+SHOP_SEARCHES = 200
+SHOP_QUERIES = {
+    "load": None,
+    "rare": "only77",
+    "frequent": "every",
+    "and": "every word5",
+    "or": "word5|word6",
+    "prefix": "only77*",
+    "tag": "@c:{color3}",
+    "range": "@p:[100 1000]",
+    "tag-and-range": "@c:{color3} @p:[100 1000]",
+}
+
+
+def shop(count, query):
+    """Documents of eight words, one of twenty tags and one of 100,000 numbers; then the searches."""
+    loads = [request("FT.CREATE", "i", "SCHEMA", "t", "TEXT", "c", "TAG", "p", "NUMERIC")]
+    for number in range(count):
+        price = number * 7_919 % 100_000
+        loads.append(request("HSET", f"key{number}", "t", text(number), "c", f"color{number % 20}", "p", price))
+    return loads + (searches(SHOP_SEARCHES, query) if query else [])
+
+
 def fields(count):
     return [part for number in range(count) for part in (f"field{number}", f"value{number}")]
 
@@ -51,6 +74,8 @@ WORKS = {
     "fields-of-one-key": lambda count: [request("HSET", "h", f"field{number}", "value") for number in range(count)],
     "nothing": lambda count: [],
 }
+for name, query in SHOP_QUERIES.items():
+    WORKS["shop-" + name] = lambda count, query=query: shop(count, query)
 
 
 def main():

@@ -29,6 +29,15 @@ search-rare 10000 20000 40000: searches of a word of one document, in 1,000
 search-frequent 10000 20000 40000: searches of a word of all 1,000 documents
 search-large-index 10000 20000 40000: so many indexed new keys, then 100 searches of a word of all
 search-after-updates 10000 20000 40000: so many indexed updates of 100 keys, then 100 searches of a word of all
+shop-load 25000 50000 100000: HSETs of new keys, each eight words, a tag and a number, all indexed
+shop-rare 25000 50000 100000: the same, then 200 searches of a word of one document
+shop-frequent 25000 50000 100000: the same with a word of all
+shop-and 25000 50000 100000: a word of all and a word of six in 1,000
+shop-or 25000 50000 100000: one of two words, each of six in 1,000
+shop-prefix 25000 50000 100000: words that begin alike, each of one document, one document in 100
+shop-tag 25000 50000 100000: a tag of one document in 20
+shop-range 25000 50000 100000: numbers of 9 documents in 1,000
+shop-tag-and-range 25000 50000 100000: both
 hgetall 250 500 1000: HGETALLs of a hash of 1,000 fields
 wide-hsets 16384 32768 65534: 20 HSETs of so many words each, of new keys
 wide-hdel 8000 16000 32000: one HDEL of all fields of a hash, from the first to the last

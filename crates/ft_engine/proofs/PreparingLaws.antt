@@ -11,7 +11,7 @@ use Rattle.ft_base.specs.declared.doc.Doc.{Doc}
 use Rattle.ft_engine.specs.Machine.{State}
 use Rattle.ft_engine.specs.Preparing.{HasMore, IsReady, changed, is_change}
 use Rattle.indexed_store.specs.Standing.{AreApart, AreWritten, IndexStands, InStep, markers_at}
-use Rattle.ft_engine.specs.Stands.{IsEngine, unused}
+use Rattle.ft_engine.specs.Stands.{IsEngine, IsIndexed, state_of, unused}
 use Rattle.indexed_store.specs.Definitions.{Defined, defined, definitions_of, index_of, with_index, without_index}
 use Rattle.ft_engine.specs.Step.{last_number, next_number}
 use Rattle.ft_engine.specs.declared.prepared.Change.{Change}
@@ -93,6 +93,11 @@ without-new : (indexes : List Index) (definitions : List Defined) (name : List �
 without-new indexes definitions name same there whole =
     let less = without-less definitions name (ap (λ (ds : List Defined). is_some (index_of ds name)) same ∙ there) in
     absurd (omega (arith, less, ap length whole))
+
+-- what an engine keeps is what its callers are told
+pub indexed : (store : Store) (indexes : List Index) (latest next : ℕ) (pending : Bool) → InStep store indexes (unused pending next)
+    → IsIndexed (record { state = state_of store indexes latest; next = next; indexes = indexes; waits = store.ready; pending = pending })
+indexed store indexes latest next pending step = record { definitions = refl; documents = step.documents; indexes = step.stand; apart = step.apart }
 
 -- an event begins
 pub begun : (store : Store) (indexes : List Index) (capacity counting : ℕ) (pending : Bool) (next : ℕ) → pending ≡ false → next < last_number → IsEngine store indexes capacity counting pending next

@@ -1,11 +1,11 @@
 -- What an engine stands for, and how its indexes stand for the documents.
 use Rattle.std.specs.Prelude.{◌≡◌, ◌<◌, ◌≤◌, ℕ, List, [], Option, None, Bool, true, false, length}
-use Rattle.std.specs.List.{All}
+use Rattle.std.specs.List.{All, AllPairs}
 use Rattle.ft_base.specs.declared.doc.Doc.{Doc}
 use Rattle.ft_index.specs.Index.{Index}
 use Rattle.hash_store.specs.Store.{Store}
 use Rattle.indexed_store.specs.Definitions.{definitions_of}
-use Rattle.indexed_store.specs.Standing.{AreWritten, IndexStands, InStep, markers_at}
+use Rattle.indexed_store.specs.Standing.{AreApart, AreWritten, IndexStands, InStep, markers_at}
 use Rattle.ft_engine.specs.Indexes.{most_indexes}
 use Rattle.ft_engine.specs.Machine.{State, empty_state}
 use Rattle.ft_engine.specs.Step.{last_number, most_counted, next_number}
@@ -34,11 +34,13 @@ unused false next = next
 abbrev pub state_of : Store → List Index → ℕ → State
 state_of store indexes latest = record { space = store.space; definitions = definitions_of indexes; latest = latest }
 
--- There is an index for each definition, and each stands for the documents.
+-- There is an index for each definition, and each stands for the documents. No list of one index has the marker of a list
+-- of another.
 pub record IsIndexed (engine : Stands) : Type 0 where
   pub definitions : engine.state.definitions ≡ definitions_of engine.indexes
   pub documents : AreWritten engine.state.space (unused engine.pending engine.next)
   pub indexes : All (IndexStands engine.state.space (unused engine.pending engine.next) (markers_at (unused engine.pending engine.next))) engine.indexes
+  pub apart : AllPairs AreApart engine.indexes
 
 -- What an engine keeps between calls, with room for this many indexes and this many ids.
 pub record IsEngine (store : Store) (indexes : List Index) (capacity counting : ℕ) (pending : Bool) (next : ℕ) : Type 0 where

@@ -1,5 +1,5 @@
-//! Against an engine that answers otherwise than the documents do: some hundred commands, each answered
-//! by the engine and by a plain machine, which is a list of documents and one of definitions.
+//! Against an engine that answers otherwise than the documents do: some hundred sessions, each command of which
+//! is answered by the engine and by a plain machine, a list of documents and one of definitions.
 ghost use Rattle.std.specs.Prelude.{◌<◌, ◌≤◌, ◌+◌, length, IsTrue};
 ghost use Rattle.ft_meaning.specs.Meaning.{ValuesFit};
 
@@ -30,6 +30,14 @@ struct Row {
 struct Plain {
     rows: Vec<Row>,
     defs: Vec<IndexDef>,
+}
+
+/// Neither documents nor definitions.
+fn nothing(alloc: Global) -> Plain {
+    Plain {
+        rows: Vec::new(alloc),
+        defs: Vec::new(alloc),
+    }
 }
 
 /// The next number of a run that looks random.
@@ -424,12 +432,15 @@ fn put_bulk(out: &mut Vec<u8>, text: &[u8]) -> Result<(), NoMemory> {
 #[test]
 fn answers_as_a_plain_machine_does(rt: HostRuntime) -> Result<(), Fail> {
     let mut session = begin(rt.alloc())?;
-    let mut plain = Plain {
-        rows: Vec::new(rt.alloc()),
-        defs: Vec::new(rt.alloc()),
-    };
+    let mut plain = nothing(rt.alloc());
     let mut seed = 2_026;
-    for at in 0..600 {
+
+    // One long session, and then 300 short ones.
+    for at in 0..15_600 {
+        if 600 <= at && at % 50 == 0 {
+            session = begin(rt.alloc())?;
+            plain = nothing(rt.alloc());
+        }
         seed = next(seed);
         let turn = turn_of(rt.alloc(), seed)?;
         let line = line_of(rt.alloc(), &turn)?;

@@ -1,15 +1,16 @@
-use Rattle.std.proofs.Common.{◌++◌, refl, inr, ap, arith, false, subst, sym, drop, take, ◌∙◌}
-use Rattle.std.specs.Prelude.{◌≡◌, Bool, List, length, max}
+use Rattle.std.proofs.Common.{◌++◌, refl, inr, ap, arith, false, true, subst, sym, drop, take, ◌∙◌}
+use Rattle.std.specs.Prelude.{◌≡◌, ◌+◌, Bool, List, length, max}
 use Rattle.std.proofs.lemmas.List.{take_at}
 use Rattle.ft_base.specs.declared.doc.Doc.{Doc}
 use Rattle.indexed_store.specs.Standing.{AreWritten, InStep}
 use Rattle.cmd_parse.specs.Read.{command_of}
 use Rattle.ft_index.specs.Index.{Index}
 use Rattle.ft_engine.specs.Machine.{State}
+use Rattle.ft_engine.specs.Step.{next_number}
 use Rattle.ft_engine.specs.Preparing.{changed}
 use Rattle.ft_engine.specs.Stands.{Stands, state_of, unused}
 use Rattle.indexed_store.specs.Definitions.{Defined, definitions_of}
-use Rattle.ft_engine.proofs.PreparingLaws.{changes-something}
+use Rattle.ft_engine.proofs.PreparingLaws.{changes-something, indexed, next-below}
 use Rattle.ft_engine.proofs.Stepping.{stepped}
 use Rattle.ft_engine.proofs.engine.Engine.prepare.Goals as goal
 
@@ -25,6 +26,18 @@ returns-clause-writes c some =
     let whole : length now ≡ c.self.inside.indexes.len = omega (arith, c.prepare_command-change.auto.indexes, c.as_mut_slice.ensures.len) in
     changes-something c.prepare_command-change.result c.self.inside.next c.prepare_command-change.new.store.ready now _ documents
     (ap definitions_of (take_at now (drop (length now) c.self.inside.indexes.items) c.self.inside.indexes.len whole)) c.prepare_command-change.ensures.ready some
+
+pub returns-clause-indexed : goal.returns-clause-indexed
+returns-clause-indexed c =
+    let made = c.prepare_command-change in
+    let now = made.new.indexes in
+    let next = c.self.inside.next in
+    let whole : length now ≡ c.self.inside.indexes.len = omega (arith, made.auto.indexes, c.as_mut_slice.ensures.len) in
+    let items : List Index = take c.self.inside.indexes.len (now ++ drop (length now) c.self.inside.indexes.items) in
+    let same : items ≡ now = take_at now (drop (length now) c.self.inside.indexes.items) c.self.inside.indexes.len whole in
+    let later : next_number next ≡ next + 1 = next-below next (omega (arith, c.if-self-ge-LAST_NUMBER.false)) in
+    indexed made.new.store items c.self.inside.latest next true
+    (subst (λ (is : List Index). InStep made.new.store is (next_number next)) (sym same) (subst (InStep made.new.store now) (sym later) made.ensures.kept))
 
 pub returns-clause-answer : goal.returns-clause-answer
 returns-clause-answer c =
