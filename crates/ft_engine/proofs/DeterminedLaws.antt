@@ -1,6 +1,6 @@
 -- The machine has one answer to a command, where memory is not wanting.
-use Rattle.std.specs.Prelude.{◌≡◌, ◌≢◌, ◌<◌, ◌≤◌, ℕ, List, [], Bool, Option, None, Some, Result, Ok, Err, slice_index_or, refl}
-use Rattle.std.proofs.Common.{sym, ap, ◌∙◌, subst, inl, inr, arith}
+use Rattle.std.specs.Prelude.{◌≡◌, ◌≢◌, ℕ, List, [], Bool, Option, None, Some, Result, Ok, Err, slice_index_or, refl}
+use Rattle.std.proofs.Common.{sym, ap, ◌∙◌, inl, inr, arith}
 use Rattle.ft_base.specs.Reply.{spelling}
 use Rattle.ft_base.specs.declared.definition.IndexDef.{IndexDef}
 use Rattle.ft_base.specs.declared.doc.Doc.{Doc}
@@ -13,7 +13,7 @@ use Rattle.indexed_store.specs.Definitions.{Defined, index_of}
 use Rattle.query_lex.specs.Lexemes.{lexemes}
 use Rattle.query_lex.specs.declared.fault.LexFault.{LexFault}
 use Rattle.query_lex.specs.declared.lexeme.Lexeme.{Lexeme}
-use Rattle.query_grammar.specs.Answer.{Answers as Told, IsAnswer, IsFault, IsMeaning, lex_place}
+use Rattle.query_grammar.specs.Answer.{Answers as Told, IsFault, IsMeaning, lex_place}
 use Rattle.query_grammar.specs.declared.fault.QueryFault.{QueryFault}
 use Rattle.query_grammar.specs.declared.fault.QueryFault.TheVariants.{Syntax, UnknownField, WrongKind, NoParam, TooDeep, OutOfScope, NoMemory}
 use Rattle.ft_engine.specs.Machine.{Outcome, State, at_moment}

@@ -1,5 +1,5 @@
 -- Steps of plain commands.
-use Rattle.std.proofs.Common.{◌≡◌, ℕ, List, [], ◌∷◌, length, refl, subst, sym, ap, ◌∙◌, arith, inl, inr, w64, FitsSigned, to_z, of_z, cond}
+use Rattle.std.proofs.Common.{◌≡◌, ℕ, List, refl, subst, sym, ap, ◌∙◌, inl, inr, w64, FitsSigned, to_z, of_z, cond}
 use Rattle.std.specs.Prelude.{◌+ℤ◌, ℤ, pos, codes, is_some, Bool, true, false, Option, Some, None}
 use Rattle.std.specs.Str.{bytes_eq}
 use Rattle.std.specs.Fmt.{signed_decimal}
@@ -13,7 +13,7 @@ use Rattle.ft_base.proofs.Ints.{fits_from_test}
 use Rattle.ft_engine.specs.Asking.{first, second, third}
 use Rattle.cmd_parse.specs.Read.{Plain}
 use Rattle.cmd_parse.specs.declared.command.Verb.{Verb}
-use Rattle.cmd_parse.specs.declared.command.Verb.TheVariants.{Ping, Hset, Hsetnx, Hincrby, Rename}
+use Rattle.cmd_parse.specs.declared.command.Verb.TheVariants.{Hincrby, Rename}
 use Rattle.ft_base.specs.Reply.{spelling}
 use Rattle.ft_base.specs.declared.doc.Doc.{Doc}
 use Rattle.ft_base.specs.declared.reply.Reply.{Reply}
@@ -23,7 +23,7 @@ use Rattle.ft_engine.specs.Machine.{Outcome, State, answered, hash_of}
 use Rattle.indexed_store.specs.Definitions.{all_tried}
 use Rattle.indexed_store.specs.Writing.{written}
 use Rattle.ft_engine.specs.Step.{Does, plain}
-use Rattle.ft_engine.specs.Writes.{hincrby, hset_unless, number_in, put, rename}
+use Rattle.ft_engine.specs.Writes.{hincrby, number_in, put, rename}
 use Rattle.ft_engine.proofs.Stepping.{stays}
 
 -- a command of this verb that changes nothing

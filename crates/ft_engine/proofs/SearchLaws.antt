@@ -1,5 +1,5 @@
 -- What a search answers is what its query says of the documents.
-use Rattle.std.specs.Prelude.{◌≡◌, ◌≢◌, ◌<◌, ◌⊎◌, ◌^◌, ℕ, List, [], Bool, Option, None, Some, Result, Ok, Err, IfOk, codes, find, refl}
+use Rattle.std.specs.Prelude.{◌≡◌, ◌≢◌, ◌<◌, ◌^◌, ℕ, List, Bool, Option, None, Some, Result, Ok, Err, IfOk, find, refl}
 use Rattle.std.proofs.Common.{sym, ap, ◌∙◌, arith, inl, inr, subst}
 use Rattle.std.specs.List.{All}
 use Rattle.std.specs.Option.{option_map}
@@ -26,7 +26,7 @@ use Rattle.query_plan.specs.Finds.{IsKept}
 use Rattle.search_exec.specs.Replies.{found_reply}
 use Rattle.ft_engine.specs.Indexes.{unknown_index}
 use Rattle.ft_engine.specs.Machine.{State}
-use Rattle.ft_engine.specs.Refusals.{out_of_memory, query_refusal}
+use Rattle.ft_engine.specs.Refusals.{query_refusal}
 use Rattle.ft_engine.specs.Searching.{IsAnswered, IsSearched}
 use Rattle.ft_engine.specs.Step.{Does, Told}
 

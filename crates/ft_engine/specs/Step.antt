@@ -1,5 +1,5 @@
 -- One step of the machine: a command at an event's number and a moment gives a reply and the next state.
-use Rattle.std.specs.Prelude.{◌≡◌, ◌<◌, ◌≤◌, ◌⊎◌, ℕ, pos, List, [], ◌∷◌, ◌+◌, ◌^◌, min, length, take, drop, map, slice_index_or, Option, Some, None, is_some, Bool, Result, Ok, Err, IsTrue, codes}
+use Rattle.std.specs.Prelude.{◌≡◌, ◌<◌, ◌≤◌, ◌⊎◌, ℕ, pos, List, [], ◌∷◌, ◌+◌, ◌^◌, min, length, drop, map, slice_index_or, is_some, Result, Ok, Err, IsTrue, codes}
 use Rattle.cmd_parse.specs.Read.{Asked, Plain, CreateIndex, AlterIndex, InfoOf, Search, read, takes_memory}
 use Rattle.cmd_parse.specs.declared.command.CmdFault.{CmdFault}
 use Rattle.cmd_parse.specs.declared.command.Verb.{Verb}
@@ -12,7 +12,7 @@ use Rattle.ft_base.specs.declared.reply.Reply.{Reply}
 use Rattle.ft_base.specs.declared.reply.Reply.TheVariants.{Line, Fault, Number, Bulk, Array}
 use Rattle.ft_engine.specs.Asking.{first, second, third}
 use Rattle.hash_replies.specs.Reads.{in_turn, kind_of, names, one_if, present, value_reply, values}
-use Rattle.indexed_store.specs.Definitions.{Defined, index_of}
+use Rattle.indexed_store.specs.Definitions.{index_of}
 use Rattle.ft_engine.specs.Informing.{IsInformed}
 use Rattle.ft_engine.specs.Indexes.{altered, created, dropped, listed, tag_vals}
 use Rattle.ft_engine.specs.Refusals.{out_of_memory, refusal}

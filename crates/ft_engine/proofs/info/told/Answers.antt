@@ -1,4 +1,4 @@
-use Rattle.std.proofs.Common.{arith, sym}
+use Rattle.std.proofs.Common.{arith}
 use Rattle.ft_engine.proofs.InfoLaws.{rising-few, told-of}
 use Rattle.ft_engine.proofs.info.told.Goals as goal
 

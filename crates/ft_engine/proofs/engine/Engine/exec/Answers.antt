@@ -1,4 +1,4 @@
-use Rattle.std.proofs.Common.{◌≡◌, List, ℕ, subst, sym}
+use Rattle.std.proofs.Common.{◌≡◌, subst, sym}
 use Rattle.cmd_parse.specs.Read.{command_of}
 use Rattle.ft_engine.specs.Asking.{AreWords}
 use Rattle.ft_engine.proofs.AskedLaws.{lawful-asked}
