@@ -3,7 +3,8 @@
 
 Of each crate of crates.txt: a README, a `//!` head in its root file, a row of docs/ARCHITECTURE.md with the same first
 sentence, and its must-fail edits in docs/WRONG_BODIES.md. Of each clause that a README or docs/PROMISES.md names: that
-the named source has it. Of each source: at most 800 lines.
+the named source has it. Of docs/DEFINITIONS.md: that it says to believe just the definitions that the program's clause
+reaches. Of each source: at most 800 lines.
 """
 import pathlib
 import re
@@ -113,6 +114,38 @@ def check_crate(crate, architecture, wrong_bodies, faults):
             faults.append(f"docs/WRONG_BODIES.md: no row of `{crate}` and `{edit.stem}`")
 
 
+# The definitions that the clause of the program's `run` cites.
+CITED = ("Ends", "FaultText", "Script", "Session", "Status")
+USED = re.compile(r"^use Rattle\.(\w+)\.specs\.(\w+)", re.M)
+LISTED = re.compile(r"`(?:crates/(\w+)/specs/)?(\w+)\.antt`")
+
+
+def reached():
+    """The files of definitions that the program's clause reaches, through whatever they use."""
+    left = [pathlib.Path("crates", "rsearch", "specs", f"{name}.antt") for name in CITED]
+    found = set()
+    while left:
+        path = left.pop()
+        if path in found or not path.is_file():
+            continue
+        found.add(path)
+        left += [pathlib.Path("crates", crate, "specs", f"{name}.antt") for crate, name in USED.findall(path.read_text())]
+    return found
+
+
+def check_definitions(faults):
+    text = pathlib.Path("docs/DEFINITIONS.md").read_text().split("## In between")[0]
+    listed = set()
+    crate = None
+    for named, file in LISTED.findall(text):
+        crate = named or crate
+        listed.add(pathlib.Path("crates", crate, "specs", f"{file}.antt"))
+    for path in sorted(reached() - listed):
+        faults.append(f"docs/DEFINITIONS.md: {path} is reached, and not listed")
+    for path in sorted(listed - reached()):
+        faults.append(f"docs/DEFINITIONS.md: {path} is listed, and not reached")
+
+
 def tracked():
     listed = subprocess.run(["git", "ls-files", "-co", "--exclude-standard"], capture_output=True, text=True, check=True)
     return [pathlib.Path(name) for name in listed.stdout.splitlines() if pathlib.Path(name).is_file()]
@@ -130,6 +163,7 @@ def main():
     for row in re.findall(r"^\| `([a-z_]+)` \| `([a-z_]+)` \|", wrong_bodies, re.M):
         if not pathlib.Path("crates", row[0], "must-fail", f"{row[1]}.edit").is_file():
             faults.append(f"docs/WRONG_BODIES.md: there is no edit `{row[1]}` of `{row[0]}`")
+    check_definitions(faults)
     for path in tracked():
         if path.suffix in (".rt", ".antt", ".py", ".sh"):
             lines = len(path.read_text().splitlines())

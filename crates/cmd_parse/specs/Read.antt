@@ -1,7 +1,7 @@
 -- What a command asks, in the order of refusals: an unknown name, a command that is not built, a wrong number of words,
 -- a form that is not built, and the first fault of the words from the left. An index that is created has a serial, which
 -- is not among the words.
-use Rattle.std.specs.Prelude.{◌≡◌, ℕ, ℤ, pos, suc, List, [], ◌∷◌, length, Bool, Option, Some, None, Result, Ok, Err, codes, is_none, ◌&&◌, ◌||◌, ◌==◌, ◌%◌, nat_le, nat_lt, slice_index_or, false, IsTrue, if◌then◌else◌}
+use Rattle.std.specs.Prelude.{◌≡◌, ℕ, ℤ, pos, suc, List, [], ◌∷◌, length, Bool, Option, Some, None, Result, Ok, Err, codes, drop, is_none, ◌&&◌, ◌||◌, ◌==◌, ◌%◌, nat_le, slice_index_or, false, IsTrue, if◌then◌else◌}
 use Rattle.std.specs.Ordering.{int_eq}
 use Rattle.ft_base.specs.Names.{is_name}
 use Rattle.ft_base.specs.Number.{int_of}
@@ -11,7 +11,7 @@ use Rattle.ft_base.specs.declared.query.Param.{Param}
 use Rattle.ft_schema.specs.Schema.{alter, create}
 use Rattle.ft_schema.specs.declared.fault.SchemaFault.{SchemaFault}
 use Rattle.cmd_parse.specs.Commands.{form_of}
-use Rattle.cmd_parse.specs.Search.{is_no_content, params_behind}
+use Rattle.cmd_parse.specs.Search.{has_params, is_no_content, params_behind}
 use Rattle.cmd_parse.specs.declared.command.Verb.{Verb}
 use Rattle.cmd_parse.specs.declared.command.Verb.TheVariants.{Select, Hincrby, Flushall, DropIndex}
 use Rattle.cmd_parse.specs.declared.command.CmdFault.{CmdFault}
@@ -104,17 +104,17 @@ abbrev pub read : ℕ → List (List ℕ) → Result Asked CmdFault
 read serial [] = Err Unknown
 read serial (name ∷ args) = read_as (form_of name) serial name args
 
--- whether words are copied: those of a schema are, and those of a search's parameters, which begin behind four words
-abbrev pub copies_words : Option Form → ℕ → Bool
-copies_words (Some Create) count = nat_le 5 count
-copies_words (Some Alter) count = nat_le 6 count
-copies_words (Some form.Search) count = nat_lt 4 count
-copies_words _ count = false
+-- whether words behind the name are copied: those of a schema are, and the parameters of a search
+abbrev pub copies_words : Option Form → List (List ℕ) → Bool
+copies_words (Some Create) args = nat_le 5 (suc (length args))
+copies_words (Some Alter) args = nat_le 6 (suc (length args))
+copies_words (Some form.Search) args = has_params (drop 2 args)
+copies_words _ args = false
 
 -- whether words are read with memory
 abbrev pub takes_memory : List (List ℕ) → Bool
 takes_memory [] = false
-takes_memory (name ∷ args) = copies_words (form_of name) (suc (length args))
+takes_memory (name ∷ args) = copies_words (form_of name) args
 
 -- what the code's search is among these
 abbrev pub search_of : SearchSpec → Asked

@@ -35,13 +35,26 @@ abbrev pub unless_repeated : Option ℕ → List Param → Result (List Param) C
 unless_repeated None params = Ok params
 unless_repeated (Some at) params = Err (Syntax at)
 
+-- whether words are PARAMS, the number of the words that follow, and these
+abbrev pub are_params : List ℕ → List ℕ → List (List ℕ) → Bool
+are_params option count words = is_name option (codes "PARAMS") && counts_pairs (int_of count) (length words)
+
+abbrev pub gives_params : List (List ℕ) → Bool
+gives_params [] = false
+gives_params (option ∷ []) = false
+gives_params (option ∷ count ∷ words) = are_params option count words
+
+-- whether the words behind the query give parameters, in a form that is built
+abbrev pub has_params : List (List ℕ) → Bool
+has_params words = if is_no_content words then gives_params (drop 1 words) else gives_params words
+
 -- The parameters that these words give, of which the first is word `at` of the command: no words, or PARAMS, the number
 -- of the words that follow, and these. Nothing else is built.
 abbrev pub params_at : ℕ → List (List ℕ) → Result (List Param) CmdFault
 params_at at [] = Ok []
 params_at at (option ∷ []) = Err NotBuilt
 params_at at (option ∷ count ∷ words) =
-    if is_name option (codes "PARAMS") && counts_pairs (int_of count) (length words)
+    if are_params option count words
     then unless_repeated (first_repeat (at + 2) [] (params_of words)) (params_of words)
     else Err NotBuilt
 

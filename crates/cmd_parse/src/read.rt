@@ -1,8 +1,10 @@
 //! A command from its words, in the order of refusals: an unknown name, a command that is not built,
 //! a wrong number of words, a form that is not built, and the first fault of the words from the left.
-ghost use Rattle.std.specs.Prelude.{◌≡◌, ◌≢◌, ◌<◌, ◌≤◌, ◌+◌, [], length, drop, slice_index_or, Err, Ok, IfOk, MatchResult};
+ghost use Rattle.std.specs.Prelude.{◌≡◌, ◌≢◌, ◌<◌, ◌≤◌, ◌+◌, [], length, drop, slice_index_or, Err, Ok, IfOk, IsTrue, MatchResult};
+ghost use Rattle.cmd_parse.specs.Asking.{AreWords, IsAsked};
 ghost use Rattle.cmd_parse.specs.Lawful.{HasSerial, IsLawful, LawfulNumber};
 ghost use Rattle.cmd_parse.specs.Read.{IsReading, altered, asked_of, command_of, created, first_fault, is_flush_word, plain, search, select_fault};
+ghost use Rattle.cmd_parse.specs.Search.{has_params};
 ghost use Rattle.cmd_parse.specs.declared.command.CmdFault.TheVariants.{NoMemory};
 ghost use Rattle.ft_base.specs.Number.{int_of};
 ghost use Rattle.ft_base.specs.declared.limits.TheConstants.{MAX_WORDS};
@@ -27,6 +29,7 @@ pub fn read_command<'a>(
     ensures exact { IsReading serial words.entry result }
     ensures lawful { IfOk result (λ command. IsLawful words.entry (command_of command)) }
     ensures serial { IfOk result (λ command. HasSerial serial (command_of command)) }
+    ensures asked { AreWords words.entry → IfOk result (λ command. IsAsked (command_of command)) }
 {
     let Some(form) = form_of(words.word(0)) else {
         return Err(CmdFault::Unknown);
@@ -141,7 +144,7 @@ fn search<'a>(alloc: Global, words: &Words<'a>) -> Result<Command<'a>, CmdFault>
     ensures exact { MatchResult result
         (λ command. search (drop 1 words.now) ≡ Ok (command_of command))
         (λ fault. fault ≢ NoMemory → search (drop 1 words.now) ≡ Err fault) }
-    ensures memory { length words.now ≤ 4 → result ≢ Err NoMemory }
+    ensures memory { result ≡ Err NoMemory → IsTrue (has_params (drop 3 words.now)) }
     ensures lawful { IfOk result (λ command. IsLawful words.now (command_of command)) }
 {
     match read_search(alloc, words) {

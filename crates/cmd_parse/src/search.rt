@@ -1,7 +1,7 @@
 //! What FT.SEARCH asks: an index, a query, and how its answer is shown.
-ghost use Rattle.std.specs.Prelude.{◌≡◌, ◌≢◌, ◌<◌, ◌≤◌, ◌+◌, ◌%◌, [], length, drop, Err, Ok, IfOk, IfSome, MatchResult};
+ghost use Rattle.std.specs.Prelude.{◌≡◌, ◌≢◌, ◌<◌, ◌≤◌, ◌+◌, ◌%◌, [], length, drop, Err, Ok, IfOk, IfSome, IsTrue, MatchResult};
 ghost use Rattle.cmd_parse.specs.Read.{search, search_of};
-ghost use Rattle.cmd_parse.specs.Search.{counts_pairs, first_repeat, is_no_content, params_at, params_behind, params_of};
+ghost use Rattle.cmd_parse.specs.Search.{counts_pairs, first_repeat, gives_params, has_params, is_no_content, params_at, params_behind, params_of};
 ghost use Rattle.cmd_parse.specs.declared.command.CmdFault.TheVariants as faults;
 ghost use Rattle.ft_base.specs.Number.{int_of};
 ghost use Rattle.ft_base.specs.declared.limits.TheConstants.{MAX_WORDS};
@@ -29,7 +29,7 @@ pub fn read_search<'a>(alloc: Global, words: &Words<'a>) -> Result<SearchSpec<'a
     ensures exact { MatchResult result
         (λ spec. search (drop 1 words.now) ≡ Ok (search_of spec))
         (λ fault. fault ≢ faults.NoMemory → search (drop 1 words.now) ≡ Err fault) }
-    ensures memory { length words.now ≤ 4 → result ≢ Err faults.NoMemory }
+    ensures memory { result ≡ Err faults.NoMemory → IsTrue (has_params (drop 3 words.now)) }
 {
     let options = words.rest(3);
     Ok(SearchSpec {
@@ -53,7 +53,7 @@ fn params_behind(alloc: Global, words: &Words<'_>) -> Result<ListOf<Param>, CmdF
     ensures exact { MatchResult result
         (λ params. params_behind words.now ≡ Ok params)
         (λ fault. fault ≢ faults.NoMemory → params_behind words.now ≡ Err fault) }
-    ensures memory { length words.now < 2 → result ≢ Err faults.NoMemory }
+    ensures memory { result ≡ Err faults.NoMemory → IsTrue (has_params words.now) }
 {
     if is_no_content(words) {
         params_at(alloc, &words.rest(1), 4)
@@ -68,7 +68,7 @@ fn params_at(alloc: Global, words: &Words<'_>, at: usize) -> Result<ListOf<Param
     ensures exact { MatchResult result
         (λ params. params_at at words.now ≡ Ok params)
         (λ fault. fault ≢ faults.NoMemory → params_at at words.now ≡ Err fault) }
-    ensures memory { length words.now < 2 → result ≢ Err faults.NoMemory }
+    ensures memory { result ≡ Err faults.NoMemory → IsTrue (gives_params words.now) }
 {
     if words.len() == 0 {
         return Ok(ListOf::new(alloc));

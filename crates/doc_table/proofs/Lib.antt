@@ -1,4 +1,3 @@
 -- What the rows of the table obey.
-pub mod RowsLaws
 pub mod TableLaws
 pub mod FindLaws

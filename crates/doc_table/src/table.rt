@@ -5,7 +5,7 @@ ghost use Rattle.std.specs.Option.{option_map};
 ghost use Rattle.std.specs.List.Sorted.{IsStrictlyIncreasing};
 ghost use Rattle.std.specs.BTreeMap.{keys};
 ghost use Rattle.std.specs.Map.{lookup, remove_entry};
-ghost use Rattle.doc_table.specs.Rows.{live_rows};
+ghost use Rattle.ft_base.specs.Rows.{live_rows};
 
 use ft_base::{Bytes, ListOf, NoMemory};
 use std::alloc::Global;

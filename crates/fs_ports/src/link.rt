@@ -1,5 +1,5 @@
 //! A stream of bytes in both directions, as a connection or a pair of files is one.
-ghost use Rattle.std.specs.Prelude.{◌≡◌, ◌<◌, ◌≤◌, List, ℕ, length, OnOk, OnErr, IfOk};
+ghost use Rattle.std.specs.Prelude.{◌≡◌, ◌<◌, ◌≤◌, ⊤, List, ℕ, length, OnOk, OnErr, IfOk};
 ghost use Rattle.std.specs.declared.option.Option.{Option};
 ghost use Rattle.std.specs.Io.{ReadsAtMost, WritesAtMost};
 ghost use Rattle.std.specs.Io.KnownBytes.{Appends, Keeps, ReadConsumes, WriteAppends};
@@ -26,8 +26,13 @@ pub trait Link {
     /// How many writes failed.
     ghost write_faults: { Self → ℕ };
 
+    /// What has to hold when it is read. A caller that is generic over links shows it at each read, by what it asks of
+    /// its own caller; one that may be read at any time asks nothing.
+    ghost readable: { Self → Type 0 } = { λ _. ⊤ };
+
     /// Reads some of the bytes left into the front of `buf`. None in a buffer with room is the end.
     fn read(&mut self, buf: &mut [u8]) -> Result<usize, Failed>
+        requires turn { readable self.old }
         ensures bound { ReadsAtMost result buf.new }
         ensures bytes { ReadConsumes (left self.old) (left self.new) result buf.new }
         ensures written { Keeps (written self.old) (written self.new) }

@@ -1,13 +1,3 @@
-pub mod Asking
-pub mod Counting
-pub mod Determined
-pub mod History
-pub mod Indexes
-pub mod Informing
-pub mod Machine
 pub mod Preparing
-pub mod Refusals
-pub mod Searching
+pub mod Quiet
 pub mod Stands
-pub mod Step
-pub mod Writes

@@ -1,24 +1,26 @@
 //! The engine: a state of the machine, and the events that lead from one to the next.
-ghost use Rattle.std.specs.Prelude.{◌≡◌, ◌≢◌, ◌<◌, ◌≤◌, ◌^◌, Err, [], true, false, length, vec_capacity, IfOk, IsTrue};
+ghost use Rattle.std.specs.Prelude.{◌≡◌, ◌≢◌, ◌<◌, ◌≤◌, ◌^◌, Ok, Err, [], true, false, length, vec_capacity, IfOk, IsTrue};
 ghost use Rattle.ft_base.specs.Words.{KeepsLimits};
 ghost use Rattle.cmd_parse.specs.Lawful.{HasSerial};
-ghost use Rattle.cmd_parse.specs.Read.{IsReading, command_of};
-ghost use Rattle.ft_engine.specs.Asking.{IsAsked};
-ghost use Rattle.ft_engine.specs.Preparing.{IsLast, abandoned, committed, is_change};
+ghost use Rattle.cmd_parse.specs.Read.{Asked, IsReading, command_of, read};
+ghost use Rattle.cmd_parse.specs.Asking.{IsAsked};
+ghost use Rattle.ft_engine.specs.Preparing.{IsLast, abandoned, committed};
+ghost use Rattle.engine_changes.specs.Changing.{is_change};
+ghost use Rattle.ft_engine.specs.Quiet.{IsQuiet};
 ghost use Rattle.ft_engine.specs.Stands.{IsIndexed, opened};
-ghost use Rattle.ft_engine.specs.Step.{Answers, At, Does, next_number};
+ghost use Rattle.engine_changes.specs.declared.change.Change.TheVariants.{Nothing};
+ghost use Rattle.index_commands.specs.Exactness.{IsRefusal, ReadsFew, TellsExactly};
+ghost use Rattle.ft_machine.specs.Step.{Answers, At, Does, next_number};
 
-use crate::changes::make;
-use crate::index_commands::MOST_INDEXES;
-use crate::prepared::{Change, Prepared};
-use crate::refusals::put_refusal;
-use crate::removals::MOST_COUNTED;
-use crate::short_reply::put_fault;
+use crate::prepared::Prepared;
 use crate::step::prepare_command;
 use cmd_parse::{CmdFault, Command, read_command};
+use engine_changes::{Change, MOST_INDEXES, make};
 use ft_base::{NoMemory, Words};
 use ft_index::FtIndex;
+use hash_commands::MOST_COUNTED;
 use hash_store::HashStore;
+use reply_buffer::{put_fault, put_refusal};
 use std::alloc::Global;
 use std::marker::Model;
 
@@ -45,7 +47,8 @@ pub struct Engine {
 }
 
 impl Model for Engine {
-    ghost use Rattle.ft_engine.specs.Stands.{Stands, state_of};
+    ghost use Rattle.ft_engine.specs.Stands.{Stands};
+    ghost use Rattle.engine_changes.specs.States.{state_of};
 
     ghost Value = { Stands };
 
@@ -55,6 +58,7 @@ impl Model for Engine {
       indexes = e.indexes.items;
       waits = e.store.ready;
       pending = e.pending;
+      reads = e.store.reads;
     } };
 
     ghost use Rattle.ft_engine.specs.Stands.{IsEngine};
@@ -112,6 +116,13 @@ impl Engine {
 
         // Each index stands for the documents.
         ensures indexed { IsIndexed self.new }
+
+        // A search reads what it shows, and no more; what FT.INFO tells is what the lists hold.
+        ensures reads { (asks : Asked) → read self.old.next words.entry ≡ Ok asks
+            → ReadsFew asks out.new.items self.old.reads self.new.reads }
+        ensures records { (asks : Asked) → read self.old.next words.entry ≡ Ok asks
+            → TellsExactly asks self.old.indexes out.new.items }
+
         ensures free { self.new.pending ≡ false }
         ensures room { 64 ≤ vec_capacity out.new }
     {
@@ -141,8 +152,13 @@ impl Engine {
         ensures next { self.new.next ≡ self.old.next }
         ensures last { IsLast result self.new }
         ensures indexed { IsIndexed self.new }
+        ensures reads { ReadsFew (command_of command.entry) out.new.items self.old.reads self.new.reads }
+        ensures records { TellsExactly (command_of command.entry) self.old.indexes out.new.items }
+        ensures quiet { IsQuiet (command_of command.entry) result.change }
         ensures room { 64 ≤ vec_capacity out.new }
     {
+        // Tells that the keys differ.
+        let _count = self.store.len();
         self.pending = true;
         if LAST_NUMBER <= self.next {
             put_fault(out, b"ERR last event reached");
@@ -172,6 +188,7 @@ impl Engine {
         ensures state { self.new.state ≡ committed prepared.entry self.old }
         ensures next { self.new.next ≡ next_number self.old.next }
         ensures indexed { IsIndexed self.new }
+        ensures quiet { prepared.entry.change ≡ Nothing → self.new.reads ≡ self.old.reads }
         ensures free { self.new.pending ≡ false }
     {
         make(
@@ -203,11 +220,15 @@ impl Engine {
         requires free { self.old.pending ≡ false }
         ensures answer { Answers words.entry self.old.next now self.old.state
             out.new.items self.new.state }
+        ensures refused { IsRefusal out.new.items }
+        ensures reads { self.new.reads ≡ self.old.reads }
         ensures next { self.new.next ≡ next_number self.old.next }
         ensures indexed { IsIndexed self.new }
         ensures free { self.new.pending ≡ false }
         ensures room { 64 ≤ vec_capacity out.new }
     {
+        // Tells that the keys differ.
+        let _count = self.store.len();
         if LAST_NUMBER <= self.next {
             return put_fault(out, b"ERR last event reached");
         }
@@ -226,6 +247,8 @@ impl Engine {
         } }
         ensures indexed { IsIndexed self.new }
     {
+        // Tells that the keys differ.
+        let _count = self.store.len();
         self.latest = latest;
         self.pending = false;
         if self.next < LAST_NUMBER {

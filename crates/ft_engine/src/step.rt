@@ -1,23 +1,23 @@
 //! What a command asks is prepared: the reply is written, and what it needs is made ready.
+ghost use Rattle.hash_commands.specs.declared.removals.TheConstants.{MOST_COUNTED};
+ghost use Rattle.reply_buffer.specs.declared.short_reply.TheConstants.{SHORT_REPLY};
 ghost use Rattle.std.specs.Prelude.{◌≡◌, ◌<◌, ◌≤◌, ◌+◌, ◌^◌, ℕ, [], vec_capacity};
 ghost use Rattle.cmd_parse.specs.Read.{command_of};
-ghost use Rattle.ft_engine.specs.Asking.{IsAsked};
-ghost use Rattle.ft_engine.specs.Preparing.{IsReady, changed};
+ghost use Rattle.cmd_parse.specs.Asking.{IsAsked};
+ghost use Rattle.engine_changes.specs.Changing.{IsReady, changed};
 ghost use Rattle.indexed_store.specs.Standing.{InStep};
-ghost use Rattle.indexed_store.specs.Definitions.{definitions_of};
-ghost use Rattle.ft_engine.specs.Stands.{state_of};
-ghost use Rattle.ft_engine.specs.Step.{Does};
+ghost use Rattle.indexed_store.specs.DefinitionsOf.{definitions_of};
+ghost use Rattle.engine_changes.specs.States.{state_of};
+ghost use Rattle.ft_engine.specs.Quiet.{IsQuiet};
+ghost use Rattle.ft_machine.specs.Step.{Does};
+ghost use Rattle.index_commands.specs.Exactness.{ReadsFew, TellsExactly};
 
-use crate::index_commands::{alter, create};
-use crate::info::answer_info;
 use crate::plain::prepare_plain;
-use crate::prepared::Change;
-use crate::removals::MOST_COUNTED;
-use crate::search::answer_search;
-use crate::short_reply::SHORT_REPLY;
 use cmd_parse::Command;
+use engine_changes::Change;
 use ft_index::FtIndex;
 use hash_store::HashStore;
+use index_commands::{alter, answer_info, answer_search, create};
 use std::alloc::Global;
 
 /// Prepares what is asked in an event with this number, writes the reply, and answers the change.
@@ -43,6 +43,9 @@ pub fn prepare_command<'a>(
     ensures definitions { definitions_of indexes.new ≡ definitions_of indexes.old }
     ensures kept { InStep store.new indexes.new (number + 1) }
     ensures ready { IsReady result number store.new.space store.new.ready indexes.new }
+    ensures reads { ReadsFew (command_of command.entry) out.new.items store.old.reads store.new.reads }
+    ensures records { TellsExactly (command_of command.entry) indexes.old out.new.items }
+    ensures quiet { IsQuiet (command_of command.entry) result }
     ensures ids { MOST_COUNTED ≤ vec_capacity ids.new }
     ensures room { SHORT_REPLY ≤ vec_capacity out.new }
 {

@@ -5,6 +5,7 @@ ghost use Rattle.std.specs.Prelude.{◌≡◌, ◌<◌, ◌≤◌, ◌↔◌, �
 ghost use Rattle.ft_base.specs.Words.{KeepsLimits, LieIn, words_of};
 
 mod compared;
+mod corners;
 mod events;
 mod hashes;
 mod indexes;

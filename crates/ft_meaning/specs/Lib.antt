@@ -1,3 +1,4 @@
 pub mod Holds
 pub mod Meaning
 pub mod Member
+pub mod Records

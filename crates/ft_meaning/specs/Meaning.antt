@@ -32,14 +32,6 @@ field_tokens def doc field = if has_words field then value_tokens def.stops.word
 abbrev pub has_word : List ℕ → List Token → Bool
 has_word word found = list_any (λ (token : Token). bytes_eq word token.word) found
 
--- Whether a word is among the tokens of some field of a document.
-abbrev pub holds_word : IndexDef → List ℕ → Doc → Bool
-holds_word def word doc = list_any (λ (field : Field). has_word word (field_tokens def doc field)) def.fields
-
 -- The documents that a test of one document finds: the members that pass, in their order. Each query is such a test.
 abbrev pub found_by : (IndexDef → Doc → Bool) → IndexDef → List Doc → List Doc
 found_by holds def docs = filter (holds def) (members def docs)
-
--- the documents that a word finds
-abbrev pub found : IndexDef → List ℕ → List Doc → List Doc
-found def word docs = found_by (λ def doc. holds_word def word doc) def docs

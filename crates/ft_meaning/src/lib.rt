@@ -13,4 +13,4 @@ mod words;
 /// Whether a document is in an index, and whether it fails to be.
 pub use membership::{failed, member};
 /// The words of a document's fields.
-pub use words::{field_tokens, holds_word};
+pub use words::field_tokens;

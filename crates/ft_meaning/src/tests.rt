@@ -1,13 +1,14 @@
-//! Against mistakes that the check would pass: a definition that finds other words than RediSearch
+//! Against mistakes that the check would pass: a definition that finds other tokens than RediSearch
 //! does or has other members, a call that always finds memory wanting, a condition that no caller can
 //! meet.
 ghost use Rattle.std.specs.Prelude.{◌≡◌, IsTrue};
 ghost use Rattle.ft_meaning.specs.Meaning.{ValuesFit};
 
-use crate::{field_tokens, holds_word};
+use crate::field_tokens;
 use ft_base::{Bytes, Doc, Field, FieldKind, HashRec, IndexDef, ListOf, NoMemory, StopWords};
 use std::alloc::Global;
 use std::test::Fail;
+use token_text::Token;
 
 mod members;
 
@@ -74,77 +75,65 @@ fn values_fit(hash: &HashRec) -> bool
     true
 }
 
-// Whether a word is held, and none where the document is too long.
-fn holds(alloc: Global, def: &IndexDef, word: &str, doc: &Doc) -> Result<Option<bool>, NoMemory> {
-    if values_fit(&doc.hash) {
-        Ok(Some(holds_word(alloc, def, word.as_bytes(), doc)?))
-    } else {
-        Ok(None)
+// Whether the tokens of the field `title` are these words, and no other field has any.
+fn tokens_are(alloc: Global, def: &IndexDef, doc: &Doc, title: &[&str]) -> Result<bool, NoMemory> {
+    if !values_fit(&doc.hash) {
+        return Ok(false);
     }
-}
-
-#[test]
-fn holds_words_of_text_fields(rt: HostRuntime) -> Result<(), Fail> {
-    let def = three_fields(rt.alloc())?;
-    let values = [
-        ("tags", "red,blue"),
-        ("t", "alias"),
-        ("title", "The quick_fox re\\-reads Notes, the"),
-        ("note", "hidden"),
-        ("other", "unknown"),
-    ];
-    let full = doc(rt.alloc(), &values)?;
-    let bare = doc(rt.alloc(), &[("note", "quick_fox"), ("tags", "quick_fox")])?;
-    for (word, held) in [
-        ("quick_fox", true),
-        ("notes", true),
-        ("re-reads", true),
-        ("reads", false),
-        ("re", false),
-        ("note", false),
-        ("Notes", false),
-        ("the", false),
-        ("red", false),
-        ("alias", false),
-        ("hidden", false),
-        ("unknown", false),
-        ("title", false),
-        ("", false),
-    ] {
-        let found = holds(rt.alloc(), &def, word, &full)?;
-        assert_eq!(rt; found, Some(held), "is {word} held");
-        let found = holds(rt.alloc(), &def, word, &bare)?;
-        assert_eq!(rt; found, Some(false), "is {word} held without a title");
-    }
-    Ok(())
-}
-
-// How many tokens each field of a document has.
-fn counts(alloc: Global, def: &IndexDef, doc: &Doc) -> Result<Vec<usize>, NoMemory> {
-    let mut counts = Vec::new(alloc);
-    if values_fit(&doc.hash) {
-        for field in def.fields.as_slice() {
-            counts.push(field_tokens(alloc, def, doc, field)?.len())?;
+    for field in def.fields.as_slice() {
+        let found = field_tokens(alloc, def, doc, field)?;
+        let same = if field.name.as_slice() == b"title".as_slice() {
+            are_words(found.as_slice(), title)
+        } else {
+            found.len() == 0
+        };
+        if !same {
+            return Ok(false);
         }
     }
-    Ok(counts)
+    Ok(true)
+}
+
+fn are_words(found: &[Token], words: &[&str]) -> bool {
+    if found.len() != words.len() {
+        return false;
+    }
+    for (token, word) in found.iter().zip(words) {
+        if token.word.as_slice() != word.as_bytes() {
+            return false;
+        }
+    }
+    true
 }
 
 #[test]
 fn gives_the_tokens_of_a_text_field(rt: HostRuntime) -> Result<(), Fail> {
     let def = three_fields(rt.alloc())?;
-    let full = doc(
-        rt.alloc(),
-        &[("note", "a b"), ("title", "The a, a."), ("tags", "a,b")],
-    )?;
-    let bare = doc(rt.alloc(), &[("note", "a b")])?;
-    assert_eq!(rt;
-        counts(rt.alloc(), &def, &full)?.as_slice(),
-        [0, 2, 0].as_slice()
-    );
-    assert_eq!(rt;
-        counts(rt.alloc(), &def, &bare)?.as_slice(),
-        [0, 0, 0].as_slice()
-    );
+    let cases: [(&[(&str, &str)], &[&str]); 5] = [
+        (
+            &[
+                ("tags", "red,blue"),
+                ("t", "alias"),
+                ("title", "The quick_fox re\\-reads Notes, the"),
+                ("note", "hidden"),
+                ("other", "unknown"),
+            ],
+            &["quick_fox", "re-reads", "notes"],
+        ),
+        (
+            &[("note", "a b"), ("title", "The a, a."), ("tags", "a,b")],
+            &["a", "a"],
+        ),
+        (&[("title", "the THE, ...")], &[]),
+        (&[("title", "")], &[]),
+        (&[("note", "quick_fox"), ("tags", "quick_fox")], &[]),
+    ];
+    for (values, title) in cases {
+        let doc = doc(rt.alloc(), values)?;
+        assert!(rt;
+            tokens_are(rt.alloc(), &def, &doc, title)?,
+            "the tokens of {values:?}"
+        );
+    }
     Ok(())
 }

@@ -10,31 +10,22 @@ use Rattle.ft_base.specs.declared.definition.Field.{Field}
 use Rattle.ft_base.specs.declared.definition.FieldKind.{FieldKind}
 use Rattle.ft_base.specs.declared.definition.FieldKind.TheVariants as indexed
 use Rattle.ft_base.specs.declared.definition.IndexDef.{IndexDef}
+use Rattle.ft_base.specs.Reading.{◌>>=◌}
+use Rattle.ft_base.proofs.ReadingLaws.{both}
 use Rattle.ft_schema.specs.declared.fault.Cause.TheVariants.{BadOption, DuplicateField, TooManyFields}
 use Rattle.ft_schema.specs.declared.fault.SchemaFault.{SchemaFault}
 use Rattle.ft_schema.specs.declared.fault.SchemaFault.TheVariants as answers
-use Rattle.ft_schema.specs.declared.fault.Stop.{Stop}
 use Rattle.ft_schema.specs.declared.limits.TheConstants.{MAX_FIELDS, MAX_TEXT_FIELDS}
 use Rattle.ft_schema.specs.declared.field_options.FieldOptions.{FieldOptions}
 use Rattle.ft_schema.specs.FieldAliases.{field_aliases}
 use Rattle.ft_schema.specs.Names.{Word}
-use Rattle.ft_schema.specs.Reading.{Read, ◌>>=◌, fault, parts_in, parts_at}
+use Rattle.ft_schema.specs.Reading.{Read, fault, parts_in, parts_at}
 use Rattle.ft_schema.specs.Fields.{text_count, has_alias, alias_at, admitted, kind_at, kind_admitted, field_options_at, kind_by, field_by, field_at, next_field_at, is_at_end, fields_at}
 use Rattle.ft_base.specs.Kinds.{is_text}
 use Rattle.ft_schema.specs.Lawful.{IsLawful}
 use Rattle.ft_schema.specs.Options.{options_at}
 use Rattle.ft_schema.specs.Schema.{index_by, index_at, keyword_at, added_at, has_any_alias, is_over, extended}
 use Rattle.ft_schema.proofs.AliasLemmas.{text_count-push}
-
--- what a step that succeeds says of its two parts
-pub record Both {A B : Type 0} (first : Result A Stop) (next : A → Result B Stop) (answer : B) : Type 0 where
-  pub read : A
-  pub first_is : first ≡ Ok read
-  pub next_is : next read ≡ Ok answer
-
-pub both : {A B : Type 0} (first : Result A Stop) (next : A → Result B Stop) (answer : B) → (first >>= next) ≡ Ok answer → Both first next answer
-both (Ok x) next answer e = record { read = x; first_is = refl; next_is = e }
-both (Err stop) next answer e = absurd (cc)
 
 is_answer : {A E : Type 0} (x y : A) (r : Result A E) → r ≡ Ok x → r ≡ Ok y → x ≡ y
 is_answer x y r e f = cc

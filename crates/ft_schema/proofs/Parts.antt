@@ -1,10 +1,11 @@
 -- Reading one part after another, as a loop does it.
 use Rattle.std.proofs.Common.{◌≡◌, ℕ, zero, suc, ◌<◌, Bool, true, false, List, length, Ok, Err, refl, ap, sym, ◌∙◌, cond, arith}
+use Rattle.ft_base.specs.Reading.{◌>>=◌}
 use Rattle.ft_schema.specs.declared.fault.Stop.{Stop}
 use Rattle.ft_schema.specs.declared.fault.Stop.TheVariants as stops
 use Rattle.ft_schema.specs.Gives.{Stops}
 use Rattle.ft_schema.specs.Names.{Word}
-use Rattle.ft_schema.specs.Reading.{Read, ◌>>=◌, parts_in, parts_at}
+use Rattle.ft_schema.specs.Reading.{Read, parts_in, parts_at}
 
 -- What is read from here is what the whole reading gives: with so many steps left, which are more than there are words.
 pub record Reads {A : Type 0} (ends : List Word → Bool) (part : A → List Word → Read A) (before : A) (words : List Word) (whole : Read A) : Type 0 where

@@ -2,11 +2,11 @@
 use Rattle.std.specs.Prelude.{◌≡◌, ℕ, List, [], ◌∷◌, Result, Ok, Err, IfOk, codes, refl}
 use Rattle.std.proofs.Common.{subst}
 use Rattle.ft_base.specs.declared.definition.IndexDef.{IndexDef}
+use Rattle.ft_base.specs.Reading.{◌>>=◌}
 use Rattle.ft_schema.specs.declared.fault.Stop.{Stop}
 use Rattle.ft_schema.specs.Fields.{fields_at}
 use Rattle.ft_schema.specs.Names.{Word}
 use Rattle.ft_schema.specs.Options.{options_at}
-use Rattle.ft_schema.specs.Reading.{◌>>=◌}
 use Rattle.ft_schema.specs.Schema.{index_at, keyword_at}
 
 -- what holds of all that a reading may go on to holds of what it gives

@@ -3,6 +3,7 @@ use Rattle.std.specs.Prelude.{ℕ, ℤ, pos, negsuc, zero, suc, List, [], ◌∷
 use Rattle.std.specs.Str.{str_to_ascii_lowercase}
 use Rattle.ft_base.specs.Number.{int_of}
 use Rattle.ft_base.specs.Weight.{is_weight}
+use Rattle.ft_base.specs.Reading.{◌>>=◌}
 use Rattle.ft_schema.specs.declared.fault.Cause.{Cause}
 use Rattle.ft_schema.specs.declared.fault.Cause.TheVariants.{BadOption, BadNumber}
 use Rattle.ft_schema.specs.declared.fault.Stop.{Stop}
@@ -12,11 +13,6 @@ use Rattle.ft_schema.specs.Names.{Word}
 -- what was read, and the words after it
 abbrev pub Read : Type 0 → Type 0
 Read A = Result (A × List Word) Stop
-
-infixl 10 ◌>>=◌
-abbrev pub ◌>>=◌ : {A B : Type 0} → Result A Stop → (A → Result B Stop) → Result B Stop
-(Ok x) >>= f = f x
-(Err stop) >>= f = Err stop
 
 -- A fault at the first of these words; where there is none, at the end of all words.
 abbrev pub fault : {A : Type 0} → Cause → List Word → Result A Stop

@@ -13,7 +13,8 @@ use Rattle.ft_schema.specs.declared.limits.TheConstants.{MAX_FIELDS, MAX_TEXT_FI
 use Rattle.ft_schema.specs.declared.index_options.IndexOptions.{IndexOptions}
 use Rattle.ft_schema.specs.Names.{Word}
 use Rattle.ft_base.specs.Names.{is_name}
-use Rattle.ft_schema.specs.Reading.{◌>>=◌, fault}
+use Rattle.ft_base.specs.Reading.{◌>>=◌}
+use Rattle.ft_schema.specs.Reading.{fault}
 use Rattle.ft_schema.specs.Options.{options_at}
 use Rattle.ft_schema.specs.Fields.{fields_at, has_alias, text_count}
 

@@ -1,6 +1,5 @@
 -- What the maps of the store obey.
 pub mod KeyLaws
-pub mod RowsLaws
 pub mod FoundLaws
 pub mod SpaceLaws
 pub mod StoreLaws

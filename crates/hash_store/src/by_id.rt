@@ -2,7 +2,8 @@
 ghost use Rattle.std.specs.Prelude.{◌≡◌, nat_eq, nat_lt};
 ghost use Rattle.std.specs.Option.{option_copied};
 ghost use Rattle.std.specs.Map.{lookup};
-ghost use Rattle.hash_store.specs.Rows.{live_rows, doc_in, WaitsLast};
+ghost use Rattle.ft_base.specs.Rows.{live_rows, WaitsLast};
+ghost use Rattle.hash_store.specs.Rows.{doc_in};
 
 use ft_base::Doc;
 use std::collections::BTreeMap;

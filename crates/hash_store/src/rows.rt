@@ -2,7 +2,8 @@
 ghost use Rattle.std.specs.Prelude.{◌≡◌, ◌++◌, ◌∷◌, [], nat_eq, None, Some, IsSome, IfSome, OnOk, OnErr};
 ghost use Rattle.std.specs.Option.{option_copied};
 ghost use Rattle.std.specs.Map.{lookup};
-ghost use Rattle.hash_store.specs.Rows.{live_rows, doc_in, Below};
+ghost use Rattle.ft_base.specs.Rows.{live_rows, Below};
+ghost use Rattle.hash_store.specs.Rows.{doc_in};
 ghost use Rattle.hash_store.specs.Keys.{row_at, row_for, has_key, id_at, SetsRow, Releases, ReleasesKeyOf};
 
 use crate::by_id::{DocRows, take_out};

@@ -1,10 +1,10 @@
 -- The lists of an index have an entry for each live record.
-use Rattle.std.proofs.Common.{◌≡◌, ℕ, suc, ◌+◌, ◌<◌, ◌≤◌, false, true, cond, ℤ, List, [], ◌∷◌, map, drop, length, length-append, slice_index_or, refl, ap, sym, subst, inl, inr, ◌∙◌, arith, Option, None, Some, IfSome}
+use Rattle.std.proofs.Common.{◌≡◌, ℕ, suc, ◌+◌, ◌<◌, ◌≤◌, false, true, cond, ℤ, List, [], ◌∷◌, ◌++◌, map, drop, length, length-append, slice_index_or, refl, ap, sym, subst, inl, inr, ◌∙◌, arith, Option, None, Some, IfSome, is_some}
 use Rattle.std.specs.Prelude.{int_le, int_lt, slice_get}
 use Rattle.std.proofs.lemmas.Bool.{cases_Bool}
-use Rattle.std.proofs.lemmas.List.{drop_more}
+use Rattle.std.proofs.lemmas.List.{drop_more, map-append}
 use Rattle.std.proofs.lemmas.List.Sums.{count_by-le-length, length-filter, sum_by-cons}
-use Rattle.std.specs.List.{AllByRecursion, count_by, list_any, sum_by}
+use Rattle.std.specs.List.{AllByRecursion, count_by, flat_map, list_any, sum_by}
 use Rattle.std.specs.Set.{distinct_count}
 use Rattle.std.specs.Str.{bytes_eq}
 use Rattle.ft_base.specs.Hash.{get_field}
@@ -15,6 +15,8 @@ use Rattle.ft_base.specs.declared.definition.IndexDef.{IndexDef}
 use Rattle.ft_base.specs.declared.doc.Doc.{Doc}
 use Rattle.ft_base.specs.Kinds.{is_numeric}
 use Rattle.ft_meaning.specs.Holds.{value_number, value_tags}
+use Rattle.ft_meaning.specs.Meaning.{field_tokens}
+use Rattle.ft_meaning.specs.Records.{live_records, number_count, tag_count, word_count, words_of}
 use Rattle.numeric_ranges.specs.Ranges.{AreParted, IsPartition, Rows, entries_in_rows, lies_in, low_of}
 use Rattle.numeric_ranges.specs.Values.{Entries}
 use Rattle.numeric_ranges.proofs.ValueLaws.{le_from_not_lt}
@@ -22,11 +24,12 @@ use Rattle.posting_block.specs.declared.hits.NumHit.{NumHit}
 use Rattle.posting_block.specs.declared.hits.TextHit.{TextHit}
 use Rattle.tag_index.specs.Tags.{FieldTags, entries_in, entries_in_fields, tags_of}
 use Rattle.term_dict.specs.Terms.{Lists, entries_in_all, entries_of}
+use Rattle.token_text.specs.declared.token.Token.{Token}
 use Rattle.index_lists.specs.Adding.{RangesHaveAll, TagsHave, WordsHave}
-use Rattle.index_lists.specs.Entries.{codes_among, entry, has_tag, is_ranged, number_entries, occurrences, searched_number, searched_tags, tag_entries, word_entries}
+use Rattle.index_lists.specs.Entries.{codes_among, entry, has_tag, is_ranged, number_entries, occurrence, occurrences, occurrences_from, searched_number, searched_tags, tag_entries, word_entries}
 use Rattle.index_lists.specs.Has.{Has, NumbersHave, alive}
 use Rattle.index_lists.specs.Lists.{AllLists, has_id, rows_of}
-use Rattle.index_lists.specs.Records.{all_entries, entries_in_ranges, entries_in_slot, live_records, number_count, tag_count, word_count}
+use Rattle.index_lists.specs.Records.{all_entries, entries_in_ranges, entries_in_slot}
 use Rattle.index_lists.specs.Tagging.{AreApart}
 use Rattle.index_lists.proofs.CountLaws.{count-cons, distinct-apart, having, named, named-entered, numbered, numbered-over, numbered-tags, one_if, sum-le, sum-none, sum-plus, sum-turned}
 use Rattle.index_lists.proofs.NumberLaws.{entries-fit}
@@ -43,12 +46,30 @@ counted-next ranges k slot total n within here is counted =
 alive-most : {P : Type 0} (live : List (ℕ × List ℕ)) (es : List (ℕ × P)) → length (alive live es) ≤ length es
 alive-most live es = omega (arith, length-filter (λ (e : ℕ × _). has_id live e.0) es, count_by-le-length (λ (e : ℕ × _). has_id live e.0) es)
 
--- the words of a document, each as often as it stands there
-abbrev words_of : IndexDef → Doc → List (List ℕ)
-words_of def doc = map (λ (one : List ℕ × ℕ). one.0) (occurrences def doc)
+-- the words of occurrences
+abbrev words_in : List (List ℕ × ℕ) → List (List ℕ)
+words_in found = map (λ (one : List ℕ × ℕ). one.0) found
+
+abbrev words_among : List Token → List (List ℕ)
+words_among found = map (λ (token : Token). token.word) found
+
+-- the occurrences of a field are its words in their order
+field-words : (number : ℕ) (found : List Token) → words_in (map (occurrence number) found) ≡ words_among found
+field-words number [] = refl
+field-words number (token ∷ found) = ap (λ rest. token.word ∷ rest) (field-words number found)
+
+-- those of a document are its words, field by field
+occurrence-words : (def : IndexDef) (doc : Doc) (number : ℕ) (fields : List Field) → words_in (occurrences_from def doc number fields) ≡ words_among (flat_map (field_tokens def doc) fields)
+occurrence-words def doc number [] = refl
+occurrence-words def doc number (field ∷ fields) =
+    let here = field_tokens def doc field in
+    map-append _ (map (occurrence number) here) (occurrences_from def doc (suc number) fields)
+    ∙ (ap (λ words. words ++ words_in (occurrences_from def doc (suc number) fields)) (field-words number here)
+    ∙ (ap (λ words. words_among here ++ words) (occurrence-words def doc (suc number) fields)
+    ∙ sym (map-append _ here (flat_map (field_tokens def doc) fields))))
 
 -- a document has one entry of a word that it has
-entry-count : (id : ℕ) (word : List ℕ) (found : List (List ℕ × ℕ)) → length (entry id (codes_among word found)) ≡ cond (list_any (bytes_eq word) (map (λ (one : List ℕ × ℕ). one.0) found)) 1 0
+entry-count : (id : ℕ) (word : List ℕ) (found : List (List ℕ × ℕ)) → length (entry id (codes_among word found)) ≡ cond (list_any (bytes_eq word) (words_in found)) 1 0
 entry-count id word [] = refl
 entry-count id word (one ∷ found) = elim (cases_Bool (bytes_eq word one.0)) [
   | inl y ↦ rw y refl
@@ -62,6 +83,7 @@ word-count def word (doc ∷ docs) =
       arith,
       length-append (entry doc.id (codes_among word (occurrences def doc))) (word_entries def word docs),
       entry-count doc.id word (occurrences def doc),
+      ap (λ words. one_if (list_any (bytes_eq word) words)) (occurrence-words def doc 0 def.fields),
       word-count def word docs,
       count-cons (λ (d : Doc). list_any (bytes_eq word) (words_of def d)) doc docs,
     )
@@ -81,6 +103,13 @@ searched-apart : (field : Field) (doc : Doc) → AreApart (searched_tags (Some f
 searched-apart field doc = elim (cases_Bool field.noindex) [
   | inl y ↦ rw y tt
   | inr n ↦ rw n (value-apart field.kind (get_field doc.hash field.name))
+]
+
+-- a field's tags are those by which it is searched
+tags-searched : (doc : Doc) (field : Field) → tag_count doc field ≡ length (searched_tags (Some field) doc)
+tags-searched doc field = elim (cases_Bool field.noindex) [
+  | inl y ↦ rw y refl
+  | inr n ↦ rw n refl
 ]
 
 tag-entries-count : (def : IndexDef) (number : ℕ) (tag : List ℕ) (docs : List Doc) → length (tag_entries def number tag docs) ≡ count_by (has_tag def number tag) docs
@@ -105,7 +134,7 @@ field-least def live docs tags has number field at =
     λ tag. omega (arith, ap length (has number tag), tag-entries-count def number tag docs, alive-most live (entries_in tags number tag)) in
     let entered : named (λ (doc : Doc). searched_tags (Some field) doc) docs ≤ entries_in_all (tags_of tags number) =
     subst (λ (o : Option Field). named (λ (doc : Doc). searched_tags o doc) docs ≤ entries_in_all (tags_of tags number)) at (named-entered (tags_of tags number) names docs counted) in
-    let all = sum-le (λ (doc : Doc). tag_count doc field) (λ (doc : Doc). distinct_count bytes_eq (searched_tags (Some field) doc)) (λ doc. omega (arith, ap length (sym (distinct-apart (searched_tags (Some field) doc) (searched-apart field doc))))) docs in
+    let all = sum-le (λ (doc : Doc). tag_count doc field) (λ (doc : Doc). distinct_count bytes_eq (searched_tags (Some field) doc)) (λ doc. omega (arith, tags-searched doc field, ap length (sym (distinct-apart (searched_tags (Some field) doc) (searched-apart field doc))))) docs in
     omega (arith, all, entered)
 
 tags-least : (def : IndexDef) (live : List (ℕ × List ℕ)) (docs : List Doc) (tags : FieldTags) → TagsHave def tags live docs
@@ -166,13 +195,21 @@ parted-least live es (row ∷ rows) first parted fit =
     let above = subst (λ (n : ℤ). AllByRecursion (λ (e : ℕ × NumHit). int_le n e.1.value ≡ true) (alive live es)) (sym low) fit in
     omega (arith, parted-count es (row ∷ rows) parted, live-in_rows live row rows es above)
 
+-- a field's number is the one by which it is searched
+number-searched : (doc : Doc) (field : Field) → number_count doc field ≡ one_if (is_some (searched_number (Some field) doc))
+number-searched doc field = elim (cases_Bool field.noindex) [
+  | inl y ↦ rw y refl
+  | inr n ↦ rw n refl
+]
+
 number-entries-count : (def : IndexDef) (number : ℕ) (field : Field) (docs : List Doc) → slice_get def.fields number ≡ Some field
     → length (number_entries def number docs) ≡ sum_by (λ doc. number_count doc field) docs
 number-entries-count def number field [] at = refl
 number-entries-count def number field (doc ∷ docs) at =
-    omega (arith, by_value (searched_number (Some field) doc) refl, number-entries-count def number field docs at, sum_by-cons (λ (d : Doc). number_count d field) doc docs)
+    omega (arith, by_value (searched_number (Some field) doc) refl, number-searched doc field, number-entries-count def number field docs at, sum_by-cons (λ (d : Doc). number_count d field) doc docs)
   where
-    by_value : (value : Option ℤ) → searched_number (Some field) doc ≡ value → length (number_entries def number (doc ∷ docs)) ≡ number_count doc field + length (number_entries def number docs)
+    by_value : (value : Option ℤ) → searched_number (Some field) doc ≡ value
+        → length (number_entries def number (doc ∷ docs)) ≡ one_if (is_some (searched_number (Some field) doc)) + length (number_entries def number docs)
     by_value None is = rw (at, is) (omega arith)
     by_value (Some value) is = rw (at, is) (omega arith)
 

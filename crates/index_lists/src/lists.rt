@@ -4,11 +4,12 @@ ghost use Rattle.std.specs.Option.{option_copied};
 ghost use Rattle.ft_base.specs.declared.definition.IndexDef.{IndexDef};
 ghost use Rattle.ft_base.specs.declared.doc.Doc.{Doc};
 ghost use Rattle.ft_meaning.specs.Meaning.{ValuesFit};
+ghost use Rattle.ft_meaning.specs.Records.{live_records};
 ghost use Rattle.inverted_list.specs.declared.marker.Marker.{Marker};
 ghost use Rattle.index_lists.specs.Has.{Has};
 ghost use Rattle.index_lists.specs.Lists.{has_id, rows_of};
 ghost use Rattle.index_lists.specs.Markers.{AreBefore, GainsMarkers, HasMarker, IsGiven, MarkersDiffer};
-ghost use Rattle.index_lists.specs.Records.{all_entries, live_records};
+ghost use Rattle.index_lists.specs.Records.{all_entries};
 ghost use Rattle.index_lists.specs.UpTo.{AreUpTo};
 
 use crate::numbers::{add_numbers, entries_in_ranges, first_ranges};

@@ -1,8 +1,8 @@
 -- The documents in order of ids, one after another.
-use Rattle.std.specs.Prelude.{◌≡◌, ◌<◌, ◌≤◌, ℕ, Bool, true, false, cond, List, [], ◌∷◌, ◌++◌, Option, None, Some, map, find, nat_le, nat_lt, refl}
+use Rattle.std.specs.Prelude.{◌≡◌, ◌<◌, ◌≤◌, ℕ, Bool, true, false, cond, List, [], ◌∷◌, ◌++◌, Option, None, Some, map, find, nat_lt, refl}
 use Rattle.std.proofs.Common.{ap, subst, inl, inr, arith}
 use Rattle.std.specs.List.{All}
-use Rattle.std.proofs.lemmas.Bool.{cases_Bool}
+use Rattle.std.proofs.lemmas.Bool.{cases_Bool, lt-ltb, le-ltb, lt-leb, le-leb}
 use Rattle.std.proofs.lemmas.List.Elements.{All-head, All-tail}
 use Rattle.std.proofs.lemmas.Bool.Decides.{nat_tests}
 use Rattle.ft_base.specs.declared.doc.Doc.{Doc}
@@ -10,28 +10,16 @@ use Rattle.indexed_store.specs.Filling.{beyond, upto}
 use Rattle.index_lists.proofs.AliveLaws.{last_id-low, row_of}
 use Rattle.inverted_list.specs.Listing.{RisesAbove, last_id}
 
-lt-yes : (a b : ℕ) → a < b → nat_lt a b ≡ true
-lt-yes a b h = grind (arith, nat_tests)
-
-lt-no : (a b : ℕ) → b ≤ a → nat_lt a b ≡ false
-lt-no a b h = grind (arith, nat_tests)
-
-le-no : (a b : ℕ) → b < a → nat_le a b ≡ false
-le-no a b h = grind (arith, nat_tests)
-
-le-yes : (a b : ℕ) → a ≤ b → nat_le a b ≡ true
-le-yes a b h = grind (arith, nat_tests)
-
 -- all ids are above
 pub upto-none : (low after : ℕ) (docs : List Doc) → RisesAbove low (map row_of docs) → after ≤ low → upto after docs ≡ []
 upto-none low after [] rises below = refl
 upto-none low after (doc ∷ docs) rises below =
-    rw (le-no doc.id after (omega (arith, rises.0, below))) (upto-none doc.id after docs rises.1 (omega (arith, rises.0, below)))
+    rw (lt-leb doc.id after (omega (arith, rises.0, below))) (upto-none doc.id after docs rises.1 (omega (arith, rises.0, below)))
 
 beyond-all : (low after : ℕ) (docs : List Doc) → RisesAbove low (map row_of docs) → after ≤ low → beyond after docs ≡ docs
 beyond-all low after [] rises below = refl
 beyond-all low after (doc ∷ docs) rises below =
-    rw (lt-yes after doc.id (omega (arith, rises.0, below))) (ap (λ rest. doc ∷ rest) (beyond-all doc.id after docs rises.1 (omega (arith, rises.0, below))))
+    rw (lt-ltb after doc.id (omega (arith, rises.0, below))) (ap (λ rest. doc ∷ rest) (beyond-all doc.id after docs rises.1 (omega (arith, rises.0, below))))
 
 -- the document that is found is the next one
 pub record IsNext (after : ℕ) (docs : List Doc) (doc : Doc) : Type 0 where
@@ -50,9 +38,9 @@ next-in low after (d ∷ docs) doc rises found =
           let same : d ≡ doc = cc (said) in
           let over : after < d.id = grind (arith, nat_tests, here) in
           let first : upto d.id (d ∷ docs) ≡ upto after (d ∷ docs) ++ d ∷ [] =
-          rw (le-yes d.id d.id (omega arith), upto-none d.id d.id docs rises.1 (omega arith), le-no d.id after over, upto-none d.id after docs rises.1 (omega (arith, over))) refl in
+          rw (le-leb d.id d.id (omega arith), upto-none d.id d.id docs rises.1 (omega arith), lt-leb d.id after over, upto-none d.id after docs rises.1 (omega (arith, over))) refl in
           let others : beyond after (d ∷ docs) ≡ d ∷ beyond d.id (d ∷ docs) =
-          rw (here, beyond-all d.id after docs rises.1 (omega (arith, over)), lt-no d.id d.id (omega arith), beyond-all d.id d.id docs rises.1 (omega arith)) refl in
+          rw (here, beyond-all d.id after docs rises.1 (omega (arith, over)), le-ltb d.id d.id (omega arith), beyond-all d.id d.id docs rises.1 (omega arith)) refl in
           subst (λ (x : Doc). (after < x.id) × ((low < x.id) × ((upto x.id (d ∷ docs) ≡ upto after (d ∷ docs) ++ x ∷ []) × ((beyond after (d ∷ docs) ≡ x ∷ beyond x.id (d ∷ docs)) × (x.id ≤ last_id low (map row_of (d ∷ docs))))))) same
           (over, (rises.0, (first, (others, last_id-low d.id (map row_of docs) rises.1))))
       | inr away ↦
@@ -60,9 +48,9 @@ next-in low after (d ∷ docs) doc rises found =
           let others = next-in d.id after docs doc rises.1 later in
           let under : d.id ≤ after = grind (arith, nat_tests, away) in
           let first : upto doc.id (d ∷ docs) ≡ upto after (d ∷ docs) ++ doc ∷ [] =
-          rw (le-yes d.id doc.id (omega (arith, others.1.0)), le-yes d.id after under) (ap (λ rest. d ∷ rest) others.1.1.0) in
+          rw (le-leb d.id doc.id (omega (arith, others.1.0)), le-leb d.id after under) (ap (λ rest. d ∷ rest) others.1.1.0) in
           let more : beyond after (d ∷ docs) ≡ doc ∷ beyond doc.id (d ∷ docs) =
-          rw (away, lt-no doc.id d.id (omega (arith, others.1.0))) others.1.1.1.0 in
+          rw (away, le-ltb doc.id d.id (omega (arith, others.1.0))) others.1.1.1.0 in
           (others.0, (omega (arith, rises.0, others.1.0), (first, (more, others.1.1.1.1))))
     ]
 
@@ -79,7 +67,7 @@ none-next after (doc ∷ docs) none =
       | inl here ↦ let said : ◌≡◌ {A = Option Doc} (Some doc) None = rw here at none in absurd (cc (said))
       | inr away ↦
           let under : doc.id ≤ after = grind (arith, nat_tests, away) in
-          rw (le-yes doc.id after under) (ap (λ rest. doc ∷ rest) (none-next after docs (rw away at none)))
+          rw (le-leb doc.id after under) (ap (λ rest. doc ∷ rest) (none-next after docs (rw away at none)))
     ]
 
 -- what holds of all documents holds of the one that is found

@@ -7,7 +7,8 @@ use Rattle.std.proofs.lemmas.Bool.{cases_Bool}
 use Rattle.std.proofs.lemmas.Bool.Decides.{nat_tests}
 use Rattle.std.proofs.lemmas.List.Elements.{All-cons, All-head, All-tail}
 use Rattle.ft_index.specs.Index.{Index}
-use Rattle.indexed_store.specs.Definitions.{Defined, defined, definitions_of, index_of, with_index, without_index}
+use Rattle.indexed_store.specs.Definitions.{Defined, index_of, with_index, without_index}
+use Rattle.indexed_store.specs.DefinitionsOf.{defined, definitions_of}
 use Rattle.indexed_store.specs.Named.{is_named, without_named}
 
 -- the definition of a name is that of the first index that has it

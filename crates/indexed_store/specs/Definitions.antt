@@ -3,20 +3,12 @@ use Rattle.std.specs.Prelude.{ℕ, List, [], ◌∷◌, map, fold, Option, Some,
 use Rattle.std.specs.Str.{bytes_eq}
 use Rattle.ft_base.specs.declared.definition.IndexDef.{IndexDef}
 use Rattle.ft_base.specs.declared.doc.Doc.{Doc}
-use Rattle.ft_index.specs.Index.{Index}
 use Rattle.ft_meaning.specs.Member.{failures_with}
 
 pub record Defined : Type 0 where
   pub def : IndexDef
   -- how often a document failed to be a member, since the index was created
   pub failures : ℕ
-
--- what an index is defined by, and its count
-abbrev pub defined : Index → Defined
-defined index = record { def = index.def; failures = index.failures }
-
-abbrev pub definitions_of : List Index → List Defined
-definitions_of indexes = map defined indexes
 
 -- the count once an index has tried these documents, in their order
 abbrev pub failures_over : IndexDef → List Doc → ℕ → ℕ

@@ -1,4 +1,5 @@
 pub mod Definitions
+pub mod DefinitionsOf
 pub mod Filling
 pub mod Indexing
 pub mod Named

@@ -3,7 +3,7 @@ ghost use Rattle.std.specs.Prelude.{◌≡◌, ◌+◌, List, Some, map, OnOk};
 ghost use Rattle.std.specs.List.{All, AllPairs};
 ghost use Rattle.ft_base.specs.declared.doc.Doc.{Doc};
 ghost use Rattle.ft_meaning.specs.Meaning.{ValuesFit};
-ghost use Rattle.indexed_store.specs.Definitions.{definitions_of};
+ghost use Rattle.indexed_store.specs.DefinitionsOf.{definitions_of};
 ghost use Rattle.indexed_store.specs.Indexing.{Awaits, killed, settled};
 ghost use Rattle.indexed_store.specs.Standing.{AreApart, IndexStands};
 

@@ -1,7 +1,7 @@
 //! Documents leave the store and each index. It takes no memory.
 ghost use Rattle.std.specs.Prelude.{◌≡◌, ℕ};
 ghost use Rattle.ft_base.specs.Space.{erase};
-ghost use Rattle.indexed_store.specs.Definitions.{definitions_of};
+ghost use Rattle.indexed_store.specs.DefinitionsOf.{definitions_of};
 ghost use Rattle.indexed_store.specs.Removing.{without_keys};
 ghost use Rattle.indexed_store.specs.Standing.{InStep};
 

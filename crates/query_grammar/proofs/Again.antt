@@ -4,6 +4,7 @@ use Rattle.ft_base.specs.declared.definition.IndexDef.{IndexDef}
 use Rattle.ft_base.specs.declared.query.Fields.{Fields}
 use Rattle.ft_base.specs.declared.query.Param.{Param}
 use Rattle.ft_base.specs.declared.query.Query.{Query}
+use Rattle.ft_base.specs.Reading.{◌>>=◌}
 use Rattle.query_lex.specs.declared.lexeme.Lexeme.{Lexeme}
 use Rattle.query_lex.specs.declared.lexeme.LexKind.{LexKind}
 use Rattle.query_lex.specs.declared.lexeme.LexKind.TheVariants as kinds
@@ -14,7 +15,7 @@ use Rattle.query_grammar.specs.Faults.{faults_at, faults_of}
 use Rattle.query_grammar.specs.Form.{Form, Single, EmptyGroup, Group, Both, Side, Either, Denied, Optional as OptionalForm}
 use Rattle.query_grammar.specs.Grammar.{Sort, Union, Inter, Unary, Part, Atom, is_atom, sign}
 use Rattle.query_grammar.specs.Meaning.{all_of, atom_parts, denied, optional, parts_of}
-use Rattle.query_grammar.specs.Reading.{Read, Reader, ◌>>=◌, atom_at, atom_with, bar_at, begins_by_sign, chain_at, closed_with, deeper, inside_at, joined_at, next_sign, sign_in, sort_at, unary_at, unary_comes, unless}
+use Rattle.query_grammar.specs.Reading.{Read, Reader, atom_at, atom_with, bar_at, begins_by_sign, chain_at, closed_with, deeper, inside_at, joined_at, next_sign, sign_in, sort_at, unary_at, unary_comes, unless}
 use Rattle.query_grammar.proofs.AgainParts.{bare, bare_bind, bare_unless, told, told_append}
 use Rattle.query_grammar.proofs.Chains.{Begun, begun_append, joined_none, joined_some, read_leaves}
 use Rattle.query_grammar.proofs.Sound.{Sides, Parts}

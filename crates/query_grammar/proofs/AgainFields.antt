@@ -9,6 +9,7 @@ use Rattle.ft_base.specs.declared.query.Fields.TheVariants as asked_of
 use Rattle.ft_base.specs.declared.query.Param.{Param}
 use Rattle.ft_base.specs.declared.query.Query.{Query}
 use Rattle.ft_base.specs.declared.query.Query.TheVariants as tree
+use Rattle.ft_base.specs.Reading.{◌>>=◌}
 use Rattle.query_lex.specs.declared.lexeme.Lexeme.{Lexeme}
 use Rattle.query_lex.specs.declared.lexeme.LexKind.{LexKind}
 use Rattle.query_lex.specs.declared.lexeme.LexKind.TheVariants as kinds
@@ -21,7 +22,7 @@ use Rattle.query_grammar.specs.Faults.{attribute_faults, faults_at, has_other, k
 use Rattle.query_grammar.specs.Form.{Form, Edge, Pair, Named, Range, Tags, With}
 use Rattle.query_grammar.specs.Grammar.{Sort, Union, Unary, Part, Atom, IsEdge, Names, last as last_name, Pairs, Spells, one_side, sides, one_part, parts, minus, tilde, field, range, tags, part, bare as part_bare, attributed as with_attributes, single, empty_group, group, is_atom, is_field_name, sign}
 use Rattle.query_grammar.specs.Meaning.{name_of, number_of_alias, tag_part, attributed, case_of, fields_of, is_quote}
-use Rattle.query_grammar.specs.Reading.{Found, Read, Reader, ◌>>=◌, Closed, Deeper, behind_atom, comes, deeper, is_quote_kind, names_at, next_sign, pairs_at, part_at, sign_in, tags_at, target_with, unary_at, unary_with, with_block, Block, behind_names, range_at, range_target, tags_target, unless_other}
+use Rattle.query_grammar.specs.Reading.{Found, Read, Reader, Closed, Deeper, behind_atom, comes, deeper, is_quote_kind, names_at, next_sign, pairs_at, part_at, sign_in, tags_at, target_with, unary_at, unary_with, with_block, Block, behind_names, range_at, range_target, tags_target, unless_other}
 use Rattle.query_grammar.proofs.AgainParts.{bare, bare_bind, bare_unless, block_again, names_again, range_again, tags_again, told, told_append}
 use Rattle.query_grammar.proofs.Chains.{sentence_begun}
 use Rattle.query_grammar.proofs.Enclosed.{AreTags, tag_faults}

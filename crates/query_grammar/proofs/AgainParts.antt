@@ -5,6 +5,7 @@ use Rattle.ft_base.specs.declared.definition.IndexDef.{IndexDef}
 use Rattle.ft_base.specs.declared.query.Param.{Param}
 use Rattle.ft_base.specs.declared.query.Query.{Query}
 use Rattle.ft_base.specs.declared.query.TagPart.{TagPart}
+use Rattle.ft_base.specs.Reading.{◌>>=◌}
 use Rattle.query_lex.specs.declared.lexeme.Lexeme.{Lexeme}
 use Rattle.query_lex.specs.declared.lexeme.LexKind.{LexKind}
 use Rattle.query_lex.specs.declared.lexeme.LexKind.TheVariants as kinds
@@ -14,7 +15,7 @@ use Rattle.query_grammar.specs.Faults.{faults_at, is_foreign, name_faults}
 use Rattle.query_grammar.specs.Form.{Edge, Pair}
 use Rattle.query_grammar.specs.Grammar.{IsEdge, included, excluded, Names, last as last_name, more as more_names, Pairs, none, last, more, has_name, is_edge, is_field_name, is_tag, sign}
 use Rattle.query_grammar.specs.Meaning.{name_of, number_of_alias, tag_part}
-use Rattle.query_grammar.specs.Reading.{Broken, Found, Cut, Read, ◌>>=◌, Closed, closed_range, edge_at, edge_with, name_at, name_with, names_in, next_sign, pairs_in, range_at, range_by, sign_in, tags_at, tags_in, tags_with, unless, value_at, behind_field_name}
+use Rattle.query_grammar.specs.Reading.{Broken, Found, Cut, Read, Closed, closed_range, edge_at, edge_with, name_at, name_with, names_in, next_sign, pairs_in, range_at, range_by, sign_in, tags_at, tags_in, tags_with, unless, value_at, behind_field_name}
 use Rattle.query_grammar.proofs.Blocks.{Same, same_more}
 use Rattle.query_grammar.proofs.Enclosed.{AreTags, tag_faults}
 use Rattle.query_grammar.proofs.Targets.{numbers_of}

@@ -4,11 +4,12 @@ use Rattle.ft_base.specs.declared.definition.IndexDef.{IndexDef}
 use Rattle.ft_base.specs.declared.query.Fields.{Fields}
 use Rattle.ft_base.specs.declared.query.Param.{Param}
 use Rattle.ft_base.specs.declared.query.Query.{Query}
+use Rattle.ft_base.specs.Reading.{◌>>=◌}
 use Rattle.query_lex.specs.declared.lexeme.Lexeme.{Lexeme}
 use Rattle.query_lex.specs.declared.lexeme.Sign.TheVariants as signs
 use Rattle.query_grammar.specs.Form.{Form}
 use Rattle.query_grammar.specs.Grammar.{Sort, Spells, one_side, sides, one_part, parts, minus, tilde, field, range, tags, part, bare, attributed, single, empty_group, group, is_atom, sign}
-use Rattle.query_grammar.specs.Reading.{Read, Reader, ◌>>=◌, begins_by_sign, deeper, joined_at, joined_in, joined_with, sign_in, sort_at}
+use Rattle.query_grammar.specs.Reading.{Read, Reader, begins_by_sign, deeper, joined_at, joined_in, joined_with, sign_in, sort_at}
 use Rattle.query_grammar.proofs.Sound.{Chain, IsPart, LeadPart, joint, joint_is, side}
 use Rattle.query_grammar.proofs.SoundUnary.{read_spelled}
 use Rattle.query_grammar.proofs.Targets.{Spelled}

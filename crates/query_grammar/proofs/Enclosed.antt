@@ -6,6 +6,7 @@ use Rattle.ft_base.specs.declared.definition.IndexDef.{IndexDef}
 use Rattle.ft_base.specs.declared.query.Param.{Param}
 use Rattle.ft_base.specs.declared.query.Query.{Query}
 use Rattle.ft_base.specs.declared.query.TagPart.{TagPart}
+use Rattle.ft_base.specs.Reading.{◌>>=◌}
 use Rattle.query_lex.specs.declared.lexeme.Lexeme.{Lexeme}
 use Rattle.query_lex.specs.declared.lexeme.LexKind.TheVariants as kinds
 use Rattle.query_lex.specs.declared.lexeme.Sign.{Sign}
@@ -16,7 +17,7 @@ use Rattle.query_grammar.specs.Faults.{faults_at}
 use Rattle.query_grammar.specs.Form.{Edge}
 use Rattle.query_grammar.specs.Grammar.{IsEdge, included, excluded, is_edge, is_tag, sign}
 use Rattle.query_grammar.specs.Meaning.{tag_part}
-use Rattle.query_grammar.specs.Reading.{Stop, Broken, Read, ◌>>=◌, closed_range, edge_at, edge_with, next_sign, range_at, range_by, tag_with, tags_at, tags_in, tags_with, unless, value_at}
+use Rattle.query_grammar.specs.Reading.{Stop, Broken, Read, closed_range, edge_at, edge_with, next_sign, range_at, range_by, tag_with, tags_at, tags_in, tags_with, unless, value_at}
 use Rattle.query_grammar.proofs.Signs.{Late, asked, asked_more, late_append, lexeme, rest_of, sign_front}
 use Rattle.query_grammar.proofs.Targets.{Spelled, bind_spelled, unless_spelled}
 

@@ -9,6 +9,7 @@ use Rattle.ft_base.specs.declared.query.Fields.{Fields}
 use Rattle.ft_base.specs.declared.query.Query.TheFolds.{fold-roll-Query}
 use Rattle.ft_base.specs.declared.query.Query.TheOpen as layer
 use Rattle.ft_base.specs.declared.query.Query.TheVariants.{rolls-And, rolls-Not, rolls-Word}
+use Rattle.query_grammar.specs.Answer.{lex_place}
 use Rattle.query_grammar.specs.Shape.{Shape, One, Several, Else, shape_of, shape_step, together}
 use Rattle.ft_base.specs.declared.query.Fields.TheVariants.{All, Named}
 use Rattle.ft_base.specs.declared.query.Query.{Query}
@@ -42,7 +43,7 @@ def = record {
 
 abbrev read : ℕ → Result (List Lexeme) LexFault → Result Query QueryFault
 read end (Ok ts) = answer_of end (whole_at def (record { name = codes "five"; value = codes "5" } ∷ []) ts)
-read end (Err fault) = Err (Syntax end)
+read end (Err fault) = Err (Syntax (lex_place def [] fault))
 
 -- what is read of a text, with a parameter that is 5
 abbrev shown : List ℕ → Result Query QueryFault
@@ -166,3 +167,8 @@ arrow_first = rw (one_spelled, denied_shape (codes "x") (word (codes "y"))) refl
 wrong_value : shown (codes "x=>{$inorder:1}") ≡ Err (Syntax 13)
 unfolding lexemes lexed lexeme_at next_of_tag piece_at next_quoted quote_at next_raw raw_at run_at sign_role text_role range_role tag_role attribute_role next_letter word_at param_at whole_at joined_at chain_at atom_at pairs_at part_at name_at names_at value_at range_at tags_at unary_at
 wrong_value = rw (word_shape All (codes "x")) refl
+
+-- a fault of the lexemes stands at its own place
+lone_escape : shown (codes "hello\\") ≡ Err (Syntax 5)
+unfolding lexemes lexed lexeme_at next_of_tag piece_at next_quoted quote_at next_raw raw_at run_at sign_role text_role range_role tag_role attribute_role next_letter word_at param_at int_of whole_at joined_at chain_at atom_at pairs_at part_at name_at names_at value_at range_at tags_at unary_at
+lone_escape = refl

@@ -6,6 +6,7 @@ use Rattle.ft_base.specs.declared.definition.IndexDef.{IndexDef}
 use Rattle.ft_base.specs.declared.query.Param.{Param}
 use Rattle.ft_base.specs.declared.query.Query.{Query}
 use Rattle.ft_base.specs.declared.query.TagPart.{TagPart}
+use Rattle.ft_base.specs.Reading.{◌>>=◌}
 use Rattle.query_lex.specs.declared.lexeme.Lexeme.{Lexeme}
 use Rattle.query_lex.specs.declared.lexeme.Sign.{Sign}
 use Rattle.query_lex.specs.declared.lexeme.Sign.TheVariants as signs
@@ -15,7 +16,7 @@ use Rattle.query_grammar.specs.Faults.{faults_at, is_foreign, pair_faults}
 use Rattle.query_grammar.specs.Form.{Edge, Pair}
 use Rattle.query_grammar.specs.Grammar.{is_edge, is_field_name, is_tag, sign}
 use Rattle.query_grammar.specs.Meaning.{name_of, number_of_alias, tag_part}
-use Rattle.query_grammar.specs.Reading.{Stop, Broken, Found, Cut, Read, ◌>>=◌, Open, behind_field_name, closed_range, edge_at, edge_with, name_at, name_with, names_at, names_in, next_sign, pairs_at, range_at, sign_in, tags_at, tags_in, tags_with, unless, value_at}
+use Rattle.query_grammar.specs.Reading.{Stop, Broken, Found, Cut, Read, Open, behind_field_name, closed_range, edge_at, edge_with, name_at, name_with, names_at, names_in, next_sign, pairs_at, range_at, sign_in, tags_at, tags_in, tags_with, unless, value_at}
 use Rattle.query_grammar.proofs.Enclosed.{LeadEdge, ReadEdge, edge_spelled}
 use Rattle.query_grammar.proofs.Low.{Lessens, Low, behind_name_low, closed_range_low, edge_low, high_low, lessens_bind, name_low, names_in_low, reach, tags_in_low, value_low}
 use Rattle.query_grammar.proofs.Targets.{IsName, LeadNames, Spelled, name_spelled}

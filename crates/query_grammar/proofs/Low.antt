@@ -9,6 +9,7 @@ use Rattle.ft_base.specs.declared.query.Param.{Param}
 use Rattle.ft_base.specs.declared.query.Query.{Query}
 use Rattle.ft_base.specs.declared.query.Query.TheVariants as tree
 use Rattle.ft_base.specs.declared.query.TagPart.{TagPart}
+use Rattle.ft_base.specs.Reading.{◌>>=◌}
 use Rattle.query_lex.specs.declared.lexeme.Lexeme.{Lexeme}
 use Rattle.query_lex.specs.declared.lexeme.Sign.{Sign}
 use Rattle.query_lex.specs.declared.lexeme.Sign.TheVariants as signs
@@ -19,7 +20,7 @@ use Rattle.query_grammar.specs.Faults.{attribute_faults, faults_at, has_other, i
 use Rattle.query_grammar.specs.Form.{Edge}
 use Rattle.query_grammar.specs.Grammar.{Sort, Union, Inter, Unary, Part, Atom, is_atom, is_edge, is_field_name, is_tag}
 use Rattle.query_grammar.specs.Meaning.{atom_parts, attributed, case_of, denied, name_of, number_of_alias, optional, tag_part}
-use Rattle.query_grammar.specs.Reading.{Broken, Found, Cut, Read, Reader, ◌>>=◌, Block, Closed, Open, Deeper, atom_at, atom_with, behind_arrow, behind_atom, behind_field_name, behind_names, begins_atom, broken_by, chain_at, closed_range, closed_with, comes, deeper, edge_at, edge_with, field_at, group_at, inside_at, is_quote_kind, joined_at, joined_in, joined_with, name_at, name_with, names_at, names_in, next_sign, pairs_at, part_at, part_target, range_at, range_target, sign_in, signed_at, single_at, sort_at, tag_with, tags_at, tags_in, tags_target, tags_with, target_with, unary_at, unary_with, unless, unless_other, value_at, with_block}
+use Rattle.query_grammar.specs.Reading.{Broken, Found, Cut, Read, Reader, Block, Closed, Open, Deeper, atom_at, atom_with, behind_arrow, behind_atom, behind_field_name, behind_names, begins_atom, broken_by, chain_at, closed_range, closed_with, comes, deeper, edge_at, edge_with, field_at, group_at, inside_at, is_quote_kind, joined_at, joined_in, joined_with, name_at, name_with, names_at, names_in, next_sign, pairs_at, part_at, part_target, range_at, range_target, sign_in, signed_at, single_at, sort_at, tag_with, tags_at, tags_in, tags_target, tags_with, target_with, unary_at, unary_with, unless, unless_other, value_at, with_block}
 use Rattle.query_grammar.proofs.Blocks.{BlockSpelled, block_spelled}
 use Rattle.query_grammar.proofs.Chains.{joint_within}
 use Rattle.query_grammar.proofs.Signs.{sign_front}

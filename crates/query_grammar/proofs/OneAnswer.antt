@@ -6,6 +6,7 @@ use Rattle.ft_base.specs.declared.definition.IndexDef.{IndexDef}
 use Rattle.ft_base.specs.declared.query.Fields.TheVariants as asked_of
 use Rattle.ft_base.specs.declared.query.Param.{Param}
 use Rattle.ft_base.specs.declared.query.Query.{Query}
+use Rattle.ft_base.specs.Reading.{◌>>=◌}
 use Rattle.query_lex.specs.Places.{Rise}
 use Rattle.query_lex.specs.declared.lexeme.Lexeme.{Lexeme}
 use Rattle.query_grammar.specs.declared.fault.QueryFault.{QueryFault}
@@ -15,7 +16,7 @@ use Rattle.query_grammar.specs.Faults.{faults, most_levels}
 use Rattle.query_grammar.specs.Form.{Form}
 use Rattle.query_grammar.specs.Grammar.{IsQuery, nothing, something, Spells, Union}
 use Rattle.query_grammar.specs.Meaning.{query_of, union_of}
-use Rattle.query_grammar.specs.Reading.{Stop, Broken, Found, Cut, Read, ◌>>=◌, answer_of, ended_at, whole_at}
+use Rattle.query_grammar.specs.Reading.{Stop, Broken, Found, Cut, Read, answer_of, ended_at, whole_at}
 use Rattle.query_grammar.proofs.Chains.{sentence_begun}
 use Rattle.query_grammar.proofs.AgainParts.{bare, told}
 use Rattle.query_grammar.proofs.AgainFields.{sentence_read}

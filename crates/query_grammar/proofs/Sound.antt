@@ -5,6 +5,7 @@ use Rattle.ft_base.specs.declared.definition.IndexDef.{IndexDef}
 use Rattle.ft_base.specs.declared.query.Fields.{Fields}
 use Rattle.ft_base.specs.declared.query.Param.{Param}
 use Rattle.ft_base.specs.declared.query.Query.{Query}
+use Rattle.ft_base.specs.Reading.{◌>>=◌}
 use Rattle.query_lex.specs.declared.lexeme.Lexeme.{Lexeme}
 use Rattle.query_lex.specs.declared.lexeme.Sign.{Sign}
 use Rattle.query_lex.specs.declared.lexeme.Sign.TheVariants as signs
@@ -14,7 +15,7 @@ use Rattle.query_grammar.specs.Faults.{faults_of}
 use Rattle.query_grammar.specs.Form.{Form, Both, Side, Either}
 use Rattle.query_grammar.specs.Grammar.{Sort, Union, Inter, Unary, Spells, one_side, sides, one_part, parts, sign}
 use Rattle.query_grammar.specs.Meaning.{all_of, parts_of}
-use Rattle.query_grammar.specs.Reading.{Stop, Reader, ◌>>=◌, bar_at, begins_unary, behind_bar, chain_at, joined_at, joined_in, joined_with, next_sign, same, unary_comes}
+use Rattle.query_grammar.specs.Reading.{Stop, Reader, bar_at, begins_unary, behind_bar, chain_at, joined_at, joined_in, joined_with, next_sign, same, unary_comes}
 use Rattle.query_grammar.proofs.Signs.{Late, asked, sign_front}
 use Rattle.query_grammar.proofs.Targets.{Spelled, bind_spelled}
 

@@ -5,6 +5,7 @@ use Rattle.ft_base.specs.declared.definition.IndexDef.{IndexDef}
 use Rattle.ft_base.specs.declared.query.Fields.{Fields}
 use Rattle.ft_base.specs.declared.query.Param.{Param}
 use Rattle.ft_base.specs.declared.query.Query.{Query}
+use Rattle.ft_base.specs.Reading.{◌>>=◌}
 use Rattle.query_lex.specs.declared.lexeme.Lexeme.{Lexeme}
 use Rattle.query_lex.specs.declared.lexeme.LexKind.{LexKind}
 use Rattle.query_lex.specs.declared.lexeme.LexKind.TheVariants as kinds
@@ -17,7 +18,7 @@ use Rattle.query_grammar.specs.Faults.{arrow_faults, attribute_faults, faults_at
 use Rattle.query_grammar.specs.Form.{Form, Pair, Single, EmptyGroup, Group, With}
 use Rattle.query_grammar.specs.Grammar.{Sort, Union, Part, Atom, Pairs, none, Spells, bare, attributed as with_attributes, single as by_itself, empty_group, group, is_atom, sign}
 use Rattle.query_grammar.specs.Meaning.{any_of, atom_parts, attributed, is_quote, parts_of}
-use Rattle.query_grammar.specs.Reading.{Stop, Broken, Read, Reader, ◌>>=◌, Block, Closed, Open, Deeper, atom_at, atom_with, behind_arrow, behind_atom, broken_by, closed_with, comes, group_at, inside_at, is_quote_kind, next_sign, pairs_at, part_at, sign_in, single_at, unless, with_block}
+use Rattle.query_grammar.specs.Reading.{Stop, Broken, Read, Reader, Block, Closed, Open, Deeper, atom_at, atom_with, behind_arrow, behind_atom, broken_by, closed_with, comes, group_at, inside_at, is_quote_kind, next_sign, pairs_at, part_at, sign_in, single_at, unless, with_block}
 use Rattle.query_grammar.proofs.Blocks.{Alike, BlockSpelled, Breaks, Closes, block_spelled}
 use Rattle.query_grammar.proofs.Signs.{asked, late_append, lexeme, rest_of, sign_front}
 use Rattle.query_grammar.proofs.Sound.{IsPart, LeadPart, Reads}

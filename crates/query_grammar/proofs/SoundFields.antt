@@ -8,6 +8,7 @@ use Rattle.ft_base.specs.declared.query.Fields.{Fields}
 use Rattle.ft_base.specs.declared.query.Fields.TheVariants as asked_of
 use Rattle.ft_base.specs.declared.query.Param.{Param}
 use Rattle.ft_base.specs.declared.query.Query.{Query}
+use Rattle.ft_base.specs.Reading.{◌>>=◌}
 use Rattle.query_lex.specs.declared.lexeme.Lexeme.{Lexeme}
 use Rattle.query_lex.specs.declared.lexeme.LexKind.TheVariants as kinds
 use Rattle.query_lex.specs.declared.lexeme.Sign.{Sign}
@@ -18,7 +19,7 @@ use Rattle.query_grammar.specs.Faults.{faults_of, has_other, kind_faults, name_f
 use Rattle.query_grammar.specs.Form.{Form, Single, EmptyGroup, Named}
 use Rattle.query_grammar.specs.Grammar.{Sort, Unary, Part, Names, last, more, Spells, bare, attributed, field as of_field, single as by_itself, empty_group, group, is_field_name, sign}
 use Rattle.query_grammar.specs.Meaning.{fields_of}
-use Rattle.query_grammar.specs.Reading.{Stop, Broken, Found, Read, Reader, ◌>>=◌, begins_atom, next_sign, part_target, unless_other}
+use Rattle.query_grammar.specs.Reading.{Stop, Broken, Found, Read, Reader, begins_atom, next_sign, part_target, unless_other}
 use Rattle.query_grammar.proofs.Signs.{AtEnd, FirstIs, Late, asked, asked_more, at_end_append, at_end_if, late_append, lexeme, rest_of, sign_front}
 use Rattle.query_grammar.proofs.Sound.{IsPart, LeadPart, Reads}
 use Rattle.query_grammar.proofs.Targets.{Spelled, LeadNames, bind_spelled, numbers_of}

@@ -10,6 +10,7 @@ use Rattle.ft_base.specs.declared.query.Param.{Param}
 use Rattle.ft_base.specs.declared.query.Query.{Query}
 use Rattle.ft_base.specs.declared.query.Query.TheVariants as tree
 use Rattle.ft_base.specs.declared.query.TagPart.{TagPart}
+use Rattle.ft_base.specs.Reading.{◌>>=◌}
 use Rattle.query_lex.specs.declared.lexeme.Lexeme.{Lexeme}
 use Rattle.query_lex.specs.declared.lexeme.LexKind.TheVariants as kinds
 use Rattle.query_lex.specs.declared.lexeme.Sign.{Sign}
@@ -21,7 +22,7 @@ use Rattle.query_grammar.specs.Faults.{faults_of, has_other, kind_faults, name_f
 use Rattle.query_grammar.specs.Form.{Form, Edge, Single, Named, Range, Tags, Denied, Optional as OptionalForm}
 use Rattle.query_grammar.specs.Grammar.{Sort, Union, Inter, Unary, Part, Atom, IsEdge, included, Names, last, Spells, bare, field as of_field, range as of_range, tags as of_tags, minus, tilde, part as alone, single as by_itself, sign}
 use Rattle.query_grammar.specs.Meaning.{case_of, denied, optional, parts_of}
-use Rattle.query_grammar.specs.Reading.{Broken, Found, Read, Reader, ◌>>=◌, Deeper, behind_names, deeper, field_at, names_at, next_sign, part_at, range_at, range_target, signed_at, sort_at, tags_at, tags_target, target_with, unary_at, unary_with}
+use Rattle.query_grammar.specs.Reading.{Broken, Found, Read, Reader, Deeper, behind_names, deeper, field_at, names_at, next_sign, part_at, range_at, range_target, signed_at, sort_at, tags_at, tags_target, target_with, unary_at, unary_with}
 use Rattle.query_grammar.proofs.Enclosed.{LeadRange, LeadTags, ReadRange, ReadTags, AreTags, range_spelled, tags_spelled}
 use Rattle.query_grammar.proofs.Signs.{FirstIs, asked, lexeme, rest_of, sign_front}
 use Rattle.query_grammar.proofs.Sound.{Sides, Parts, IsPart, LeadPart, Reads, chain_spelled}

@@ -4,6 +4,7 @@ use Rattle.std.specs.List.{Contains, flat_map}
 use Rattle.ft_base.specs.declared.definition.IndexDef.{IndexDef}
 use Rattle.ft_base.specs.declared.query.Param.{Param}
 use Rattle.ft_base.specs.declared.query.Query.{Query}
+use Rattle.ft_base.specs.Reading.{◌>>=◌}
 use Rattle.query_lex.specs.declared.lexeme.Lexeme.{Lexeme}
 use Rattle.query_lex.specs.declared.lexeme.Sign.{Sign}
 use Rattle.query_lex.specs.declared.lexeme.Sign.TheVariants as signs
@@ -13,7 +14,7 @@ use Rattle.query_grammar.specs.Faults.{attribute_faults, has_no_order, one_if, p
 use Rattle.query_grammar.specs.Form.{Pair}
 use Rattle.query_grammar.specs.Grammar.{sign}
 use Rattle.query_grammar.specs.Meaning.{asks_order, attributed}
-use Rattle.query_grammar.specs.Reading.{Cut, Read, Reader, ◌>>=◌, Block, Closed, Open, begins_unary, behind_bar, broken_by, chain_at, joined_at, pairs_at, sign_in, with_block}
+use Rattle.query_grammar.specs.Reading.{Cut, Read, Reader, Block, Closed, Open, begins_unary, behind_bar, broken_by, chain_at, joined_at, pairs_at, sign_in, with_block}
 use Rattle.query_grammar.proofs.Chains.{Leaves, joined_none, joined_some, joint_within, leaves_less}
 use Rattle.query_grammar.proofs.Growing.{pairs_in_block, Grown}
 use Rattle.query_grammar.proofs.Keeps.{Keeping, Keeps, Says, Severs, keeps_along, keeps_bind, keeps_wider, nil_ok}

@@ -9,6 +9,7 @@ use Rattle.ft_base.specs.declared.query.Param.{Param}
 use Rattle.ft_base.specs.declared.query.Query.{Query}
 use Rattle.ft_base.specs.declared.query.Query.TheVariants as tree
 use Rattle.ft_base.specs.declared.query.TagPart.{TagPart}
+use Rattle.ft_base.specs.Reading.{◌>>=◌}
 use Rattle.query_lex.specs.declared.lexeme.Lexeme.{Lexeme}
 use Rattle.query_lex.specs.declared.lexeme.Sign.{Sign}
 use Rattle.query_lex.specs.declared.lexeme.Sign.TheVariants as signs
@@ -18,7 +19,7 @@ use Rattle.query_grammar.specs.Faults.{attribute_faults, faults_at, has_other}
 use Rattle.query_grammar.specs.Form.{Pair}
 use Rattle.query_grammar.specs.Grammar.{Sort, Union, Inter, Unary, Part, Atom, is_atom, sign}
 use Rattle.query_grammar.specs.Meaning.{any_of, atom_parts, attributed, case_of, denied, optional}
-use Rattle.query_grammar.specs.Reading.{Broken, Found, Cut, Read, Reader, ◌>>=◌, Block, Closed, Open, Deeper, atom_at, atom_with, begins_atom, behind_arrow, behind_atom, behind_names, broken_by, chain_at, closed_with, comes, deeper, field_at, group_at, inside_at, is_quote_kind, names_at, next_sign, pairs_at, part_at, part_target, range_at, range_target, sign_in, signed_at, single_at, sort_at, tags_at, tags_target, target_with, unary_at, unary_with, unless, unless_other, with_block}
+use Rattle.query_grammar.specs.Reading.{Broken, Found, Cut, Read, Reader, Block, Closed, Open, Deeper, atom_at, atom_with, begins_atom, behind_arrow, behind_atom, behind_names, broken_by, chain_at, closed_with, comes, deeper, field_at, group_at, inside_at, is_quote_kind, names_at, next_sign, pairs_at, part_at, part_target, range_at, range_target, sign_in, signed_at, single_at, sort_at, tags_at, tags_target, target_with, unary_at, unary_with, unless, unless_other, with_block}
 use Rattle.query_grammar.proofs.Chains.{Leaves, read_leaves}
 use Rattle.query_grammar.proofs.Growing.{BlockKeeps, Grown, block_keeps}
 use Rattle.query_grammar.proofs.Keeps.{FarBy, Keeping, KeepsBy, ends_of, keeps_along, keeps_bind, keeps_ok, keeps_unless, keeps_wider, names_keep, nil_broken, nil_ok, range_keeps, tags_keep}

@@ -3,6 +3,7 @@ use Rattle.std.proofs.Common.{◌≡◌, ℕ, zero, suc, List, [], ◌∷◌, �
 use Rattle.std.specs.List.{flat_map, filter_map}
 use Rattle.ft_base.specs.declared.definition.IndexDef.{IndexDef}
 use Rattle.ft_base.specs.declared.query.Param.{Param}
+use Rattle.ft_base.specs.Reading.{◌>>=◌}
 use Rattle.query_lex.specs.declared.lexeme.Lexeme.{Lexeme}
 use Rattle.query_lex.specs.declared.lexeme.LexKind.TheVariants as kinds
 use Rattle.query_lex.specs.declared.lexeme.Sign.{Sign}
@@ -13,7 +14,7 @@ use Rattle.query_grammar.specs.Answer.{place_of}
 use Rattle.query_grammar.specs.Faults.{is_foreign, name_faults, one_if}
 use Rattle.query_grammar.specs.Grammar.{Names, last, more, is_field_name, sign}
 use Rattle.query_grammar.specs.Meaning.{name_of, number_of_alias}
-use Rattle.query_grammar.specs.Reading.{Stop, Broken, Found, Read, ◌>>=◌, behind_field_name, name_at, name_with, names_at, names_in, next_sign, unless}
+use Rattle.query_grammar.specs.Reading.{Stop, Broken, Found, Read, behind_field_name, name_at, name_with, names_at, names_in, next_sign, unless}
 use Rattle.query_grammar.proofs.Signs.{AtEnd, FirstIs, Late, asked, at_end_append, at_end_if, lexeme, rest_of, sign_front}
 
 -- What a reader gives is so of what it took; where it stops, so is what it took until then, but unfinished.

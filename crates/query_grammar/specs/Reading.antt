@@ -10,6 +10,7 @@ use Rattle.ft_base.specs.declared.query.Param.{Param}
 use Rattle.ft_base.specs.declared.query.Query.{Query}
 use Rattle.ft_base.specs.declared.query.Query.TheVariants as tree
 use Rattle.ft_base.specs.declared.query.TagPart.{TagPart}
+use Rattle.ft_base.specs.Reading.{◌>>=◌}
 use Rattle.query_lex.specs.declared.lexeme.Lexeme.{Lexeme}
 use Rattle.query_lex.specs.declared.lexeme.LexKind.{LexKind}
 use Rattle.query_lex.specs.declared.lexeme.LexKind.TheVariants as kinds
@@ -37,11 +38,6 @@ Read A = Result (A × List Lexeme) Stop
 -- a reader of parts, which gives what is left of them
 abbrev pub Reader : Type 0
 Reader = List Lexeme → Read (List Query)
-
-infixl 10 ◌>>=◌
-abbrev pub ◌>>=◌ : {A B : Type 0} → Result A Stop → (A → Result B Stop) → Result B Stop
-(Ok x) >>= f = f x
-(Err stop) >>= f = Err stop
 
 -- the first fault of a lexeme before these, where it has one
 abbrev pub unless : {A : Type 0} → List QueryFault → List Lexeme → Read A → Read A

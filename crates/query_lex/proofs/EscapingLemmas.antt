@@ -2,6 +2,7 @@
 use Rattle.std.proofs.Common.{◌≡◌, ℕ, zero, suc, ◌-◌, ◌<◌, Bool, true, false, cond, eqb, List, [], ◌∷◌, ◌++◌, length, Some, None, Ok, refl, ap, sym, ◌∙◌, arith}
 use Rattle.std.specs.Prelude.{◌&&◌}
 use Rattle.std.proofs.lemmas.Bool.{eqb-true, true≢false}
+use Rattle.ft_base.specs.Reading.{◌>>=◌}
 use Rattle.query_lex.specs.declared.context.Context.TheVariants.{Text}
 use Rattle.query_lex.specs.declared.lexeme.LexKind.{LexKind}
 use Rattle.query_lex.specs.declared.lexeme.LexKind.TheVariants.{Word, Foreign}
@@ -11,7 +12,7 @@ use Rattle.token_text.specs.Tokens.{is_separator}
 use Rattle.query_lex.specs.Context.{context_behind}
 use Rattle.query_lex.specs.Escaping.{escaped_word, one_word}
 use Rattle.query_lex.specs.Lexemes.{lexeme_with, lexeme_at, at_place, lexed_in, lexed, placed, lexemes}
-use Rattle.query_lex.specs.Reading.{Read, ◌>>=◌, with_first, run_with, run_in, run_at}
+use Rattle.query_lex.specs.Reading.{Read, with_first, run_with, run_in, run_at}
 use Rattle.query_lex.specs.Roles.{text_role}
 use Rattle.query_lex.proofs.Lexing.{after}
 use Rattle.query_lex.specs.Words.{Found, is_w, letter_at, next_letter, word_with, word_at}

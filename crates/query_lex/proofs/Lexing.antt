@@ -1,5 +1,6 @@
 -- Reading one lexeme after another, as a loop does it.
 use Rattle.std.proofs.Common.{◌≡◌, ℕ, zero, suc, ◌-◌, ◌≤◌, List, [], ◌∷◌, ◌++◌, length, Option, Result, Ok, Err, refl, ap, sym, subst, ◌∙◌, append_assoc, append-nil, arith}
+use Rattle.ft_base.specs.Reading.{◌>>=◌}
 use Rattle.query_lex.specs.declared.context.Context.{Context}
 use Rattle.query_lex.specs.declared.context.Context.TheVariants.{Text}
 use Rattle.query_lex.specs.declared.fault.Stop.{Stop}
@@ -9,7 +10,6 @@ use Rattle.query_lex.specs.declared.lexeme.Lexeme.{Lexeme}
 use Rattle.query_lex.specs.Context.{context_behind}
 use Rattle.query_lex.specs.Gives.{Stops}
 use Rattle.query_lex.specs.Lexemes.{lexeme_at, at_place, lexed_in, lexed}
-use Rattle.query_lex.specs.Reading.{◌>>=◌}
 
 abbrev Lexemes : Type 0
 Lexemes = Result (List Lexeme) Stop

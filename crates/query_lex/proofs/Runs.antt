@@ -1,9 +1,10 @@
 -- Reading a run one after another, as a loop does it.
 use Rattle.std.proofs.Common.{◌≡◌, ℕ, zero, suc, ◌<◌, List, [], ◌∷◌, ◌++◌, length, Some, None, Ok, Err, refl, ap, sym, ◌∙◌, append_assoc, append-nil, arith}
+use Rattle.ft_base.specs.Reading.{◌>>=◌}
 use Rattle.query_lex.specs.declared.fault.Stop.{Stop}
 use Rattle.query_lex.specs.declared.fault.Stop.TheVariants as stops
 use Rattle.query_lex.specs.Gives.{Stops}
-use Rattle.query_lex.specs.Reading.{Read, Next, ◌>>=◌, with_first, run_with, run_in, run_at}
+use Rattle.query_lex.specs.Reading.{Read, Next, with_first, run_with, run_in, run_at}
 
 -- a run behind those that were seen
 abbrev pub after : {A : Type 0} → List A → Read (List A) → Read (List A)

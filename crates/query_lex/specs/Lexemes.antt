@@ -1,5 +1,6 @@
 -- The lexemes of a query's text (RediSearch, query syntax, dialect 2), or its first fault.
 use Rattle.std.specs.Prelude.{ℕ, zero, suc, ◌-◌, List, [], ◌∷◌, ◌++◌, length, not, codes, Option, Some, None, Result, Ok, Err}
+use Rattle.ft_base.specs.Reading.{◌>>=◌}
 use Rattle.query_lex.specs.declared.context.Context.{Context}
 use Rattle.query_lex.specs.declared.context.Context.TheVariants.{Text}
 use Rattle.query_lex.specs.declared.role.Role.{Role}
@@ -17,7 +18,7 @@ use Rattle.query_lex.specs.Context.{is_enclosed, context_behind}
 use Rattle.query_lex.specs.Pieces.{piece_at}
 use Rattle.query_lex.specs.Quotes.{quote_at}
 use Rattle.query_lex.specs.Raw.{raw_at}
-use Rattle.query_lex.specs.Reading.{Read, ◌>>=◌}
+use Rattle.query_lex.specs.Reading.{Read}
 use Rattle.query_lex.specs.Roles.{role_in}
 use Rattle.query_lex.specs.Words.{word_at, param_at, star_at, arrow_at}
 

@@ -1,6 +1,7 @@
 -- The pieces of a tag brace: what stands between its bars, without the blanks around it.
 use Rattle.std.specs.Prelude.{ℕ, ◌-◌, List, [], ◌∷◌, length, take, drop, map, Bool, true, false, ◌&&◌, ◌||◌, not, ◌==◌, Option, Some, None, Ok, if◌then◌else◌}
 use Rattle.std.specs.List.{list_all, list_any}
+use Rattle.ft_base.specs.Reading.{◌>>=◌}
 use Rattle.query_lex.specs.declared.fault.Cause.TheVariants.{LoneEscape}
 use Rattle.query_lex.specs.declared.lexeme.LexKind.{LexKind}
 use Rattle.query_lex.specs.declared.lexeme.LexKind.TheVariants.{Param, Tag, Sign}
@@ -8,7 +9,7 @@ use Rattle.query_lex.specs.declared.lexeme.Sign.TheVariants as signs
 use Rattle.query_lex.specs.declared.text_byte.TextByte.{TextByte}
 use Rattle.query_lex.specs.Bytes.{is_of_name}
 use Rattle.query_lex.specs.Quotes.{plain, escaped}
-use Rattle.query_lex.specs.Reading.{Read, Next, ◌>>=◌, fault, with_first, run_at}
+use Rattle.query_lex.specs.Reading.{Read, Next, fault, with_first, run_at}
 
 -- the byte that a backslash escapes, behind it, whatever it is
 abbrev pub tag_escape_at : List ℕ → Read TextByte

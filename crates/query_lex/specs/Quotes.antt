@@ -1,12 +1,13 @@
 -- Quotes: from a `"` to the next one that no backslash escapes.
 use Rattle.std.specs.Prelude.{ℕ, List, [], ◌∷◌, drop, Bool, true, false, ◌&&◌, ◌||◌, ◌==◌, Option, Some, None, Ok, Err, if◌then◌else◌}
+use Rattle.ft_base.specs.Reading.{◌>>=◌}
 use Rattle.query_lex.specs.declared.fault.Cause.TheVariants.{OpenQuote, LoneEscape}
 use Rattle.query_lex.specs.declared.fault.Stop.{Stop}
 use Rattle.query_lex.specs.declared.lexeme.LexKind.{LexKind}
 use Rattle.query_lex.specs.declared.lexeme.LexKind.TheVariants.{Quote}
 use Rattle.query_lex.specs.declared.text_byte.TextByte.{TextByte}
 use Rattle.token_text.specs.Tokens.{is_separator}
-use Rattle.query_lex.specs.Reading.{Read, Next, ◌>>=◌, stop_at, fault, run_at}
+use Rattle.query_lex.specs.Reading.{Read, Next, stop_at, fault, run_at}
 
 abbrev pub plain : ℕ → TextByte
 plain b = record { byte = b; escaped = false }

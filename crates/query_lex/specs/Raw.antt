@@ -1,5 +1,6 @@
 -- Raw bytes in brackets and in the braces of attributes: numbers and values, as they stand.
 use Rattle.std.specs.Prelude.{ℕ, List, [], ◌∷◌, ◌&&◌, ◌==◌, not, Option, Some, None, Ok, if◌then◌else◌}
+use Rattle.ft_base.specs.Reading.{◌>>=◌}
 use Rattle.query_lex.specs.declared.context.Context.{Context}
 use Rattle.query_lex.specs.declared.fault.Cause.TheVariants.{LoneEscape}
 use Rattle.query_lex.specs.declared.lexeme.LexKind.{LexKind}
@@ -7,7 +8,7 @@ use Rattle.query_lex.specs.declared.lexeme.LexKind.TheVariants as kinds
 use Rattle.query_lex.specs.Bytes.{comes}
 use Rattle.token_text.specs.Tokens.{is_separator}
 use Rattle.query_lex.specs.Roles.{is_raw}
-use Rattle.query_lex.specs.Reading.{Read, Next, ◌>>=◌, fault, with_first, run_at}
+use Rattle.query_lex.specs.Reading.{Read, Next, fault, with_first, run_at}
 
 -- A byte that is kept. A backslash hides nothing, but is lone where no separator follows it.
 abbrev pub raw_byte_at : ℕ → List ℕ → Read ℕ

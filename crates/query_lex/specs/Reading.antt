@@ -1,5 +1,6 @@
 -- Reading bytes from the left. Each reader answers what it read and the bytes after it, or the fault at which it stops.
 use Rattle.std.specs.Prelude.{ℕ, zero, suc, List, [], ◌∷◌, length, Option, Some, None, Result, Ok, Err}
+use Rattle.ft_base.specs.Reading.{◌>>=◌}
 use Rattle.query_lex.specs.declared.fault.Cause.{Cause}
 use Rattle.query_lex.specs.declared.fault.Stop.{Stop}
 use Rattle.query_lex.specs.declared.fault.Stop.TheVariants.{Fault}
@@ -11,11 +12,6 @@ Read A = Result (A × List ℕ) Stop
 -- what comes next in a run, and the bytes after it; none where the run ends
 abbrev pub Next : Type 0 → Type 0
 Next A = Result (Option (A × List ℕ)) Stop
-
-infixl 10 ◌>>=◌
-abbrev pub ◌>>=◌ : {A B : Type 0} → Result A Stop → (A → Result B Stop) → Result B Stop
-(Ok x) >>= f = f x
-(Err stop) >>= f = Err stop
 
 -- a fault at the first of these bytes
 abbrev pub stop_at : Cause → List ℕ → Stop

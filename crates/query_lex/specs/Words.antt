@@ -1,13 +1,14 @@
 -- Words, parameters, and the signs of more than one byte (RediSearch, query syntax, dialect 2).
 use Rattle.std.specs.Prelude.{ℕ, List, [], ◌∷◌, length, take, drop, position, unwrap_or, Bool, ◌&&◌, ◌||◌, not, ◌==◌, codes, Option, Some, None, Ok, if◌then◌else◌}
 use Rattle.std.specs.Str.{bytes_eq}
+use Rattle.ft_base.specs.Reading.{◌>>=◌}
 use Rattle.query_lex.specs.declared.fault.Cause.TheVariants.{LoneEscape}
 use Rattle.query_lex.specs.declared.lexeme.LexKind.{LexKind}
 use Rattle.query_lex.specs.declared.lexeme.LexKind.TheVariants.{Word, Prefix, Param, ParamPrefix, Foreign, Sign}
 use Rattle.query_lex.specs.declared.lexeme.Sign.TheVariants as signs
 use Rattle.query_lex.specs.Bytes.{begins_word, is_of_name, comes, is_at}
 use Rattle.token_text.specs.Tokens.{is_separator}
-use Rattle.query_lex.specs.Reading.{Read, Next, ◌>>=◌, fault, with_first, run_at}
+use Rattle.query_lex.specs.Reading.{Read, Next, fault, with_first, run_at}
 
 -- a lexeme, where the bytes before the others are one
 abbrev pub Found : Type 0

@@ -1,5 +1,5 @@
 -- The fields that are searched, found by their numbers.
-use Rattle.std.proofs.Common.{◌≡◌, ◌⊎◌, inl, inr, ℕ, zero, suc, ◌<◌, ◌≤◌, ◌+◌, length, get_or, Bool, true, false, cond, ◌&&◌, ◌||◌, eqb, List, [], ◌∷◌, Option, Some, None, refl, sym, ap, ◌∙◌, filter, arith}
+use Rattle.std.proofs.Common.{◌≡◌, ◌⊎◌, inl, inr, ℕ, zero, suc, ◌<◌, ◌≤◌, ◌+◌, length, get_or, Bool, true, false, ◌&&◌, eqb, List, [], ◌∷◌, Option, Some, None, refl, sym, ap, ◌∙◌, arith}
 use Rattle.std.specs.List.{list_any, slice_get, filter_map, cons_option}
 use Rattle.std.proofs.lemmas.Bool.{eqb-true, eq-eqb, false≢true, and_parts, and_from, or_cases, or_left, or_right, or_from, cases_lt}
 use Rattle.std.proofs.lemmas.Option.{none-some, same_Some, slice_get_within, slice_get_read}
@@ -7,18 +7,10 @@ use Rattle.ft_base.specs.declared.definition.Field.{Field}
 use Rattle.ft_base.specs.declared.definition.IndexDef.{IndexDef}
 use Rattle.ft_base.specs.declared.query.Fields.{Fields}
 use Rattle.ft_base.specs.declared.query.Fields.TheVariants.{All, Named}
+use Rattle.ft_base.proofs.AnyLaws.{any_filter_and}
 use Rattle.ft_meaning.specs.Holds.{named, searched}
 use Rattle.ft_meaning.specs.Meaning.{has_words}
 use Rattle.query_match.specs.Searched.{is_named}
-
-any-filter : {X : Type 0} (f p : X → Bool) (xs : List X) → list_any f (filter p xs) ≡ list_any (λ x. p x && f x) xs
-any-filter f p [] = refl
-any-filter f p (x ∷ xs) = go (p x) (any-filter f p xs)
-  where
-    go : (b : Bool) → list_any f (filter p xs) ≡ list_any (λ x. p x && f x) xs
-        → list_any f (cond b (x ∷ filter p xs) (filter p xs)) ≡ ((b && f x) || list_any (λ x. p x && f x) xs)
-    go true e = ap (λ (r : Bool). f x || r) e
-    go false e = e
 
 -- an item at a place passes
 any_at : {X : Type 0} (f : X → Bool) (xs : List X) (k : ℕ) (x : X) → slice_get xs k ≡ Some x → f x ≡ true → list_any f xs ≡ true
@@ -91,10 +83,10 @@ missed_more f def fields number field at before here k other lt there named = go
 pub searched_has : (f : Field → Bool) (def : IndexDef) (fields : Fields) (k : ℕ) (field : Field) → slice_get def.fields k ≡ Some field
     → (is_named fields k && has_words field) ≡ true → f field ≡ true → list_any f (searched def fields) ≡ true
 searched_has f def All k field at named h =
-    any-filter f has_words def.fields ∙ any_at (λ x. has_words x && f x) def.fields k field at (and_from (has_words field) (f field) named h)
+    any_filter_and f has_words def.fields ∙ any_at (λ x. has_words x && f x) def.fields k field at (and_from (has_words field) (f field) named h)
 searched_has f def (Named numbers) k field at named h =
     let parts = and_parts (list_any (λ other. eqb other k) numbers) (has_words field) named in
-    any-filter f has_words (filter_map (slice_get def.fields) numbers)
+    any_filter_and f has_words (filter_map (slice_get def.fields) numbers)
     ∙ named_at (λ x. has_words x && f x) def.fields numbers k field at (and_from (has_words field) (f field) parts.1 h) parts.0
 
 both_false : (a b : Bool) → (a ≡ true → b ≡ false) → (a && b) ≡ false
@@ -104,10 +96,10 @@ both_false false b h = refl
 pub searched_none : (f : Field → Bool) (def : IndexDef) (fields : Fields) (count : ℕ) → length def.fields ≤ count → Missed f def fields count
     → list_any f (searched def fields) ≡ false
 searched_none f def All count all missed =
-    any-filter f has_words def.fields
+    any_filter_and f has_words def.fields
     ∙ none_at (λ x. has_words x && f x) def.fields (λ k x at. both_false (has_words x) (f x) (λ words.
     missed k x (omega (arith, all, slice_get_within def.fields k x at)) at words))
 searched_none f def (Named numbers) count all missed =
-    any-filter f has_words (filter_map (slice_get def.fields) numbers)
+    any_filter_and f has_words (filter_map (slice_get def.fields) numbers)
     ∙ named_none (λ x. has_words x && f x) def.fields numbers (λ k x at among. both_false (has_words x) (f x) (λ words.
     missed k x (omega (arith, all, slice_get_within def.fields k x at)) at (and_from (list_any (λ other. eqb other k) numbers) (has_words x) among words)))

@@ -4,6 +4,7 @@ use Rattle.ft_base.specs.declared.definition.IndexDef.{IndexDef}
 use Rattle.ft_base.specs.declared.query.Fields.TheVariants as asked
 use Rattle.ft_base.specs.declared.query.Param.{Param}
 use Rattle.ft_base.specs.declared.query.Query.{Query}
+use Rattle.ft_base.specs.Reading.{◌>>=◌}
 use Rattle.query_lex.specs.Gives.{IsFaultOf}
 use Rattle.query_lex.specs.Lexemes.{lexemes}
 use Rattle.query_lex.specs.declared.fault.LexFault.{LexFault}
@@ -16,7 +17,7 @@ use Rattle.query_grammar.specs.Answer.{Answers, IsAnswer}
 use Rattle.query_grammar.specs.Faults.{most_levels}
 use Rattle.query_grammar.specs.Grammar.{Union}
 use Rattle.query_grammar.specs.Meaning.{union_of}
-use Rattle.query_grammar.specs.Reading.{Broken, ◌>>=◌, answer_of, ended_at, whole_at}
+use Rattle.query_grammar.specs.Reading.{Broken, answer_of, ended_at, whole_at}
 use Rattle.query_grammar.specs.Reading as reading
 use Rattle.query_parse.specs.Answer.{IsRead, lexical, query_read, read_with}
 use Rattle.query_parse.specs.declared.stop.Stop.{Stop}

@@ -1,8 +1,9 @@
 -- Reading one of something that is joined after another, as a loop does it.
 use Rattle.std.proofs.Common.{◌≡◌, ℕ, zero, suc, ◌<◌, List, ◌++◌, length, Option, Some, None, Ok, Err, ap, sym, ◌∙◌, arith}
 use Rattle.ft_base.specs.declared.query.Query.{Query}
+use Rattle.ft_base.specs.Reading.{◌>>=◌}
 use Rattle.query_lex.specs.declared.lexeme.Lexeme.{Lexeme}
-use Rattle.query_grammar.specs.Reading.{Read, Reader, ◌>>=◌, chain_at, joined_at, joined_in, joined_with}
+use Rattle.query_grammar.specs.Reading.{Read, Reader, chain_at, joined_at, joined_in, joined_with}
 use Rattle.query_grammar.specs.Reading as reading
 use Rattle.query_parse.specs.declared.stop.Stop.{Stop}
 use Rattle.query_parse.specs.Gives.{Stops}

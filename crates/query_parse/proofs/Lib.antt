@@ -7,6 +7,7 @@ pub mod NameLemmas
 pub mod Naming
 pub mod PairLemmas
 pub mod PhraseLemmas
+pub mod PlaceLemmas
 pub mod QueryLemmas
 pub mod Ranging
 pub mod StopLemmas

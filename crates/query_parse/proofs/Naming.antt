@@ -2,10 +2,11 @@
 use Rattle.std.proofs.Common.{◌≡◌, ℕ, zero, suc, ◌<◌, List, [], ◌∷◌, ◌++◌, length, drop, Option, Some, Ok, Err, refl, ap, sym, ◌∙◌, arith, length-drop}
 use Rattle.ft_base.specs.declared.definition.IndexDef.{IndexDef}
 use Rattle.ft_base.specs.declared.query.Param.{Param}
+use Rattle.ft_base.specs.Reading.{◌>>=◌}
 use Rattle.query_lex.specs.declared.lexeme.Lexeme.{Lexeme}
 use Rattle.query_lex.specs.declared.lexeme.Sign.{Sign}
 use Rattle.query_lex.specs.declared.lexeme.Sign.TheVariants as signs
-use Rattle.query_grammar.specs.Reading.{Read, ◌>>=◌, behind_field_name, name_at, names_at, names_in, next_sign}
+use Rattle.query_grammar.specs.Reading.{Read, behind_field_name, name_at, names_at, names_in, next_sign}
 use Rattle.query_grammar.specs.Reading as reading
 use Rattle.query_parse.specs.declared.stop.Stop.{Stop}
 use Rattle.query_parse.specs.Gives.{Stops}

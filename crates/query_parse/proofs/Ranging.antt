@@ -3,10 +3,11 @@ use Rattle.std.proofs.Common.{◌≡◌, ℕ, List, [], ◌∷◌, drop, Some, O
 use Rattle.ft_base.specs.declared.definition.IndexDef.{IndexDef}
 use Rattle.ft_base.specs.declared.query.Param.{Param}
 use Rattle.ft_base.specs.declared.query.Query.{Query}
+use Rattle.ft_base.specs.Reading.{◌>>=◌}
 use Rattle.query_lex.specs.declared.lexeme.Lexeme.{Lexeme}
 use Rattle.query_lex.specs.declared.lexeme.Sign.TheVariants as signs
 use Rattle.query_grammar.specs.Form.{Edge}
-use Rattle.query_grammar.specs.Reading.{◌>>=◌, closed_range, edge_at, next_sign, range_at, range_by}
+use Rattle.query_grammar.specs.Reading.{closed_range, edge_at, next_sign, range_at, range_by}
 
 pub range-read : (def : IndexDef) (params : List Param) (field : ℕ) (ts us vs : List Lexeme) (low high : Edge) (q : Query)
     → edge_at def params ts ≡ Ok (low, us) → edge_at def params us ≡ Ok (high, vs) → next_sign vs ≡ Some signs.RangeClose → q ≡ range_by def params field low high

@@ -3,6 +3,7 @@ use Rattle.std.proofs.Common.{◌≡◌, ℕ, zero, suc, ◌<◌, List, [], ◌�
 use Rattle.ft_base.specs.declared.definition.IndexDef.{IndexDef}
 use Rattle.ft_base.specs.declared.query.Param.{Param}
 use Rattle.ft_base.specs.declared.query.TagPart.{TagPart}
+use Rattle.ft_base.specs.Reading.{◌>>=◌}
 use Rattle.query_lex.specs.declared.lexeme.Lexeme.{Lexeme}
 use Rattle.query_lex.specs.declared.lexeme.Sign.{Sign}
 use Rattle.query_lex.specs.declared.lexeme.Sign.TheVariants as signs
@@ -10,7 +11,7 @@ use Rattle.query_grammar.specs.declared.fault.QueryFault.{QueryFault}
 use Rattle.query_grammar.specs.Faults.{faults_at}
 use Rattle.query_grammar.specs.Grammar.{is_tag}
 use Rattle.query_grammar.specs.Meaning.{tag_part}
-use Rattle.query_grammar.specs.Reading.{Read, ◌>>=◌, Broken, next_sign, tag_with, tags_at, tags_in, tags_with, unless}
+use Rattle.query_grammar.specs.Reading.{Read, Broken, next_sign, tag_with, tags_at, tags_in, tags_with, unless}
 use Rattle.query_grammar.specs.Reading as reading
 use Rattle.query_parse.specs.Steps.{ends_tags, tag_at}
 use Rattle.query_parse.specs.declared.stop.Stop.{Stop}

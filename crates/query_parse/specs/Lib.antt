@@ -4,6 +4,7 @@ pub mod Faults
 pub mod Gives
 pub mod Kinds
 pub mod NameKeys
+pub mod Places
 pub mod Reads
 pub mod Seen
 pub mod Steps

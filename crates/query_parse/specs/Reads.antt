@@ -3,8 +3,9 @@ use Rattle.std.specs.Prelude.{ℕ, List}
 use Rattle.ft_base.specs.declared.definition.IndexDef.{IndexDef}
 use Rattle.ft_base.specs.declared.query.Fields.{Fields}
 use Rattle.ft_base.specs.declared.query.Param.{Param}
+use Rattle.ft_base.specs.Reading.{◌>>=◌}
 use Rattle.query_grammar.specs.Grammar.{Sort, Union}
-use Rattle.query_grammar.specs.Reading.{Reader, ◌>>=◌, closed_with, deeper, next_sign, sort_at}
+use Rattle.query_grammar.specs.Reading.{Reader, closed_with, deeper, next_sign, sort_at}
 
 -- what a reader of a sort gives, within fields
 abbrev pub reads : IndexDef → List Param → Fields → ℕ → Sort → Reader

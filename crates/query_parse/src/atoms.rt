@@ -12,12 +12,12 @@ ghost use Rattle.ft_base.specs.declared.query.Query.TheVariants as tree;
 ghost use Rattle.token_text.specs.Tokens.{is_stop, lowered};
 ghost use Rattle.token_text.specs.declared.token.Token.{Token};
 
+use crate::params::Params;
 use crate::parser::Parser;
 use crate::phrases::any_of;
 use crate::stop::{Read, Stop};
 use crate::tokens::{behind, next_sign};
-use crate::values::param_of;
-use ft_base::{Bytes, Fields, ListOf, MAX_WORD_BYTES, NoMemory, Param, Query, StopWords};
+use ft_base::{Bytes, Fields, ListOf, MAX_WORD_BYTES, NoMemory, Query, StopWords};
 use query_grammar::QueryFault;
 use query_lex::{LexKind, Lexeme, Sign};
 use std::alloc::Global;
@@ -44,9 +44,9 @@ pub fn single<'a>(
     rest: &'a [Lexeme],
 ) -> Read<'a, Option<Query>>
     ensures read { Gives (λ x. (option_to_list x.0, x.1.now)) result
-        (unless (faults_at parser.now.params.now lexeme.now) rest.now
+        (unless (faults_at parser.now.params lexeme.now) rest.now
         (Ok (
-          atom_parts parser.now.def.now.stops.words parser.now.params.now
+          atom_parts parser.now.def.now.stops.words parser.now.params
               fields.now lexeme.now.kind,
           rest.now,
         ))) }
@@ -56,11 +56,11 @@ pub fn single<'a>(
         LexKind::Word(word) => Ok((word_part(parser, fields, word.as_slice())?, rest)),
         LexKind::Prefix(word) => Ok((prefix_part(parser.alloc, fields, word.as_slice())?, rest)),
         LexKind::Param(name) => {
-            let value = param_at(parser.params, name.as_slice(), lexeme.at, rest)?;
+            let value = param_at(&parser.params, name.as_slice(), lexeme.at, rest)?;
             Ok((word_part(parser, fields, value)?, rest))
         }
         LexKind::ParamPrefix(name) => {
-            let value = param_at(parser.params, name.as_slice(), lexeme.at, rest)?;
+            let value = param_at(&parser.params, name.as_slice(), lexeme.at, rest)?;
             Ok((prefix_part(parser.alloc, fields, value)?, rest))
         }
         LexKind::Quote(text) => Ok((quote_part(parser, fields, text.as_slice())?, rest)),
@@ -72,7 +72,7 @@ pub fn single<'a>(
 
 /// The value of a parameter at an offset.
 fn param_at<'p, 'a>(
-    params: &'p [Param],
+    params: &'p Params<'_>,
     name: &[u8],
     at: usize,
     rest: &'a [Lexeme],
@@ -81,7 +81,7 @@ fn param_at<'p, 'a>(
     ensures err { IfErr result (λ stop. (param_of params.now name.now ≡ None)
         × IsFound stop (NoParam at) rest.now) }
 {
-    match param_of(params, name) {
+    match params.get(name) {
         Some(value) => Ok(value),
         None => Err(Stop::Found(QueryFault::NoParam { at }, rest)),
     }

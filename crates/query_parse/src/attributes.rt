@@ -10,13 +10,14 @@ ghost use Rattle.query_parse.specs.Gives.{Gives};
 ghost use Rattle.query_parse.specs.Seen.{pair_of, pairs_of};
 
 use crate::blocks::{Block, Pair, pairs};
+use crate::params::Params;
 use crate::parser::Parser;
 use crate::phrases::{arranged, is_else};
 use crate::settings::{flag_of, is_known, slop_of};
 use crate::stop::{Read, Stop};
 use crate::tokens::{behind, next_sign, place_of};
 use crate::values::{fault_at, value_of};
-use ft_base::{NoMemory, Param, Query};
+use ft_base::{NoMemory, Query};
 use query_grammar::QueryFault;
 use query_lex::{Lexeme, Sign};
 
@@ -28,7 +29,7 @@ pub fn attributed<'a>(
     lexemes: &'a [Lexeme],
 ) -> Read<'a, Option<Query>>
     ensures read { Gives (λ x. (option_to_list x.0, x.1.now)) result
-        (behind_atom parser.now.def.now parser.now.params.now is_quote
+        (behind_atom parser.now.def.now parser.now.params is_quote
         (option_to_list part) (next_sign lexemes.now) lexemes.now) }
     ensures within { IfOk result (λ x. length x.1.now ≤ length lexemes.now) }
 {
@@ -52,19 +53,19 @@ fn with_block<'a>(
     block: Block<'a>,
 ) -> Read<'a, Option<Query>>
     ensures read { Gives (λ x. (option_to_list x.0, x.1.now)) result
-        (with_block parser.now.def.now parser.now.params.now at is_quote (option_to_list part)
-        (block_of parser.now.def.now parser.now.params.now block.entry)) }
+        (with_block parser.now.def.now parser.now.params at is_quote (option_to_list part)
+        (block_of parser.now.def.now parser.now.params block.entry)) }
     ensures rest { IfOk result (λ x. x.1.now ≡ rest_of block.entry) }
 {
     match block {
         Block::Closed(pairs, rest) => {
-            match first_fault(parser.params, at, pairs.as_slice(), &part) {
+            match first_fault(&parser.params, at, pairs.as_slice(), &part) {
                 Some(fault) => Err(Stop::Found(fault, rest)),
                 None => Ok((ordered(parser, is_quote, pairs.as_slice(), part)?, rest)),
             }
         }
         Block::Open(pairs, rest) => {
-            match first_fault(parser.params, at, pairs.as_slice(), &part) {
+            match first_fault(&parser.params, at, pairs.as_slice(), &part) {
                 Some(fault) => Err(Stop::Cut(fault, rest)),
                 None => Err(Stop::Broken(rest)),
             }
@@ -75,7 +76,7 @@ fn with_block<'a>(
 /// The first fault of the attributes behind an arrow at an offset: that the part has no order, or
 /// that of one of them.
 fn first_fault(
-    params: &[Param],
+    params: &Params<'_>,
     at: usize,
     pairs: &[Pair<'_>],
     part: &Option<Query>,
@@ -91,7 +92,7 @@ fn first_fault(
 
 /// The first fault of attributes.
 #[tactic(auto, using(crate::proofs::FaultLemmas::first_of))]
-fn pairs_fault(params: &[Param], pairs: &[Pair<'_>]) -> Option<QueryFault>
+fn pairs_fault(params: &Params<'_>, pairs: &[Pair<'_>]) -> Option<QueryFault>
     ensures { result ≡ first (flat_map (pair_faults params.now) (pairs_of pairs.now)) }
 {
     for pair in pairs {
@@ -102,7 +103,7 @@ fn pairs_fault(params: &[Param], pairs: &[Pair<'_>]) -> Option<QueryFault>
     None
 }
 
-fn pair_fault(params: &[Param], pair: &Pair<'_>) -> Option<QueryFault>
+fn pair_fault(params: &Params<'_>, pair: &Pair<'_>) -> Option<QueryFault>
     ensures { result ≡ first (pair_faults params.now (pair_of pair.now)) }
 {
     if !is_known(pair.name) {
@@ -144,7 +145,7 @@ fn ordered(
     part: Option<Query>,
 ) -> Result<Option<Query>, NoMemory>
     ensures { IfOk result (λ left. option_to_list left
-        ≡ attributed parser.now.params.now is_quote (pairs_of pairs.now) (option_to_list part)) }
+        ≡ attributed parser.now.params is_quote (pairs_of pairs.now) (option_to_list part)) }
 {
     let Some(query) = part else {
         return Ok(None);
@@ -152,12 +153,12 @@ fn ordered(
     if !asks_order(pairs) {
         return Ok(Some(query));
     }
-    let slop = slop_in(parser.params, is_quote, pairs);
-    let in_order = order_in(parser.params, is_quote, pairs);
+    let slop = slop_in(&parser.params, is_quote, pairs);
+    let in_order = order_in(&parser.params, is_quote, pairs);
     Ok(Some(arranged(parser.alloc, slop, in_order, query)?))
 }
 
-fn slop_in(params: &[Param], is_quote: bool, pairs: &[Pair<'_>]) -> Option<u32>
+fn slop_in(params: &Params<'_>, is_quote: bool, pairs: &[Pair<'_>]) -> Option<u32>
     ensures { result ≡ slop_in params.now is_quote (pairs_of pairs.now) }
 {
     match attribute(params, b"slop", pairs) {
@@ -166,7 +167,7 @@ fn slop_in(params: &[Param], is_quote: bool, pairs: &[Pair<'_>]) -> Option<u32>
     }
 }
 
-fn order_in(params: &[Param], is_quote: bool, pairs: &[Pair<'_>]) -> bool
+fn order_in(params: &Params<'_>, is_quote: bool, pairs: &[Pair<'_>]) -> bool
     ensures { result ≡ order_in params.now is_quote (pairs_of pairs.now) }
 {
     match attribute(params, b"inorder", pairs) {
@@ -176,7 +177,7 @@ fn order_in(params: &[Param], is_quote: bool, pairs: &[Pair<'_>]) -> bool
 }
 
 /// The value of the attribute of this name, where it is there.
-fn attribute<'v>(params: &'v [Param], name: &[u8], pairs: &'v [Pair<'v>]) -> Option<&'v [u8]>
+fn attribute<'v>(params: &'v Params<'_>, name: &[u8], pairs: &'v [Pair<'v>]) -> Option<&'v [u8]>
     ensures { option_map (λ v. v.now) result
         ≡ attribute_of params.now name.now (pairs_of pairs.now) }
 {

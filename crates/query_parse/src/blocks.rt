@@ -10,10 +10,11 @@ ghost use Rattle.query_parse.specs.NameKeys.{HasNames};
 ghost use Rattle.query_parse.specs.Seen.{pairs_of};
 
 use crate::name_set::{NameSet, add_name, has_name, no_names};
+use crate::params::Params;
 use crate::parser::Parser;
 use crate::settings::is_attribute;
 use crate::tokens::{behind, next_sign};
-use ft_base::{NoMemory, Param};
+use ft_base::NoMemory;
 use query_lex::{LexKind, Lexeme, Sign};
 
 /// An attribute: its name and where it stands, and its value, which is missing where the text
@@ -45,15 +46,15 @@ pub enum Step<'a> {
 
 /// The attributes in braces, behind their opening one.
 pub fn pairs<'a>(parser: &Parser<'_>, lexemes: &'a [Lexeme]) -> Result<Block<'a>, NoMemory>
-    ensures read { IfOk result (λ block. block_of parser.now.def.now parser.now.params.now block
-        ≡ pairs_at parser.now.def.now parser.now.params.now [] lexemes.now) }
+    ensures read { IfOk result (λ block. block_of parser.now.def.now parser.now.params block
+        ≡ pairs_at parser.now.def.now parser.now.params [] lexemes.now) }
     ensures within { IfOk result (λ block. length (rest_of block) ≤ length lexemes.now) }
 {
     let mut pairs = Vec::new(parser.alloc);
     let mut names = no_names(parser.alloc);
     let mut rest = lexemes;
     'reading: loop {
-        match next_step(parser.params, &names, rest) {
+        match next_step(&parser.params, &names, rest) {
             Step::More(pair, behind) => {
                 add_name(parser.alloc, &mut names, pair.name)?;
                 pairs.push(pair)?;
@@ -84,7 +85,7 @@ fn add<'a>(pairs: &mut Vec<Pair<'a>>, pair: Option<Pair<'a>>) -> Result<(), NoMe
 }
 
 /// What stands next, behind attributes of these names.
-fn next_step<'a>(params: &[Param], names: &NameSet, lexemes: &'a [Lexeme]) -> Step<'a>
+fn next_step<'a>(params: &Params<'_>, names: &NameSet, lexemes: &'a [Lexeme]) -> Step<'a>
     ensures read { (def : IndexDef)
         (others : List form.Pair → List Lexeme → reading.Block def params.now)
         (before : List form.Pair) → HasNames names.now (names_of def params.now before)
@@ -109,7 +110,7 @@ fn next_step<'a>(params: &[Param], names: &NameSet, lexemes: &'a [Lexeme]) -> St
 }
 
 /// What stands behind the name of an attribute.
-fn named<'a>(params: &[Param], at: usize, name: &'a [u8], lexemes: &'a [Lexeme]) -> Step<'a>
+fn named<'a>(params: &Params<'_>, at: usize, name: &'a [u8], lexemes: &'a [Lexeme]) -> Step<'a>
     ensures read { (def : IndexDef)
         (others : List form.Pair → List Lexeme → reading.Block def params.now)
         (before : List form.Pair)

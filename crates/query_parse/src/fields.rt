@@ -25,7 +25,7 @@ pub enum Needed {
 /// The numbers of the fields that are named.
 pub fn names<'a>(parser: &Parser<'_>, lexemes: &'a [Lexeme]) -> Read<'a, Vec<u16>>
     ensures read { Gives (λ x. (x.0.items, x.1.now)) result
-        (names_at parser.now.def.now parser.now.params.now [] lexemes.now) }
+        (names_at parser.now.def.now parser.now.params [] lexemes.now) }
     ensures shorter { IfOk result (λ x. length x.1.now < length lexemes.now) }
 {
     let mut numbers = Vec::new(parser.alloc);
@@ -47,7 +47,7 @@ pub fn names<'a>(parser: &Parser<'_>, lexemes: &'a [Lexeme]) -> Read<'a, Vec<u16
 #[tactic(auto, unfolding(query_grammar::specs::Reading::name_at))]
 fn name<'a>(parser: &Parser<'_>, lexemes: &'a [Lexeme]) -> Read<'a, u16>
     ensures read { Gives (λ x. (x.0, x.1.now)) result
-        (name_at parser.now.def.now parser.now.params.now lexemes.now) }
+        (name_at parser.now.def.now parser.now.params lexemes.now) }
     ensures shorter { IfOk result (λ x. length x.1.now < length lexemes.now) }
 {
     let [first, rest @ ..] = lexemes else {

@@ -3,7 +3,8 @@
 //! A text is read from the left, with one function for each rule of the grammar, which never looks
 //! back. Each function answers what reading gives as `query_grammar` defines it, or that memory is
 //! wanting. So `@t:(a b) | -c` has the tree Or(And(t:a, t:b), Not(c)). Begin with `query.rt`, then
-//! `parser.rt`; `specs/Answer.antt` says what a text is answered.
+//! `parser.rt`; `params.rt` finds the value of a `$name`. `specs/Answer.antt` says what a text is
+//! answered.
 #![tactic(auto)]
 
 mod atoms;
@@ -11,6 +12,7 @@ mod attributes;
 mod blocks;
 mod fields;
 mod name_set;
+mod params;
 mod parser;
 mod phrases;
 mod query;

@@ -9,6 +9,7 @@ ghost use Rattle.query_parse.specs.Reads.{reads, reads_inside};
 use crate::atoms::{closed, single};
 use crate::attributes::attributed;
 use crate::fields::{Needed, has_other, names};
+use crate::params::Params;
 use crate::phrases::{add, all_of, denied, optional};
 use crate::ranges::range_target;
 use crate::stop::{Read, Stop};
@@ -16,7 +17,7 @@ use crate::tags::tags_target;
 use crate::tokens::{
     bar, begins_atom, begins_unary, behind, group_ends, is_atom, next_sign, place_of, quote_comes,
 };
-use ft_base::{Fields, IndexDef, ListOf, Param, Query};
+use ft_base::{Fields, IndexDef, ListOf, Query};
 use query_grammar::QueryFault;
 use query_lex::{LexKind, Lexeme, Sign};
 use std::alloc::Global;
@@ -26,7 +27,7 @@ use std::alloc::Global;
 pub struct Parser<'p> {
     pub alloc: Global,
     pub def: &'p IndexDef,
-    pub params: &'p [Param],
+    pub params: Params<'p>,
     ghost few_fields: { length def.now.fields ≤ 1024 },
 }
 
@@ -39,7 +40,7 @@ pub fn union<'a>(
     lexemes: &'a [Lexeme],
 ) -> Read<'a, Vec<Query>>
     ensures read { Gives (λ x. (x.0.items, x.1.now)) result
-        (reads parser.now.def.now parser.now.params.now fields.now levels Union lexemes.now) }
+        (reads parser.now.def.now parser.now.params fields.now levels Union lexemes.now) }
     ensures shorter { IfOk result (λ x. length x.1.now < length lexemes.now) }
 {
     let (parts, behind_first) = match inter(parser, fields, levels, lexemes) {
@@ -69,7 +70,7 @@ fn inter<'a>(
     lexemes: &'a [Lexeme],
 ) -> Read<'a, Vec<Query>>
     ensures read { Gives (λ x. (x.0.items, x.1.now)) result
-        (reads parser.now.def.now parser.now.params.now fields.now levels Inter lexemes.now) }
+        (reads parser.now.def.now parser.now.params fields.now levels Inter lexemes.now) }
     ensures shorter { IfOk result (λ x. length x.1.now < length lexemes.now) }
 {
     let (first, behind_first) = match unary(parser, fields, levels, lexemes) {
@@ -100,7 +101,7 @@ fn unary<'a>(
     lexemes: &'a [Lexeme],
 ) -> Read<'a, Option<Query>>
     ensures read { Gives (λ x. (option_to_list x.0, x.1.now)) result
-        (reads parser.now.def.now parser.now.params.now fields.now levels Unary lexemes.now) }
+        (reads parser.now.def.now parser.now.params fields.now levels Unary lexemes.now) }
     ensures shorter { IfOk result (λ x. length x.1.now < length lexemes.now) }
 {
     match next_sign(lexemes) {
@@ -139,7 +140,7 @@ fn part<'a>(
     lexemes: &'a [Lexeme],
 ) -> Read<'a, Option<Query>>
     ensures read { Gives (λ x. (option_to_list x.0, x.1.now)) result
-        (reads parser.now.def.now parser.now.params.now fields.now levels Part lexemes.now) }
+        (reads parser.now.def.now parser.now.params fields.now levels Part lexemes.now) }
     ensures shorter { IfOk result (λ x. length x.1.now < length lexemes.now) }
 {
     let is_quote = quote_comes(lexemes);
@@ -157,7 +158,7 @@ fn atom<'a>(
     lexemes: &'a [Lexeme],
 ) -> Read<'a, Option<Query>>
     ensures read { Gives (λ x. (option_to_list x.0, x.1.now)) result
-        (reads parser.now.def.now parser.now.params.now fields.now levels Atom lexemes.now) }
+        (reads parser.now.def.now parser.now.params fields.now levels Atom lexemes.now) }
     ensures shorter { IfOk result (λ x. length x.1.now < length lexemes.now) }
 {
     let [first, rest @ ..] = lexemes else {
@@ -185,8 +186,8 @@ fn group<'a>(
     lexemes: &'a [Lexeme],
 ) -> Read<'a, Option<Query>>
     ensures read { Gives (λ x. (option_to_list x.0, x.1.now)) result
-        (group_at parser.now.def.now parser.now.params.now
-        (deeper parser.now.def.now parser.now.params.now levels) fields.now at lexemes.now) }
+        (group_at parser.now.def.now parser.now.params
+        (deeper parser.now.def.now parser.now.params levels) fields.now at lexemes.now) }
     ensures within { IfOk result (λ x. length x.1.now ≤ length lexemes.now) }
 {
     if levels == 0 {
@@ -207,7 +208,7 @@ fn inside<'a>(
     lexemes: &'a [Lexeme],
 ) -> Read<'a, Option<Query>>
     ensures read { Gives (λ x. (option_to_list x.0, x.1.now)) result
-        (reads_inside parser.now.def.now parser.now.params.now fields.now levels lexemes.now) }
+        (reads_inside parser.now.def.now parser.now.params fields.now levels lexemes.now) }
     ensures within { IfOk result (λ x. length x.1.now ≤ length lexemes.now) }
 {
     let (sides, rest) = union(parser, fields, levels, lexemes)?;
@@ -223,8 +224,8 @@ fn field<'a>(
     lexemes: &'a [Lexeme],
 ) -> Read<'a, Option<Query>>
     ensures read { Gives (λ x. (option_to_list x.0, x.1.now)) result
-        (field_at parser.now.def.now parser.now.params.now
-        (deeper parser.now.def.now parser.now.params.now levels) at lexemes.now) }
+        (field_at parser.now.def.now parser.now.params
+        (deeper parser.now.def.now parser.now.params levels) at lexemes.now) }
     ensures within { IfOk result (λ x. length x.1.now ≤ length lexemes.now) }
 {
     if levels == 0 {
@@ -246,8 +247,8 @@ fn target<'a>(
     lexemes: &'a [Lexeme],
 ) -> Read<'a, Option<Query>>
     ensures read { Gives (λ x. (option_to_list x.0, x.1.now)) result
-        (target_with parser.now.def.now parser.now.params.now
-        (λ fields sort. reads parser.now.def.now parser.now.params.now fields levels sort)
+        (target_with parser.now.def.now parser.now.params
+        (λ fields sort. reads parser.now.def.now parser.now.params fields levels sort)
         numbers.items (next_sign lexemes.now) lexemes.now) }
     ensures within { IfOk result (λ x. length x.1.now ≤ length lexemes.now) }
 {
@@ -267,8 +268,8 @@ fn part_target<'a>(
     lexemes: &'a [Lexeme],
 ) -> Read<'a, Option<Query>>
     ensures read { Gives (λ x. (option_to_list x.0, x.1.now)) result
-        (part_target parser.now.def.now parser.now.params.now
-        (λ fields sort. reads parser.now.def.now parser.now.params.now fields levels sort)
+        (part_target parser.now.def.now parser.now.params
+        (λ fields sort. reads parser.now.def.now parser.now.params fields levels sort)
         numbers.items lexemes.now) }
     ensures within { IfOk result (λ x. length x.1.now ≤ length lexemes.now) }
 {

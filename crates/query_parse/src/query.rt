@@ -6,6 +6,7 @@ ghost use Rattle.query_grammar.specs.Reading.{answer_of, whole_at};
 ghost use Rattle.query_parse.specs.Answer.{IsRead, ParsedAs, lexical};
 ghost use Rattle.query_parse.specs.Gives.{Gives};
 
+use crate::params::Params;
 use crate::parser::{Parser, union};
 use crate::phrases::union_of;
 use crate::stop::Stop;
@@ -36,20 +37,33 @@ pub fn parse(
         Err(fault) => return Err(lexical(fault)),
     };
     reading_answers();
+    answer(
+        alloc,
+        def,
+        params.as_slice(),
+        text.len(),
+        lexemes.as_slice(),
+    )
+}
+
+/// The tree of the lexemes of a text of so many bytes, or the first fault. What the parser keeps has
+/// one lifetime.
+fn answer<'p>(
+    alloc: Global,
+    def: &'p IndexDef,
+    params: &'p [Param],
+    end: usize,
+    lexemes: &[Lexeme],
+) -> Result<Query, QueryFault>
+    requires { length def.now.fields ≤ 1_024 }
+    ensures { IsRead result (answer_of end (whole_at def.now params.now lexemes.now)) }
+{
     let parser = Parser {
         alloc,
         def,
-        params: params.as_slice(),
+        params: Params::new(alloc, params)?,
     };
-    answer(&parser, text.len(), lexemes.as_slice())
-}
-
-/// The tree of the lexemes of a text of so many bytes, or the first fault.
-fn answer(parser: &Parser<'_>, end: usize, lexemes: &[Lexeme]) -> Result<Query, QueryFault>
-    ensures { IsRead result
-        (answer_of end (whole_at parser.now.def.now parser.now.params.now lexemes.now)) }
-{
-    match whole(parser, lexemes) {
+    match whole(&parser, lexemes) {
         Ok(query) => Ok(query),
         Err(Stop::Broken(rest)) => Err(QueryFault::Syntax {
             at: place_of(end, rest),
@@ -74,7 +88,7 @@ fn lexical(fault: LexFault) -> QueryFault
 #[tactic(auto, unfolding(query_grammar::specs::Reading::whole_at))]
 fn whole<'a>(parser: &Parser<'_>, lexemes: &'a [Lexeme]) -> Result<Query, Stop<'a>>
     ensures { Gives (λ x. x) result
-        (whole_at parser.now.def.now parser.now.params.now lexemes.now) }
+        (whole_at parser.now.def.now parser.now.params lexemes.now) }
 {
     if lexemes.is_empty() {
         return Ok(Query::Empty);

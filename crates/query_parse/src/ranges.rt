@@ -9,12 +9,13 @@ ghost use Rattle.query_parse.specs.Gives.{Gives};
 ghost use Rattle.query_parse.specs.Seen.{edge_of, seen_bound};
 
 use crate::fields::{Needed, has_other};
+use crate::params::Params;
 use crate::parser::Parser;
 use crate::stop::{Read, Stop};
 use crate::tokens::{behind, next_sign, place_of};
 use crate::values::{fault_at, is_value, value_of};
 use field_text::number;
-use ft_base::{Param, Query, is_name};
+use ft_base::{Query, is_name};
 use query_grammar::QueryFault;
 use query_lex::{LexKind, Lexeme, Sign};
 
@@ -40,7 +41,7 @@ pub fn range_target<'a>(
     lexemes: &'a [Lexeme],
 ) -> Read<'a, Option<Query>>
     ensures read { Gives (λ x. (option_to_list x.0, x.1.now)) result
-        (range_target parser.now.def.now parser.now.params.now numbers.now lexemes.now) }
+        (range_target parser.now.def.now parser.now.params numbers.now lexemes.now) }
     ensures within { IfOk result (λ x. length x.1.now ≤ length lexemes.now) }
 {
     let [field] = numbers else {
@@ -59,14 +60,14 @@ pub fn range_target<'a>(
 #[tactic(auto, unfolding(query_grammar::specs::Reading::range_at))]
 fn range<'a>(parser: &Parser<'_>, field: u16, lexemes: &'a [Lexeme]) -> Read<'a, Option<Query>>
     ensures read { Gives (λ x. (option_to_list x.0, x.1.now)) result
-        (range_at parser.now.def.now parser.now.params.now field lexemes.now) }
+        (range_at parser.now.def.now parser.now.params field lexemes.now) }
     ensures within { IfOk result (λ x. length x.1.now ≤ length lexemes.now) }
 {
-    let (low, behind_low) = next_edge(parser.params, lexemes)?;
-    let (high, rest) = next_edge(parser.params, behind_low)?;
+    let (low, behind_low) = next_edge(&parser.params, lexemes)?;
+    let (high, rest) = next_edge(&parser.params, behind_low)?;
     match next_sign(rest) {
         Some(Sign::RangeClose) => {
-            let range = range_by(parser.params, field, &low, &high);
+            let range = range_by(&parser.params, field, &low, &high);
             Ok((Some(range), behind(rest)))
         }
         _ => Err(Stop::Broken(rest)),
@@ -74,7 +75,7 @@ fn range<'a>(parser: &Parser<'_>, field: u16, lexemes: &'a [Lexeme]) -> Read<'a,
 }
 
 /// An end of a range, with its parenthesis or without.
-fn next_edge<'a>(params: &[Param], lexemes: &'a [Lexeme]) -> Read<'a, Edge<'a>>
+fn next_edge<'a>(params: &Params<'_>, lexemes: &'a [Lexeme]) -> Read<'a, Edge<'a>>
     ensures read { (def : IndexDef)
         → Gives (λ x. (edge_of x.0, x.1.now)) result (edge_at def params.now lexemes.now) }
     ensures within { IfOk result (λ x. length x.1.now ≤ length lexemes.now) }
@@ -87,7 +88,7 @@ fn next_edge<'a>(params: &[Param], lexemes: &'a [Lexeme]) -> Read<'a, Edge<'a>>
 
 /// The value of an end.
 #[tactic(auto, unfolding(query_grammar::specs::Reading::value_at))]
-fn value<'a>(params: &[Param], excluded: bool, lexemes: &'a [Lexeme]) -> Read<'a, Edge<'a>>
+fn value<'a>(params: &Params<'_>, excluded: bool, lexemes: &'a [Lexeme]) -> Read<'a, Edge<'a>>
     ensures read { (def : IndexDef)
         → Gives (λ x. (edge_of x.0, x.1.now)) result
         (value_at def params.now excluded lexemes.now) }
@@ -106,7 +107,7 @@ fn value<'a>(params: &[Param], excluded: bool, lexemes: &'a [Lexeme]) -> Read<'a
 }
 
 /// Whether a lexeme may be an end of a range.
-fn is_edge(params: &[Param], kind: &LexKind) -> bool
+fn is_edge(params: &Params<'_>, kind: &LexKind) -> bool
     ensures { result ≡ is_edge params.now kind.now }
 {
     if !is_value(kind) {
@@ -134,7 +135,7 @@ fn bound_of(value: &[u8]) -> Option<Bound>
     }
 }
 
-fn edge_bound(params: &[Param], edge: &Edge<'_>) -> Option<Bound>
+fn edge_bound(params: &Params<'_>, edge: &Edge<'_>) -> Option<Bound>
     ensures { option_map seen_bound result ≡ edge_bound params.now (edge_of edge.now) }
 {
     match value_of(params, &edge.value.kind) {
@@ -144,7 +145,7 @@ fn edge_bound(params: &[Param], edge: &Edge<'_>) -> Option<Bound>
 }
 
 /// The range between two ends; no document where no number lies between them.
-fn range_by(params: &[Param], field: u16, low: &Edge<'_>, high: &Edge<'_>) -> Query
+fn range_by(params: &Params<'_>, field: u16, low: &Edge<'_>, high: &Edge<'_>) -> Query
     ensures { (def : IndexDef)
         → result ≡ range_by def params.now field (edge_of low.now) (edge_of high.now) }
 {

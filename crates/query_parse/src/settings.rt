@@ -4,12 +4,13 @@ ghost use Rattle.query_grammar.specs.Faults.{is_known};
 ghost use Rattle.query_grammar.specs.Grammar.{is_attribute};
 ghost use Rattle.query_grammar.specs.Values.{fits_attribute, flag_of, slop_of};
 
+use crate::params::Params;
 use crate::values::{is_value, value_of};
-use ft_base::{Param, is_name, is_weight, read_int};
+use ft_base::{is_name, is_weight, read_int};
 use query_lex::LexKind;
 
 /// Whether a lexeme may be the value of an attribute of this name.
-pub fn is_attribute(params: &[Param], name: &[u8], kind: &LexKind) -> bool
+pub fn is_attribute(params: &Params<'_>, name: &[u8], kind: &LexKind) -> bool
     ensures { result ≡ is_attribute params.now name.now kind.now }
 {
     if !is_value(kind) {

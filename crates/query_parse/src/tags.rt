@@ -9,7 +9,6 @@ use crate::fields::{Needed, has_other};
 use crate::parser::Parser;
 use crate::stop::{Read, Stop};
 use crate::tokens::{behind, place_of, tags_end};
-use crate::values::param_of;
 use ft_base::{Bytes, FieldKind, IndexDef, ListOf, NoMemory, Query, TagPart};
 use query_grammar::QueryFault;
 use query_lex::{LexKind, Lexeme};
@@ -22,7 +21,7 @@ pub fn tags_target<'a>(
     lexemes: &'a [Lexeme],
 ) -> Read<'a, Option<Query>>
     ensures read { Gives (λ x. (option_to_list x.0, x.1.now)) result
-        (tags_target parser.now.def.now parser.now.params.now numbers.now lexemes.now) }
+        (tags_target parser.now.def.now parser.now.params numbers.now lexemes.now) }
     ensures within { IfOk result (λ x. length x.1.now ≤ length lexemes.now) }
 {
     let [field] = numbers else {
@@ -61,7 +60,7 @@ fn has_case(def: &IndexDef, field: u16) -> bool
 /// The tags up to their closing brace.
 fn tags<'a>(parser: &Parser<'_>, case: bool, lexemes: &'a [Lexeme]) -> Read<'a, Vec<TagPart>>
     ensures read { Gives (λ x. (x.0.items, x.1.now)) result
-        (tags_at parser.now.def.now parser.now.params.now case [] lexemes.now) }
+        (tags_at parser.now.def.now parser.now.params case [] lexemes.now) }
     ensures shorter { IfOk result (λ x. length x.1.now < length lexemes.now) }
 {
     let mut parts = Vec::new(parser.alloc);
@@ -82,7 +81,7 @@ fn tags<'a>(parser: &Parser<'_>, case: bool, lexemes: &'a [Lexeme]) -> Read<'a, 
 /// The tag that comes next.
 fn tag<'a>(parser: &Parser<'_>, case: bool, lexemes: &'a [Lexeme]) -> Read<'a, TagPart>
     ensures read { Gives (λ x. (x.0, x.1.now)) result
-        (tag_at parser.now.params.now case lexemes.now) }
+        (tag_at parser.now.params case lexemes.now) }
     ensures shorter { IfOk result (λ x. length x.1.now < length lexemes.now) }
 {
     let [first, rest @ ..] = lexemes else {
@@ -99,7 +98,7 @@ fn tag<'a>(parser: &Parser<'_>, case: bool, lexemes: &'a [Lexeme]) -> Read<'a, T
                 rest,
             ))
         }
-        LexKind::Param(name) => match param_of(parser.params, name.as_slice()) {
+        LexKind::Param(name) => match parser.params.get(name.as_slice()) {
             Some(value) => {
                 let text = tag_text(parser.alloc, case, value)?;
                 Ok((

@@ -1,23 +1,11 @@
 //! What lexemes stand for as values, and the faults of those that have none.
 ghost use Rattle.std.specs.Prelude.{◌≡◌, option_map, option_to_list};
 ghost use Rattle.query_grammar.specs.Faults.{faults_at};
-ghost use Rattle.query_grammar.specs.Values.{is_value, param_of, value_of};
+ghost use Rattle.query_grammar.specs.Values.{is_value, value_of};
 
-use ft_base::Param;
+use crate::params::Params;
 use query_grammar::QueryFault;
 use query_lex::{LexKind, Lexeme};
-
-/// The value of a name, where the command gives it one.
-pub fn param_of<'v>(params: &'v [Param], name: &[u8]) -> Option<&'v [u8]>
-    ensures { option_map (λ v. v.now) result ≡ param_of params.now name.now }
-{
-    for param in params {
-        if name == param.name.as_slice() {
-            return Some(param.value.as_slice());
-        }
-    }
-    None
-}
 
 /// Whether a lexeme may stand for a value.
 pub fn is_value(kind: &LexKind) -> bool
@@ -27,23 +15,23 @@ pub fn is_value(kind: &LexKind) -> bool
 }
 
 /// What a lexeme stands for as a value.
-pub fn value_of<'v>(params: &'v [Param], kind: &'v LexKind) -> Option<&'v [u8]>
+pub fn value_of<'v>(params: &'v Params<'_>, kind: &'v LexKind) -> Option<&'v [u8]>
     ensures { option_map (λ v. v.now) result ≡ value_of params.now kind.now }
 {
     match kind {
         LexKind::Raw(text) => Some(text.as_slice()),
-        LexKind::Param(name) => param_of(params, name.as_slice()),
+        LexKind::Param(name) => params.get(name.as_slice()),
         _ => None,
     }
 }
 
 /// The fault of a lexeme that stands for a value, a tag or a part.
-pub fn fault_at(params: &[Param], lexeme: &Lexeme) -> Option<QueryFault>
+pub fn fault_at(params: &Params<'_>, lexeme: &Lexeme) -> Option<QueryFault>
     ensures { option_to_list result ≡ faults_at params.now lexeme.now }
 {
     match &lexeme.kind {
         LexKind::Param(name) | LexKind::ParamPrefix(name) => {
-            match param_of(params, name.as_slice()) {
+            match params.get(name.as_slice()) {
                 Some(_) => None,
                 None => Some(QueryFault::NoParam { at: lexeme.at }),
             }

@@ -1,5 +1,5 @@
 -- Whether some item of a list passes a test, also one that asks for the item's number.
-use Rattle.std.proofs.Common.{◌≡◌, ℕ, zero, suc, ◌<◌, ◌+◌, Bool, true, false, ◌&&◌, ◌||◌, eqb, List, [], ◌∷◌, map, filter, Option, Some, None, refl, sym, ap, ◌∙◌, inl, inr, arith}
+use Rattle.std.proofs.Common.{◌≡◌, ℕ, zero, suc, ◌<◌, ◌+◌, Bool, true, false, ◌&&◌, ◌||◌, eqb, List, [], ◌∷◌, filter, Option, Some, None, refl, sym, ap, ◌∙◌, inl, inr, arith}
 use Rattle.std.specs.List.{list_any, slice_get, filter_map, cons_option}
 use Rattle.query_plan.specs.Sought.{passes}
 use Rattle.std.proofs.lemmas.Bool.{cases_Bool, false≢true}
@@ -8,10 +8,6 @@ use Rattle.std.proofs.lemmas.Bool.Decides.{nat_tests}
 pub any_cong : {X : Type 0} (f g : X → Bool) (xs : List X) → ((x : X) → f x ≡ g x) → list_any f xs ≡ list_any g xs
 any_cong f g [] same = refl
 any_cong f g (x ∷ xs) same = ap (λ b. b || list_any f xs) (same x) ∙ ap (λ b. g x || b) (any_cong f g xs same)
-
-pub any_map : {X Y : Type 0} (f : Y → Bool) (g : X → Y) (xs : List X) → list_any f (map g xs) ≡ list_any (λ x. f (g x)) xs
-any_map f g [] = refl
-any_map f g (x ∷ xs) = ap (λ b. f (g x) || b) (any_map f g xs)
 
 pub any_none : {X : Type 0} (xs : List X) → list_any (λ x. false) xs ≡ false
 any_none [] = refl
@@ -39,15 +35,6 @@ any_filter f p (x ∷ xs) drops =
     elim (cases_Bool (p x)) [
       | inl y ↦ rw y (ap (λ b. f x || b) (any_filter f p xs drops))
       | inr n ↦ rw (n, drops x n) (any_filter f p xs drops)
-    ]
-
--- an item of a filter passes it
-pub any_filter_and : {X : Type 0} (f p : X → Bool) (xs : List X) → list_any f (filter p xs) ≡ list_any (λ x. p x && f x) xs
-any_filter_and f p [] = refl
-any_filter_and f p (x ∷ xs) =
-    elim (cases_Bool (p x)) [
-      | inl y ↦ rw y (ap (λ b. f x || b) (any_filter_and f p xs))
-      | inr n ↦ rw n (any_filter_and f p xs)
     ]
 
 -- what some item passes and what it asks for

@@ -8,6 +8,7 @@ use Rattle.std.proofs.lemmas.Bool.Decides.{nat_tests, eqb_tells}
 use Rattle.ft_base.specs.declared.doc.Doc.{Doc}
 use Rattle.ft_meaning.specs.Meaning.{ValuesFit}
 use Rattle.id_iters.specs.Entries.{has_entry, wanted}
+use Rattle.id_iters.proofs.EntryLaws.{has_at_low}
 use Rattle.index_lists.specs.Has.{alive}
 use Rattle.index_lists.specs.Lists.{has_id}
 use Rattle.inverted_list.specs.Listing.{RisesAbove, last_id}
@@ -177,35 +178,20 @@ module _ {P : Type 0} (of : Doc → Option P) where
             rw other (lookup_entries first.id doc docs rise.1 among)
       ]
 
-  module _ (wants : P → Bool) where
-    no_entry : (low id : ℕ) (docs : List Doc) → Rise low docs → id ≤ low → has_entry wants (all_entries docs) id ≡ false
-    no_entry low id [] rise below = refl
-    no_entry low id (doc ∷ docs) rise below =
-        elim (of doc) as (λ (o : Option P). has_entry wants (entry_of doc.id o ++ all_entries docs) id ≡ false) [
-          | None ↦ no_entry doc.id id docs rise.1 (omega (arith, below, rise.0))
-          | Some hit ↦
-              let other : eqb id doc.id ≡ false = grind (arith, nat_tests) in
-              rw other (no_entry doc.id id docs rise.1 (omega (arith, below, rise.0)))
-        ]
+  -- their ids rise
+  rises_lower : (low high : ℕ) (es : List (ℕ × P)) → low ≤ high → RisesAbove high es → RisesAbove low es
+  rises_lower low high [] under rises = tt
+  rises_lower low high (e ∷ es) under rises = (omega (arith, under, rises.0), rises.1)
 
-    pub has_entries : (low : ℕ) (doc : Doc) (docs : List Doc) → Rise low docs → IsIn doc docs
-        → has_entry wants (all_entries docs) doc.id ≡ wanted wants (of doc)
-    has_entries low doc [] rise among = absurd among
-    has_entries low doc (first ∷ docs) rise (inl same) =
-        subst (λ (d : Doc). has_entry wants (all_entries (first ∷ docs)) d.id ≡ wanted wants (of d)) (sym same) (here (of first))
-      where
-        here : (o : Option P) → has_entry wants (entry_of first.id o ++ all_entries docs) first.id ≡ wanted wants o
-        here None = no_entry first.id first.id docs rise.1 (omega arith)
-        here (Some hit) = rw (eqb_itself first.id, no_entry first.id first.id docs rise.1 (omega arith)) (or_false (wants hit))
-          where
-            or_false : (b : Bool) → (b || false) ≡ b
-            or_false true = refl
-            or_false false = refl
-    has_entries low doc (first ∷ docs) rise (inr among) =
-        elim (of first) as (λ (o : Option P). has_entry wants (entry_of first.id o ++ all_entries docs) doc.id ≡ wanted wants (of doc)) [
-          | None ↦ has_entries first.id doc docs rise.1 among
-          | Some hit ↦
-              let behind = above first.id doc docs rise.1 among in
-              let other : eqb doc.id first.id ≡ false = grind (arith, nat_tests, behind) in
-              rw other (has_entries first.id doc docs rise.1 among)
-        ]
+  entries_rise : (low : ℕ) (docs : List Doc) → Rise low docs → RisesAbove low (all_entries docs)
+  entries_rise low [] rise = tt
+  entries_rise low (doc ∷ docs) rise =
+      elim (of doc) as (λ (o : Option P). RisesAbove low (entry_of doc.id o ++ all_entries docs)) [
+        | None ↦ rises_lower low doc.id (all_entries docs) (omega (arith, rise.0)) (entries_rise doc.id docs rise.1)
+        | Some hit ↦ (rise.0, entries_rise doc.id docs rise.1)
+      ]
+
+  pub has_entries : (wants : P → Bool) (low : ℕ) (doc : Doc) (docs : List Doc) → Rise low docs → IsIn doc docs
+      → has_entry wants (all_entries docs) doc.id ≡ wanted wants (of doc)
+  has_entries wants low doc docs rise among =
+      has_at_low wants low doc.id (all_entries docs) (entries_rise low docs rise) ∙ ap (wanted wants) (lookup_entries low doc docs rise among)

@@ -11,6 +11,7 @@ use Rattle.ft_base.specs.declared.doc.Doc.{Doc}
 use Rattle.ft_base.specs.declared.query.Fields.{Fields}
 use Rattle.ft_base.specs.declared.query.Query.{Query}
 use Rattle.ft_base.specs.declared.query.TagPart.{TagPart}
+use Rattle.ft_base.proofs.AnyLaws.{any_map}
 use Rattle.ft_meaning.specs.Holds.{begins, has_of, holds, searched}
 use Rattle.ft_meaning.specs.Meaning.{ValuesFit, field_tokens}
 use Rattle.id_iters.specs.Entries.{counts_in, has_entry, lies_in, range_has, stand_together, tag_has, word_has}
@@ -26,7 +27,7 @@ use Rattle.tag_index.specs.Tags.{tags_of}
 use Rattle.query_plan.specs.Finds.{AreOf, finds}
 use Rattle.query_plan.specs.Plans.{IsIn, Tells}
 use Rattle.query_plan.specs.Sought.{all_sought, rows_from, words_with}
-use Rattle.query_plan.proofs.AnyLaws.{any_cong, any_map}
+use Rattle.query_plan.proofs.AnyLaws.{any_cong}
 use Rattle.query_plan.proofs.CodeLaws.{codes_rise, codes_apart}
 use Rattle.query_plan.proofs.EntryLaws as entry
 use Rattle.query_plan.proofs.FieldLaws.{phrase_in, word_in}

@@ -14,6 +14,7 @@ use Rattle.ft_base.specs.declared.query.Query.TheFolds.{fold-roll-Query}
 use Rattle.ft_base.specs.declared.query.Query.TheOpen as layer
 use Rattle.ft_base.specs.declared.query.Query.TheVariants as query
 use Rattle.ft_base.specs.declared.query.TagPart.{TagPart}
+use Rattle.ft_base.proofs.AnyLaws.{any_filter_and, any_map}
 use Rattle.ft_meaning.specs.Holds.{Has, has_of, has_phrase, holds, holds_by, holds_step, named, searched}
 use Rattle.ft_meaning.specs.Meaning.{field_tokens, has_words}
 use Rattle.id_iters.specs.Entries.{codes_at, phrase_has, stand_together}
@@ -30,7 +31,7 @@ use Rattle.tag_index.specs.Tags.{tags_of}
 use Rattle.query_plan.specs.Plans.{AllReady, AllTell, Joins, Tells, ids_of, some_has}
 use Rattle.query_plan.specs.Sought.{all_sought, rows_from, words_with}
 use Rattle.query_plan.specs.declared.size.Planned.{Planned}
-use Rattle.query_plan.proofs.AnyLaws.{any_cong, any_filter_and, any_map}
+use Rattle.query_plan.proofs.AnyLaws.{any_cong}
 use Rattle.query_plan.proofs.MeetLaws.{no_range_meets, phrase_meets, prefix_meets, range_meets, tags_meet, word_meets}
 use Rattle.query_plan.proofs.NameLaws.{range_name}
 

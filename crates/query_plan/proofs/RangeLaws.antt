@@ -12,6 +12,7 @@ use Rattle.ft_base.specs.declared.definition.FieldKind.{FieldKind}
 use Rattle.ft_base.specs.declared.definition.FieldKind.TheVariants as kinds
 use Rattle.ft_base.specs.declared.doc.Doc.{Doc}
 use Rattle.ft_base.specs.Hash.{get_field}
+use Rattle.ft_base.proofs.AnyLaws.{any_filter_and}
 use Rattle.ft_meaning.specs.Holds.{field_number, has_number, is_between, value_number}
 use Rattle.id_iters.specs.Entries.{lies_in, range_has, wanted}
 use Rattle.id_iters.specs.Held.{entries_of}
@@ -24,7 +25,7 @@ use Rattle.numeric_ranges.proofs.ReachLaws.{list_here}
 use Rattle.numeric_ranges.proofs.ValueLaws.{le_from_not_lt, lt_from_le, le_trans}
 use Rattle.posting_block.specs.declared.hits.NumHit.{NumHit}
 use Rattle.query_plan.specs.Sought.{rows_from}
-use Rattle.query_plan.proofs.AnyLaws.{any_cong, any_filter_and, any_none, any_or, or_and}
+use Rattle.query_plan.proofs.AnyLaws.{any_cong, any_none, any_or, or_and}
 use Rattle.query_plan.proofs.WordLaws.{num_hit}
 
 -- ---- the number of a document

@@ -5,6 +5,7 @@ use Rattle.std.specs.List.Sorted.{IsPermutation}
 use Rattle.std.proofs.lemmas.List.Folds.{list_any-append}
 use Rattle.std.proofs.lemmas.List.Sorted.{All-permutation, IsPermutation-sym}
 use Rattle.std.proofs.lemmas.List.Sums.{AllPass-from_list_all, list_all-from_AllPass}
+use Rattle.ft_base.proofs.AnyLaws.{any_map}
 use Rattle.id_iters.specs.Held.{Held}
 use Rattle.id_iters.specs.Ready.{AheadReady, Ready}
 use Rattle.id_iters.specs.Sets.{About, about, about_ahead, all_have, any_has}
@@ -12,7 +13,6 @@ use Rattle.id_iters.specs.declared.iter.Ahead.{Ahead}
 use Rattle.id_iters.specs.declared.iter.Iter.{Iter}
 use Rattle.query_plan.specs.Plans.{AllReady, Joins, ids_of}
 use Rattle.query_plan.specs.declared.size.Planned.{Planned}
-use Rattle.query_plan.proofs.AnyLaws.{any_map}
 use Rattle.query_plan.proofs.PrefixLaws.{both_ways}
 
 -- ---- a fact of each item

@@ -7,8 +7,9 @@ use Rattle.std.proofs.lemmas.List.Elements.{All-push, All-same}
 use Rattle.ft_base.specs.declared.words.Span.{Span}
 use Rattle.ft_base.specs.Words.{LieIn}
 use Rattle.ft_base.specs.Reply.{line}
+use Rattle.ft_base.specs.Reading.{◌>>=◌}
 use Rattle.resp_wire.specs.declared.fault.Stop.{Stop}
-use Rattle.resp_wire.specs.Wire.{Read, ◌>>=◌, word_at, words_at, count_at}
+use Rattle.resp_wire.specs.Wire.{Read, word_at, words_at, count_at}
 use Rattle.resp_wire.proofs.TakesLaws.{word_takes, word_roomy, count_takes}
 
 -- the bytes are what stands before the word, the word, its line's end and the rest

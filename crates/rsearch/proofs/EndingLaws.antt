@@ -9,8 +9,8 @@ use Rattle.fs_ports.proofs.MomentLaws.{Gives-nil}
 use Rattle.ft_base.specs.Words.{KeepsLimits, is_quit}
 use Rattle.fs_ports.specs.Causes.{Rose, WritesFront}
 use Rattle.fs_ports.specs.Moments.{Gives}
-use Rattle.ft_engine.specs.History.{Entry, Exec, replies_of, words_of, moment_of}
-use Rattle.ft_engine.specs.Machine.{empty_state}
+use Rattle.ft_machine.specs.History.{Entry, Exec, replies_of, words_of, moment_of}
+use Rattle.ft_machine.specs.Machine.{empty_state}
 use Rattle.ft_engine.specs.Stands.{Stands}
 use Rattle.resp_wire.specs.Decoding.{Decoding, fed, StopsAt, NextIsLong}
 use Rattle.resp_wire.specs.declared.fault.Stop.TheVariants.{More}
@@ -19,7 +19,7 @@ use Rattle.rsearch.specs.Answer.{Answer}
 use Rattle.rsearch.specs.Ends.{IsAll, EndsWith, IsFaulty, Ends}
 use Rattle.rsearch.specs.FaultText.{fault_text}
 use Rattle.rsearch.specs.Reading.{NoMore}
-use Rattle.rsearch.specs.Session.{Outside, IsOpen, WantsMore, Served, quits}
+use Rattle.rsearch.specs.Session.{AllAnswered, Outside, IsOpen, WantsMore, Served, quits}
 use Rattle.rsearch.specs.declared.connection.End.{End}
 use Rattle.rsearch.specs.declared.connection.End.TheVariants as end
 use Rattle.rsearch.proofs.QuitLaws.{quits_behind, due_behind, long_is_due}
@@ -67,6 +67,15 @@ is_open : (held : Decoding) (engine : Stands) (before now : Outside) (going : Go
 is_open held engine before now going more = record {
   no_quit = quits_split held engine before now going ∙ ap (λ (s : Stream). quits s.commands) more;
   no_fault = fault_split held engine before now going ∙ ap (λ (s : Stream). fault_from (fed held) s.stop) more;
+}
+
+-- more may be read
+pub all_answered : (held : Decoding) (engine : Stands) (before now : Outside) (total : ℕ) → Going held engine before now → stream_of held.left ≡ ended More held.left → total ≡ fed held → total < 2 ^ 40
+    → AllAnswered before now
+all_answered held engine before now total going more fed_is few = record {
+  input = going.input;
+  wants = record { is_open = is_open held engine before now going more; few = omega (arith, few, fed_is, going.fed_is) };
+  served = served_now held engine before now [] going (ap (λ (s : Stream). until_quit s.commands) more);
 }
 
 -- the connection ends where no more is read

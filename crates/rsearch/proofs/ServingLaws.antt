@@ -8,8 +8,8 @@ use Rattle.std.specs.Io.KnownBytes.{Appends, Consumes, Keeps}
 use Rattle.std.proofs.KnownBytes.{Appends-trans, Appends-nil, Appends-kept, Consumes-nil, Consumes-trans, Consumes-kept}
 use Rattle.ft_base.specs.Words.{KeepsLimits, is_quit}
 use Rattle.fs_ports.specs.Moments.{Gives}
-use Rattle.ft_engine.specs.History.{Entry, Exec, IsLegal, replies_of, words_of, moment_of, caller_of}
-use Rattle.ft_engine.specs.Machine.{empty_state}
+use Rattle.ft_machine.specs.History.{Entry, Exec, IsLegal, replies_of, words_of, moment_of, caller_of}
+use Rattle.ft_machine.specs.Machine.{empty_state}
 use Rattle.ft_engine.specs.Stands.{Stands, opened}
 use Rattle.resp_wire.specs.Decoding.{Decoding, fed}
 use Rattle.resp_wire.specs.declared.fault.Stop.TheVariants.{More}
@@ -19,7 +19,7 @@ use Rattle.rsearch.specs.Answer.{Answer}
 use Rattle.rsearch.specs.Reading.{Further}
 use Rattle.rsearch.specs.Session.{Answered, Outside, quits}
 use Rattle.rsearch.proofs.QuitLaws.{quits_behind}
-use Rattle.ft_engine.proofs.HistoryLaws.{IsLegal-push, replies_of-push}
+use Rattle.ft_machine.proofs.HistoryLaws.{IsLegal-push, replies_of-push}
 use Rattle.fs_ports.proofs.MomentLaws.{Gives-nil, Gives-trans}
 
 -- a stream whose first commands were taken

@@ -7,8 +7,8 @@ use Rattle.ft_base.specs.Words.{is_quit}
 use Rattle.fs_ports.specs.declared.clock.Clock as Clock
 use Rattle.fs_ports.specs.declared.link.Link as Link
 use Rattle.fs_ports.specs.Moments.{Gives}
-use Rattle.ft_engine.specs.Machine.{State}
-use Rattle.ft_engine.specs.History.{Entry, IsLegal, replies_of, reply_of, words_of, moment_of, caller_of}
+use Rattle.ft_machine.specs.Machine.{State}
+use Rattle.ft_machine.specs.History.{Entry, IsLegal, replies_of, reply_of, words_of, moment_of, caller_of}
 use Rattle.resp_wire.specs.Stream.{Command, stream_of, fault_of, due}
 
 -- whether a QUIT is among the commands
@@ -59,6 +59,13 @@ pub record Served (input : List ℕ) (others : List Command) (text : List ℕ) (
   pub due_are : due input ≡ map words_of entries ++ others
   pub answered : Answered entries before.given after.given
   pub written : Appends before.written after.written (replies_of entries ++ text)
+
+-- More may be read: what was read leaves the connection open, and each command that it spells whole was answered and its
+-- reply written.
+pub record AllAnswered (before after : Outside) : Type 0 where
+  pub input : List ℕ
+  pub wants : WantsMore input
+  pub served : Served input [] [] before after
 
 -- the first bytes of a piece, but not all of it
 pub record IsCut (front piece : List ℕ) : Type 0 where

@@ -7,7 +7,7 @@ ghost use Rattle.fs_ports.specs.Causes.{HasCause, WritesFront};
 ghost use Rattle.ft_engine.specs.Stands.{opened};
 ghost use Rattle.rsearch.specs.Answer.{Answer};
 ghost use Rattle.rsearch.specs.Ends.{Ends};
-ghost use Rattle.rsearch.specs.Session.{told};
+ghost use Rattle.rsearch.specs.Session.{AllAnswered, told};
 
 use crate::fault_text::write_fault;
 use crate::input::read_more;
@@ -55,6 +55,9 @@ struct Room {
 
 /// Serves a link with a new engine until it ends. All its room is taken first.
 pub fn serve_connection<L: Link, C: Clock>(alloc: Global, link: &mut L, clock: &mut C) -> End
+    // The link is read only where all that came whole was answered.
+    requires prompt { (now : L) (moment : C) → AllAnswered
+        (told L.Link C.Clock link.old clock.old) (told L.Link C.Clock now moment) → L.readable now }
     ensures { Ends result
         (told L.Link C.Clock link.old clock.old) (told L.Link C.Clock link.new clock.new) }
 {
@@ -87,6 +90,9 @@ fn serve<L: Link, C: Clock>(room: Room, link: &mut L, clock: &mut C) -> End
         ≡ record { taken = 0; left = []; words = []; spare = 65_536 } }
     requires input { 0 < length room.input.items }
     requires reply { 64 ≤ vec_capacity room.reply }
+    // The link is read only where all that came whole was answered.
+    requires prompt { (now : L) (moment : C) → AllAnswered
+        (told L.Link C.Clock link.old clock.old) (told L.Link C.Clock now moment) → L.readable now }
     ensures { Ends result
         (told L.Link C.Clock link.old clock.old) (told L.Link C.Clock link.new clock.new) }
 {

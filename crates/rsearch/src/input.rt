@@ -26,6 +26,7 @@ pub fn read_more<L: Link>(
     requires fed { fed decoder.old ≡ total }
     // No command is whole, so all that came before was answered.
     requires taken { stream_of decoder.old.left ≡ ended More decoder.old.left }
+    requires turn { total < 2 ^ 40 → L.readable link.old }
     ensures further { Further decoder.old decoder.new (L.left link.old) (L.left link.new) }
     ensures count { IfOk result (λ n. (0 < n) × (total + n ≤ 2 ^ 40)
         × (length decoder.new.left ≡ length decoder.old.left + n)) }

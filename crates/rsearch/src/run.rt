@@ -2,7 +2,7 @@
 ghost use Rattle.std.specs.Prelude.{◌≡◌, ◌↔◌};
 ghost use Rattle.rsearch.specs.Ends.{Ended};
 ghost use Rattle.rsearch.specs.Script.{IsScript};
-ghost use Rattle.rsearch.specs.Session.{told};
+ghost use Rattle.rsearch.specs.Session.{AllAnswered, told};
 
 use crate::connection::serve_connection;
 use crate::exit::Exit;
@@ -12,6 +12,10 @@ use std::alloc::Global;
 
 /// Does what the words of the command line ask for.
 pub fn run<L: Link, C: Clock>(alloc: Global, words: &[String], link: &mut L, clock: &mut C) -> Exit
+    // The link is read only where all that came whole was answered.
+    requires prompt { (now : L) (moment : C) → AllAnswered
+        (told L.Link C.Clock link.old clock.old) (told L.Link C.Clock now moment) → L.readable now }
+
     // What was read, answered and written, by how the run ended.
     ensures ends { Ended result
         (told L.Link C.Clock link.old clock.old) (told L.Link C.Clock link.new clock.new) }

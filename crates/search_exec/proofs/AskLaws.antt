@@ -5,7 +5,7 @@ use Rattle.std.specs.List.{AllByRecursion}
 use Rattle.std.specs.List.Sorted.{IsStrictlyIncreasing, IsStrictlySortedBy}
 use Rattle.std.specs.Ordering.{nat_cmp}
 use Rattle.std.specs.declared.cmp.Ordering.TheVariants.{Less}
-use Rattle.std.proofs.lemmas.Bool.{cases_Bool, false≢true}
+use Rattle.std.proofs.lemmas.Bool.{cases_Bool, false≢true, and_parts, and_right, eqb-true, leb-true, le-leb, lt-leb}
 use Rattle.std.proofs.lemmas.Bool.Decides.{nat_tests}
 use Rattle.std.proofs.lemmas.Map.Keys.{sorted_from_strictly_increasing, sorted_head, sorted_tail}
 use Rattle.ft_base.specs.declared.doc.Doc.{Doc}
@@ -30,27 +30,11 @@ pub record IsAsked (has : ℕ → Bool) (docs : List Doc) (from : ℕ) (page : P
   pub shows : Shows so_far page
   pub whole : docs_in has docs ≡ so_far ++ docs_from from has docs
 
-le-yes : (a b : ℕ) → a ≤ b → nat_le a b ≡ true
-le-yes a b h = grind (arith, nat_tests)
-
-le-no : (a b : ℕ) → b < a → nat_le a b ≡ false
-le-no a b h = grind (arith, nat_tests)
-
-le-is : (a b : ℕ) → nat_le a b ≡ true → a ≤ b
-le-is a b h = grind (arith, nat_tests)
-
-eq-is : (a b : ℕ) → nat_eq a b ≡ true → a ≡ b
-eq-is a b h = grind (arith, nat_tests)
-
-no-second : (a b : Bool) → b ≡ false → (a && b) ≡ false
-no-second true b fails = fails
-no-second false b fails = refl
-
 -- a document is passed over where its id fails wherever it is asked for
 missed : (from id : ℕ) (has : ℕ → Bool) → (from ≤ id → has id ≡ false) → (nat_le from id && has id) ≡ false
 missed from id has fails =
     elim (cases_Bool (nat_le from id)) [
-      | inl here ↦ no-second (nat_le from id) (has id) (fails (le-is from id here))
+      | inl here ↦ and_right (nat_le from id) (has id) (fails (leb-true from id here))
       | inr away ↦ rw away refl
     ]
 
@@ -60,7 +44,7 @@ same-above from to low has [] under below less = refl
 same-above from to low has (doc ∷ docs) under below less =
     let first : nat_cmp low doc.id ≡ Less = less.0 in
     let over : low < doc.id = grind (arith, nat_tests) in
-    rw (le-yes from doc.id (omega (arith, over)), le-yes to doc.id (omega (arith, over)), same-above from to low has docs under below less.1) refl
+    rw (le-leb from doc.id (omega (arith, over)), le-leb to doc.id (omega (arith, over)), same-above from to low has docs under below less.1) refl
 
 -- a document that is found has an id above
 at-above : (low n : ℕ) (docs : List Doc) (doc : Doc) → AllByRecursion (λ id. nat_cmp low id ≡ Less) (ids docs) → doc_at n docs ≡ Some doc → low < n
@@ -70,7 +54,7 @@ at-above low n (d ∷ docs) doc less found =
       | inl here ↦
           let first : nat_cmp low d.id ≡ Less = less.0 in
           let over : low < d.id = grind (arith, nat_tests) in
-          omega (arith, over, eq-is n d.id here)
+          omega (arith, over, eqb-true n d.id here)
       | inr away ↦ at-above low n docs doc less.1 (rw away at found)
     ]
 
@@ -83,20 +67,20 @@ next from n has (d ∷ docs) doc rise found least =
       | inl here ↦
           let said : ◌≡◌ {A = Option Doc} (Some d) (Some doc) = rw here at found in
           let same : d ≡ doc = cc (said) in
-          let id : n ≡ d.id = eq-is n d.id here in
+          let id : n ≡ d.id = eqb-true n d.id here in
           let has_it : has d.id ≡ true = ap has (sym id) ∙ least.passes in
           let first : docs_from from has (d ∷ docs) ≡ d ∷ docs_from (n + 1) has (d ∷ docs) =
           rw (
-            le-yes from d.id (omega (arith, id, least.reached)),
+            le-leb from d.id (omega (arith, id, least.reached)),
             has_it,
-            le-no (n + 1) d.id (omega (arith, id)),
+            lt-leb (n + 1) d.id (omega (arith, id)),
             same-above from (n + 1) d.id has docs (omega (arith, id, least.reached)) (omega (arith, id)) above,
           ) refl in
           first ∙ ap (λ (x : Doc). x ∷ docs_from (n + 1) has (d ∷ docs)) same
       | inr away ↦
           let later : doc_at n docs ≡ Some doc = rw away at found in
           let under : d.id < n = at-above d.id n docs doc above later in
-          rw (missed from d.id has (λ reached. least.below.fails d.id reached under), le-no (n + 1) d.id (omega (arith, under)))
+          rw (missed from d.id has (λ reached. least.below.fails d.id reached under), lt-leb (n + 1) d.id (omega (arith, under)))
           (next from n has docs doc (sorted_tail nat_cmp d.id (ids docs) rise) later least)
     ]
 
@@ -122,11 +106,7 @@ asked-next has docs from n old new rise least stored noted asked = pick (doc_at 
 
 -- an id that an iterator has live is live
 pub live-first : (held : Held) (iter : Iter) (id : ℕ) → in_set held iter id ≡ true → held.live id ≡ true
-live-first held iter id has_it = first (held.live id) ((about held iter).has id) has_it
-  where
-    first : (a b : Bool) → (a && b) ≡ true → a ≡ true
-    first true b both = refl
-    first false b both = both
+live-first held iter id has_it = (and_parts (held.live id) ((about held iter).has id) has_it).0
 
 -- an answer of an iterator that was asked is one of the iterator that it was
 answer-same : (held : Held) (first iter : Iter) (from : ℕ) (said answer : Option ℕ) → about held iter ≡ about held first → said ≡ answer → IsLeast (in_set held iter) from said

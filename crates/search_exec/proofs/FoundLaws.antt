@@ -8,7 +8,7 @@ use Rattle.std.specs.Map.{lookup}
 use Rattle.std.specs.Option.{option_map}
 use Rattle.std.specs.Ordering.{nat_cmp}
 use Rattle.std.specs.declared.cmp.Ordering.TheVariants.{Less}
-use Rattle.std.proofs.lemmas.Bool.{cases_Bool, false≢true}
+use Rattle.std.proofs.lemmas.Bool.{cases_Bool, false≢true, eqb-true, eq-eqb}
 use Rattle.std.proofs.lemmas.Bool.Decides.{nat_tests}
 use Rattle.std.proofs.lemmas.Map.Keys.{sorted_from_strictly_increasing, sorted_head, sorted_tail}
 use Rattle.ft_base.specs.declared.definition.IndexDef.{IndexDef}
@@ -33,17 +33,11 @@ has_doc docs id = list_any (λ (doc : Doc). nat_eq id doc.id) docs
 abbrev rows_of : List Doc → List (ℕ × List ℕ)
 rows_of docs = map (λ (doc : Doc). (doc.id, doc.key)) docs
 
-eq-yes : (a b : ℕ) → a ≡ b → nat_eq a b ≡ true
-eq-yes a b h = grind (arith, nat_tests)
-
 eq-no : (a b : ℕ) → a < b → nat_eq a b ≡ false
 eq-no a b h = grind (arith, nat_tests)
 
 eq-past : (a b : ℕ) → b < a → nat_eq a b ≡ false
 eq-past a b h = grind (arith, nat_tests)
-
-eq-is : (a b : ℕ) → nat_eq a b ≡ true → a ≡ b
-eq-is a b h = grind (arith, nat_tests)
 
 -- a document has an id and passes a test: one of those that pass has the id
 any-filter : (test keep : Doc → Bool) (docs : List Doc) → list_any (λ (doc : Doc). test doc && keep doc) docs ≡ list_any test (filter keep docs)
@@ -84,7 +78,7 @@ none-above low id keep (doc ∷ docs) same less =
 own : (keep : Doc → Bool) (doc : Doc) (docs : List Doc) → IsStrictlySortedBy nat_cmp (ids (doc ∷ docs)) → has_doc (filter keep (doc ∷ docs)) doc.id ≡ keep doc
 own keep doc docs rise =
     elim (cases_Bool (keep doc)) [
-      | inl kept ↦ rw (kept, eq-yes doc.id doc.id refl) refl
+      | inl kept ↦ rw (kept, eq-eqb doc.id doc.id refl) refl
       | inr out ↦ rw out (none-above doc.id doc.id keep docs refl (sorted_head nat_cmp doc.id (ids docs) rise))
     ]
 
@@ -160,7 +154,7 @@ key-of keep (doc ∷ docs) id rise some =
           elim (cases_Bool (keep doc)) [
             | inl kept ↦ rw (kept, here) refl
             | inr out ↦
-                let gone : lookup (nat_eq id) (rows_of (filter keep docs)) ≡ None = no-row doc.id id keep docs (eq-is id doc.id here) (sorted_head nat_cmp doc.id (ids docs) rise) in
+                let gone : lookup (nat_eq id) (rows_of (filter keep docs)) ≡ None = no-row doc.id id keep docs (eqb-true id doc.id here) (sorted_head nat_cmp doc.id (ids docs) rise) in
                 let left : IsSome (lookup (nat_eq id) (rows_of (filter keep docs))) = rw out at some in
                 absurd (false≢true (subst (λ (row : Option (List ℕ)). IsSome row) gone left))
           ]

@@ -3,7 +3,6 @@
 ghost use Rattle.std.specs.Prelude.{◌<◌, ◌≤◌, ◌+◌, length, IsTrue};
 ghost use Rattle.ft_meaning.specs.Meaning.{ValuesFit};
 
-use crate::refusals::put_query_refusal;
 use crate::tests::{Session, ask_parted, begin, is_small, spans_of};
 use cmd_parse::{Command, read_command};
 use field_text::tags;
@@ -12,6 +11,7 @@ use ft_meaning::member;
 use ft_schema::extend;
 use query_match::matches;
 use query_parse::{QueryFault, parse};
+use reply_buffer::put_query_refusal;
 use std::alloc::Global;
 use std::collections::BTreeSet;
 use std::test::Fail;

@@ -20,7 +20,7 @@ fn shown(alloc: Global, reply: &[u8]) -> Result<Vec<u8>, NoMemory> {
 
 /// Asks line after line, whose words have one `/` between each two, and answers the first that is answered
 /// otherwise.
-fn differs(alloc: Global, rows: &[(&str, &str)]) -> Result<String, NoMemory> {
+pub fn differs(alloc: Global, rows: &[(&str, &str)]) -> Result<String, NoMemory> {
     let mut session = begin(alloc)?;
     for (line, want) in rows {
         let said = said_to(alloc, &mut session, line.as_bytes())?;
@@ -32,7 +32,7 @@ fn differs(alloc: Global, rows: &[(&str, &str)]) -> Result<String, NoMemory> {
     Ok(String::new(alloc))
 }
 
-fn said_to(alloc: Global, session: &mut Session, line: &[u8]) -> Result<Vec<u8>, NoMemory> {
+pub fn said_to(alloc: Global, session: &mut Session, line: &[u8]) -> Result<Vec<u8>, NoMemory> {
     let reply = ask_parted(alloc, session, line, b'/')?;
     shown(alloc, reply.as_slice())
 }

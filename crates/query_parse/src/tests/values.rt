@@ -1,5 +1,7 @@
-//! Ranges and tags.
-use super::compare;
+//! Ranges and tags, and many parameters.
+use super::{answer, compare, index};
+use ft_base::{Bytes, ListOf, NoMemory, Param, put_int};
+use std::alloc::Global;
 use std::test::Fail;
 
 #[test]
@@ -115,5 +117,41 @@ fn tags(rt: HostRuntime) -> Result<(), Fail> {
             ("a}", "Syntax 1"),
         ],
     )?;
+    Ok(())
+}
+
+/// A mark and a number.
+fn marked(alloc: Global, mark: u8, number: i64) -> Result<Bytes, NoMemory> {
+    let mut text = Vec::new(alloc);
+    text.push(mark)?;
+    put_int(&mut text, number)?;
+    Ok(Bytes::from_vec(text))
+}
+
+/// Parameters whose names come twice each: the first of a name has its value.
+fn many(alloc: Global) -> Result<ListOf<Param>, NoMemory> {
+    let mut params = Vec::new(alloc);
+    for number in 0..3_000 {
+        params.push(Param {
+            name: marked(alloc, b'p', number % 1_500)?,
+            value: marked(alloc, b'v', number)?,
+        })?;
+    }
+    Ok(ListOf::from_vec(params))
+}
+
+#[test]
+fn many_parameters(rt: HostRuntime) -> Result<(), Fail> {
+    let alloc = rt.alloc();
+    let def = index(alloc)?;
+    let params = many(alloc)?;
+    for (text, want) in [
+        ("$p0 $p9 $p700 $p1499", "(and v0 v9 v700 v1499)"),
+        ("$p1500", "NoParam 0"),
+        ("$p1 $p", "NoParam 4"),
+    ] {
+        let found = answer(alloc, text.as_bytes(), &def, &params)?;
+        assert_eq!(rt; found.as_slice(), want.as_bytes(), "at {text}");
+    }
     Ok(())
 }

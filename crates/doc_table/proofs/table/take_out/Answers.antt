@@ -1,5 +1,5 @@
 use Rattle.std.proofs.Common.{◌∙◌}
-use Rattle.doc_table.proofs.RowsLaws.{remove_entry-at}
+use Rattle.ft_base.proofs.RowsLaws.{remove_entry-at}
 use Rattle.doc_table.proofs.table.take_out.Goals as goal
 
 pub returns-in-Some : goal.returns-in-Some

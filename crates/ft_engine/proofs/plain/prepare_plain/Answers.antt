@@ -1,8 +1,8 @@
 use Rattle.std.proofs.Common.{refl}
 use Rattle.cmd_parse.specs.declared.command.Verb.TheVariants.{Del, DropIndex, Flushall, ListIndexes, TagVals}
-use Rattle.ft_engine.specs.Stands.{state_of}
-use Rattle.ft_engine.proofs.IndexCommandLaws.{ids-above, list-told}
-use Rattle.ft_engine.proofs.PlainLaws.{of_verb}
+use Rattle.engine_changes.specs.States.{state_of}
+use Rattle.index_commands.proofs.IndexCommandLaws.{ids-above, list-told}
+use Rattle.hash_commands.proofs.PlainLaws.{of_verb}
 use Rattle.indexed_store.proofs.StepLaws.{in_step-later, in_step-read}
 use Rattle.ft_engine.proofs.plain.prepare_plain.Goals as goal
 

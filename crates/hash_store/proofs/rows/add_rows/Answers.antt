@@ -2,7 +2,7 @@ use Rattle.std.proofs.Common.{◌≡◌, ◌∙◌, ap, subst, Some, IfSome, nat
 use Rattle.std.specs.Map.{lookup, remove_entry}
 use Rattle.ft_base.specs.declared.doc.Doc.{Doc}
 use Rattle.hash_store.specs.Keys.{id_at, SetsRow}
-use Rattle.hash_store.proofs.RowsLaws.{insert_entry-last, remove_entry-last, remove_entry-at, lookup-last}
+use Rattle.ft_base.proofs.RowsLaws.{insert_entry-last, remove_entry-last, remove_entry-at, lookup-last}
 use Rattle.hash_store.proofs.rows.add_rows.Goals as goal
 
 pub returns-in-Err-clause-err_docs : goal.returns-in-Err-clause-err_docs

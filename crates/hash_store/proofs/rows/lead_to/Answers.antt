@@ -2,7 +2,7 @@ use Rattle.std.proofs.Common.{◌≡◌, ◌∙◌, sym, subst, Some, IsSome, If
 use Rattle.std.specs.Map.{lookup}
 use Rattle.ft_base.specs.declared.doc.Doc.{Doc}
 use Rattle.hash_store.specs.Keys.{row_at}
-use Rattle.hash_store.proofs.RowsLaws.{lookup-at}
+use Rattle.ft_base.proofs.RowsLaws.{lookup-at}
 use Rattle.hash_store.proofs.rows.lead_to.Goals as goal
 
 pub set_id-requires : goal.set_id-requires

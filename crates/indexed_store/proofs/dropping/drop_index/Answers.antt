@@ -1,6 +1,6 @@
 use Rattle.std.proofs.Common.{◌∙◌, ap, arith}
 use Rattle.std.specs.Prelude.{length}
-use Rattle.indexed_store.specs.Definitions.{definitions_of}
+use Rattle.indexed_store.specs.DefinitionsOf.{definitions_of}
 use Rattle.indexed_store.proofs.DroppingLaws.{in_step-others}
 use Rattle.indexed_store.proofs.NamedLaws.{others-defined, others-fewer}
 use Rattle.indexed_store.proofs.dropping.drop_index.Goals as goal

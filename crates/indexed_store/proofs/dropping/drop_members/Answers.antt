@@ -3,7 +3,7 @@ use Rattle.std.proofs.Common.{◌∙◌, ap, sym, subst, arith}
 use Rattle.std.proofs.lemmas.List.{take_at}
 use Rattle.ft_index.specs.Index.{Index}
 use Rattle.std.specs.Prelude.{List}
-use Rattle.indexed_store.specs.Definitions.{definitions_of}
+use Rattle.indexed_store.specs.DefinitionsOf.{definitions_of}
 use Rattle.indexed_store.specs.Standing.{InStep}
 use Rattle.indexed_store.proofs.DroppingLaws.{in_step-others, members-removed, no-members}
 use Rattle.indexed_store.proofs.NamedLaws.{others-defined, others-fewer}

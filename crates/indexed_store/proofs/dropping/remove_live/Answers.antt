@@ -4,7 +4,7 @@ use Rattle.std.proofs.Common.{◌∙◌, ap, sym, subst}
 use Rattle.doc_table.specs.Table.{Table}
 use Rattle.ft_index.specs.Index.{Index}
 use Rattle.hash_store.specs.Store.{Store}
-use Rattle.indexed_store.specs.Definitions.{definitions_of}
+use Rattle.indexed_store.specs.DefinitionsOf.{definitions_of}
 use Rattle.indexed_store.specs.Standing.{InStep}
 use Rattle.indexed_store.proofs.DroppingLaws.{row-fewer, row-keyed, row-removed, rows-removed}
 use Rattle.indexed_store.proofs.dropping.remove_live.Goals.{in-Some-key_of, in_default-key_of}

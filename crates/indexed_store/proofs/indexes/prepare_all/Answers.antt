@@ -1,7 +1,7 @@
 use Rattle.std.specs.Prelude.{◌≡◌, ℕ, Some, ◌<◌, ◌≤◌, ◌+◌, ◌⊎◌, slice_index_or, length}
 use Rattle.ft_base.specs.declared.definition.IndexDef.{IndexDef}
 use Rattle.ft_index.specs.Fits.{fit_of}
-use Rattle.indexed_store.specs.Definitions.{defined}
+use Rattle.indexed_store.specs.DefinitionsOf.{defined}
 use Rattle.std.proofs.Common.{ap, arith, inl, inr, sym, ◌∙◌}
 use Rattle.std.proofs.Math.Seq.{map-set_same}
 use Rattle.inverted_list.proofs.ReachLaws.{le_or_lt}

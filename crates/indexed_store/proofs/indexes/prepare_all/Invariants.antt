@@ -2,7 +2,7 @@ use Rattle.std.specs.Prelude.{◌≡◌, ◌<◌, ◌≤◌, ◌+◌, ℕ, lengt
 use Rattle.std.specs.List.{AllPairs}
 use Rattle.indexed_store.specs.Indexing.{Awaits}
 use Rattle.indexed_store.specs.Standing.{AreApart, IndexStands}
-use Rattle.indexed_store.specs.Definitions.{definitions_of}
+use Rattle.indexed_store.specs.DefinitionsOf.{definitions_of}
 use Rattle.ft_index.specs.Index.{Index}
 use Rattle.indexed_store.proofs.indexes.prepare_all.Given as goal
 

@@ -1,6 +1,6 @@
 use Rattle.std.specs.Prelude.{◌≡◌, ℕ, drop}
 use Rattle.indexed_store.specs.Standing.{InStep}
-use Rattle.indexed_store.specs.Definitions.{definitions_of}
+use Rattle.indexed_store.specs.DefinitionsOf.{definitions_of}
 use Rattle.indexed_store.specs.Removing.{without_keys}
 use Rattle.indexed_store.proofs.removals.remove_all.Given as goal
 

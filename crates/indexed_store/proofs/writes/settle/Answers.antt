@@ -1,5 +1,5 @@
 use Rattle.std.proofs.Common.{◌∙◌, ap}
-use Rattle.indexed_store.specs.Definitions.{definitions_of}
+use Rattle.indexed_store.specs.DefinitionsOf.{definitions_of}
 use Rattle.indexed_store.proofs.StepLaws.{all-settled, settled-step}
 use Rattle.indexed_store.proofs.writes.settle.Goals as goal
 

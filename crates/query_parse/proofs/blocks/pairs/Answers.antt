@@ -21,7 +21,7 @@ reading-init c = record {
 pub reading-preserved : goal.reading-preserved
 reading-preserved c =
     let def = c.args.parser.now.def.now in
-    let params = c.args.parser.now.params.now in
+    let params = c.args.parser.now.params in
     let before = pairs_of c.reading.pairs.items in
     let pair = pair_of c.in-More.pair in
     let pushed : c.push.new.self.items ≡ c.reading.pairs.items ++ c.in-More.pair ∷ [] = search rules in
@@ -39,7 +39,7 @@ reading-preserved c =
 pub returns-in-Closed-clause-read : goal.returns-in-Closed-clause-read
 returns-in-Closed-clause-read c =
     let def = c.args.parser.now.def.now in
-    let params = c.args.parser.now.params.now in
+    let params = c.args.parser.now.params in
     let before = pairs_of c.reading.pairs.items in
     let made : List form.Pair → reading.Block def params = λ all. reading.Closed all c.in-Closed.behind.now in
     ap made (ap pairs_of c.in_ok-add-in-Closed.ensures ∙ pairs-of-one c.reading.pairs.items c.in-Closed.pair)
@@ -48,7 +48,7 @@ returns-in-Closed-clause-read c =
 pub returns-in-Open-clause-read : goal.returns-in-Open-clause-read
 returns-in-Open-clause-read c =
     let def = c.args.parser.now.def.now in
-    let params = c.args.parser.now.params.now in
+    let params = c.args.parser.now.params in
     let before = pairs_of c.reading.pairs.items in
     let made : List form.Pair → reading.Block def params = λ all. reading.Open all c.in-Open.behind.now in
     ap made (ap pairs_of c.in_ok-add-in-Open.ensures ∙ pairs-of-one c.reading.pairs.items c.in-Open.pair)

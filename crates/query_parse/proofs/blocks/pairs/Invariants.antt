@@ -8,8 +8,8 @@ use Rattle.query_parse.proofs.blocks.pairs.Given as goal
 -- what is read from here is what all attributes give, and the names are those of the attributes so far
 abbrev pub invariant-reading : goal.invariant-reading
 invariant-reading l = record {
-  reads : Attributing l.parser.def.now l.parser.params.now (pairs_of l.pairs.items) l.rest (pairs_at l.parser.def.now l.parser.params.now [] l.lexemes);
-  named : HasNames l.names (names_of l.parser.def.now l.parser.params.now (pairs_of l.pairs.items));
+  reads : Attributing l.parser.def.now l.parser.params (pairs_of l.pairs.items) l.rest (pairs_at l.parser.def.now l.parser.params [] l.lexemes);
+  named : HasNames l.names (names_of l.parser.def.now l.parser.params (pairs_of l.pairs.items));
   within : length l.rest ≤ length l.lexemes;
 }
 

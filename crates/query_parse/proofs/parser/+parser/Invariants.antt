@@ -34,7 +34,7 @@ decreases-union l = l.levels * 8 + 5
 abbrev pub invariant-inter-joining : goal.invariant-inter-joining
 invariant-inter-joining l =
     let def = l.parser.def.now in
-    let params = l.parser.params.now in
+    let params = l.parser.params in
     record {
       reads : Joining unary_comes (unary_at def params (deeper def params l.levels) l.fields) same l.parts.items l.rest (reads def params l.fields l.levels Inter l.lexemes);
       shorter : length l.rest < length l.lexemes;
@@ -47,7 +47,7 @@ decreases-inter-joining l = length l.rest
 abbrev pub invariant-union-joining : goal.invariant-union-joining
 invariant-union-joining l =
     let def = l.parser.def.now in
-    let params = l.parser.params.now in
+    let params = l.parser.params in
     record {
       reads : Joining bar_at (inter_at def params (deeper def params l.levels) l.fields) all_of l.sides.items l.rest (reads def params l.fields l.levels Union l.lexemes);
       shorter : length l.rest < length l.lexemes;

@@ -8,6 +8,6 @@ reading-init c = record { reads = rw c.new-parts.ensures.items (begins _ _ _ _);
 pub returns-in-Err-clause-read : goal.returns-in-Err-clause-read
 returns-in-Err-clause-read c =
     let def = c.args.parser.now.def.now in
-    let params = c.args.parser.now.params.now in
+    let params = c.args.parser.now.params in
     let unclosed = is-open def params c.args.case c.reading.rest.now (sym c.tags_end.ensures.end ∙ c.if-tags_end.false) in
     stops_here def params c.args.case _ _ _ _ unclosed c.in-Err.ensures.read c.reading.invariant.reads

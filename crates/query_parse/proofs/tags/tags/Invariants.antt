@@ -6,7 +6,7 @@ use Rattle.query_parse.proofs.tags.tags.Given as goal
 -- what is read from here is what all tags give
 abbrev pub invariant-reading : goal.invariant-reading
 invariant-reading l = record {
-  reads : Tagging l.parser.def.now l.parser.params.now l.case l.parts.items l.rest (tags_at l.parser.def.now l.parser.params.now l.case [] l.lexemes);
+  reads : Tagging l.parser.def.now l.parser.params l.case l.parts.items l.rest (tags_at l.parser.def.now l.parser.params l.case [] l.lexemes);
   within : length l.rest ≤ length l.lexemes;
 }
 

@@ -3,7 +3,7 @@ use Rattle.ft_base.specs.Words.{is_quit}
 use Rattle.ft_engine.specs.Stands.{Stands}
 use Rattle.rsearch.specs.Session.{Outside, told}
 use Rattle.rsearch.proofs.ServingLaws.{begins, goes_by, waits, reads_on, same_stream}
-use Rattle.rsearch.proofs.EndingLaws.{ends_reading, ends_long, ends_faulty, ends_text_cut, ends_reply_cut, ends_at_quit}
+use Rattle.rsearch.proofs.EndingLaws.{all_answered, ends_reading, ends_long, ends_faulty, ends_text_cut, ends_reply_cut, ends_at_quit}
 use Rattle.rsearch.proofs.connection.serve.Goals as goal
 
 pub serving-init : goal.serving-init
@@ -56,6 +56,16 @@ serving-preserved-else-quit g c =
 
 pub read_more-requires-clause-taken : goal.read_more-requires-clause-taken
 read_more-requires-clause-taken g c = same_stream c.serving.decoder.left c.take.new.self.left (c.in-More.ensures.more refl)
+
+pub read_more-requires-clause-turn : goal.read_more-requires-clause-turn
+read_more-requires-clause-turn g c few =
+    let before : Outside = told g.L.Link g.C.Clock c.args.link.now c.args.clock.now in
+    let now : Outside = told g.L.Link g.C.Clock c.serving.link c.serving.clock in
+    let more = c.in-More.ensures.more refl in
+    c.requires.prompt c.serving.link c.serving.clock
+    (all_answered c.take.new.self c.serving.engine before now c.serving.total
+    (waits c.serving.decoder c.take.new.self c.serving.engine before now c.serving.invariant.going more c.take.ensures.fed c.take.ensures.taken)
+    (same_stream c.serving.decoder.left c.take.new.self.left more) (omega (arith, c.serving.invariant.counted, c.take.ensures.fed)) few)
 
 pub serving-preserved : goal.serving-preserved
 serving-preserved g c =

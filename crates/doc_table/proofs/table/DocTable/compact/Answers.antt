@@ -1,5 +1,6 @@
 use Rattle.std.proofs.Common.{◌∙◌, ap, sym, subst}
-use Rattle.doc_table.specs.Rows.{IsTable, live_rows}
+use Rattle.ft_base.specs.Rows.{live_rows}
+use Rattle.doc_table.specs.Rows.{IsTable}
 use Rattle.doc_table.proofs.TableLaws.{compacted}
 use Rattle.doc_table.proofs.table.DocTable.compact.Goals as goal
 

@@ -1,19 +1,21 @@
-use Rattle.std.proofs.Common.{◌≡◌, ◌∙◌, ap, sym, subst, nat_eq, is_some}
+use Rattle.std.proofs.Common.{◌≡◌, ◌∙◌, ap, sym, subst, nat_eq, is_some, ℕ, List}
 use Rattle.std.specs.Map.{lookup, remove_entry}
 use Rattle.doc_table.specs.Table.{Table}
-use Rattle.doc_table.specs.Rows.{Rows, ready_row}
-use Rattle.doc_table.proofs.RowsLaws.{lookup-at, remove_entry-at}
-use Rattle.doc_table.proofs.TableLaws.{lookup-waiting, remove_entry-waiting, lookup-live_rows, killed, killed_table}
+use Rattle.ft_base.specs.Rows.{Rows}
+use Rattle.doc_table.specs.Rows.{ready_row}
+use Rattle.ft_base.proofs.LiveRowsLaws.{lookup-waiting, lookup-live_rows}
+use Rattle.ft_base.proofs.RowsLaws.{lookup-at, remove_entry-at}
+use Rattle.doc_table.proofs.TableLaws.{waits_last, remove_entry-waiting, killed, killed_table}
 use Rattle.doc_table.proofs.table.DocTable.kill.Goals as goal
 
 pub returns-then-eq-clause-was : goal.returns-then-eq-clause-was
 returns-then-eq-clause-was c =
-    sym (ap is_some (ap (λ (t : Table). lookup (nat_eq c.args.id) t.live) (sym c.self.view_is) ∙ lookup-waiting c.self.inside.pending c.self.inside.last c.args.id c.self.inside.docs.entries c.self.invariant (sym c.eq.ensures ∙ c.if-eq.true)))
+    sym (ap is_some (ap (λ (t : Table). lookup (nat_eq c.args.id) t.live) (sym c.self.view_is) ∙ lookup-waiting c.self.inside.pending c.args.id c.self.inside.docs.entries (waits_last c.self.inside.pending c.self.inside.last c.self.inside.docs.entries c.self.invariant) (sym c.eq.ensures ∙ c.if-eq.true)))
 
 pub returns-then-eq-clause-gone : goal.returns-then-eq-clause-gone
 returns-then-eq-clause-gone c =
     subst (λ (t : Table). t ≡ record t { live = remove_entry (nat_eq c.args.id) t.live }) c.self.view_is
-    (ap (λ (es : Rows). record { live = es; ready = ready_row c.self.inside.pending c.self.inside.docs.entries; last = c.self.inside.last })
+    (ap (λ (es : Rows (List ℕ)). record { live = es; ready = ready_row c.self.inside.pending c.self.inside.docs.entries; last = c.self.inside.last })
     (sym (remove_entry-waiting c.self.inside.pending c.self.inside.last c.args.id c.self.inside.docs.entries c.self.invariant (sym c.eq.ensures ∙ c.if-eq.true))))
 
 pub invariant_of-self : goal.invariant_of-self

@@ -3,8 +3,9 @@ use Rattle.std.specs.List.Sorted.{IsStrictlyIncreasing}
 use Rattle.std.specs.Map.{keys_of}
 use Rattle.std.proofs.lemmas.Map.Keys.{IsStrictlyIncreasing-from_sorted}
 use Rattle.doc_table.specs.Table.{Table}
-use Rattle.doc_table.specs.Rows.{live_rows}
-use Rattle.doc_table.proofs.TableLaws.{keys-live_rows, live_rows-ordered}
+use Rattle.ft_base.specs.Rows.{live_rows}
+use Rattle.ft_base.proofs.LiveRowsLaws.{live_rows-ordered}
+use Rattle.doc_table.proofs.TableLaws.{keys-live_rows}
 use Rattle.doc_table.proofs.table.DocTable.live_ids.Goals as goal
 
 -- the code's list is that of the live rows

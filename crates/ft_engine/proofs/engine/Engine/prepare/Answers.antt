@@ -1,17 +1,22 @@
 use Rattle.std.proofs.Common.{◌++◌, refl, inr, ap, arith, false, true, subst, sym, drop, take, ◌∙◌}
-use Rattle.std.specs.Prelude.{◌≡◌, ◌+◌, Bool, List, length, max}
+use Rattle.std.specs.Prelude.{◌≡◌, ◌+◌, Bool, List, length, map, max}
+use Rattle.std.specs.List.{IsDistinct}
+use Rattle.std.specs.Str.{bytes_eq}
 use Rattle.std.proofs.lemmas.List.{take_at}
 use Rattle.ft_base.specs.declared.doc.Doc.{Doc}
 use Rattle.indexed_store.specs.Standing.{AreWritten, InStep}
 use Rattle.cmd_parse.specs.Read.{command_of}
 use Rattle.ft_index.specs.Index.{Index}
-use Rattle.ft_engine.specs.Machine.{State}
-use Rattle.ft_engine.specs.Step.{next_number}
-use Rattle.ft_engine.specs.Preparing.{changed}
-use Rattle.ft_engine.specs.Stands.{Stands, state_of, unused}
-use Rattle.indexed_store.specs.Definitions.{Defined, definitions_of}
-use Rattle.ft_engine.proofs.PreparingLaws.{changes-something, indexed, next-below}
-use Rattle.ft_engine.proofs.Stepping.{stepped}
+use Rattle.ft_machine.specs.Machine.{State}
+use Rattle.ft_machine.specs.Step.{next_number}
+use Rattle.engine_changes.specs.Changing.{changed}
+use Rattle.ft_engine.specs.Stands.{Stands, unused}
+use Rattle.engine_changes.specs.States.{state_of}
+use Rattle.indexed_store.specs.Definitions.{Defined}
+use Rattle.indexed_store.specs.DefinitionsOf.{definitions_of}
+use Rattle.engine_changes.proofs.ChangingLaws.{changes-something, next-below}
+use Rattle.ft_engine.proofs.EngineLaws.{indexed}
+use Rattle.ft_machine.proofs.Stepping.{stepped}
 use Rattle.ft_engine.proofs.engine.Engine.prepare.Goals as goal
 
 pub returns-then-self-ge-LAST_NUMBER-clause-answer : goal.returns-then-self-ge-LAST_NUMBER-clause-answer
@@ -37,6 +42,7 @@ returns-clause-indexed c =
     let same : items ≡ now = take_at now (drop (length now) c.self.inside.indexes.items) c.self.inside.indexes.len whole in
     let later : next_number next ≡ next + 1 = next-below next (omega (arith, c.if-self-ge-LAST_NUMBER.false)) in
     indexed made.new.store items c.self.inside.latest next true
+    (subst (λ (docs : List Doc). IsDistinct bytes_eq (map (λ (doc : Doc). doc.key) docs)) (sym made.ensures.space) c.len-count.ensures.distinct)
     (subst (λ (is : List Index). InStep made.new.store is (next_number next)) (sym same) (subst (InStep made.new.store now) (sym later) made.ensures.kept))
 
 pub returns-clause-answer : goal.returns-clause-answer

@@ -1,13 +1,13 @@
 use Rattle.std.proofs.Common.{inr, refl, ap, arith, false, subst, ◌∙◌}
 use Rattle.std.specs.Prelude.{◌≡◌, max}
-use Rattle.ft_engine.specs.Machine.{State}
+use Rattle.ft_machine.specs.Machine.{State}
 use Rattle.ft_engine.specs.Stands.{IsIndexed, Stands}
 use Rattle.std.proofs.Common.{List, ℕ}
 use Rattle.ft_base.specs.Reply.{spelling}
 use Rattle.ft_base.specs.declared.reply.Reply.TheVariants.{Fault}
-use Rattle.ft_engine.specs.Refusals.{refusal}
-use Rattle.ft_engine.proofs.Stepping.{refused-at}
-use Rattle.ft_engine.proofs.PreparingLaws.{begun, indexed}
+use Rattle.ft_machine.specs.Refusals.{refusal}
+use Rattle.ft_machine.proofs.Stepping.{refused-at}
+use Rattle.ft_engine.proofs.EngineLaws.{begun, indexed}
 use Rattle.ft_engine.proofs.engine.Engine.refuse.Goals as goal
 
 pub returns-then-self-ge-LAST_NUMBER-clause-answer : goal.returns-then-self-ge-LAST_NUMBER-clause-answer
@@ -15,7 +15,7 @@ returns-then-self-ge-LAST_NUMBER-clause-answer c = inr (omega (arith, ap (λ (e 
 
 pub returns-then-self-ge-LAST_NUMBER-clause-indexed : goal.returns-then-self-ge-LAST_NUMBER-clause-indexed
 returns-then-self-ge-LAST_NUMBER-clause-indexed c =
-    subst IsIndexed c.self.view_is (indexed c.self.inside.store c.self.inside.indexes.items c.self.inside.latest c.self.inside.next c.self.inside.pending c.self.invariant.step)
+    subst IsIndexed c.self.view_is (indexed c.self.inside.store c.self.inside.indexes.items c.self.inside.latest c.self.inside.next c.self.inside.pending c.len-count.ensures.distinct c.self.invariant.step)
 
 pub invariant_of-self : goal.invariant_of-self
 invariant_of-self c =

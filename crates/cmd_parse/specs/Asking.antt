@@ -1,0 +1,20 @@
+-- What is asked by words that keep the limits of a command.
+use Rattle.std.specs.Prelude.{◌≤◌, ℕ, List, length}
+use Rattle.std.specs.List.{All}
+use Rattle.ft_base.specs.declared.limits.TheConstants.{MAX_WORD_BYTES}
+use Rattle.ft_schema.specs.Lawful.{IsLawful as AreLawful}
+use Rattle.cmd_parse.specs.Lawful.{Lawful}
+use Rattle.cmd_parse.specs.Read.{Asked, Plain, CreateIndex, AlterIndex, InfoOf, Search}
+
+-- no argument is longer than a word may be
+abbrev pub AreWords : List (List ℕ) → Type 0
+AreWords args = All (λ arg. length arg ≤ MAX_WORD_BYTES) args
+
+-- What the words of a command on the wire ask: a plain command has lawful arguments, the fields of a schema keep its limits,
+-- and a query is no longer than a word.
+abbrev pub IsAsked : Asked → Type 0
+IsAsked (Plain verb args) = Lawful verb args × AreWords args
+IsAsked (CreateIndex index) = AreLawful index.fields
+IsAsked (AlterIndex index fields) = AreLawful fields
+IsAsked (InfoOf index) = Unit {0}
+IsAsked (Search index query no_content params) = length query ≤ MAX_WORD_BYTES

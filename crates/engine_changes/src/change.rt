@@ -1,0 +1,31 @@
+//! What a prepared command changes once it is committed.
+use ft_base::Words;
+use ft_index::FtIndex;
+use hash_store::ReadyPut;
+
+/// The most indexes that there may be.
+pub const MOST_INDEXES: usize = 256;
+
+/// What a command changes.
+#[derive(Drop)]
+pub enum Change<'a> {
+    Nothing,
+    /// The document that waits takes the place of its key's old one.
+    Write(ReadyPut),
+    /// The same, and then the document of this key is gone.
+    Move(ReadyPut, &'a [u8]),
+    /// The document of this key is gone.
+    EraseKey(&'a [u8]),
+    /// The documents of these keys are gone.
+    EraseKeys(Words<'a>),
+    /// The index goes last.
+    Create(FtIndex),
+    /// The index takes the place of the one of its name.
+    Alter(FtIndex),
+    /// The index of this name is gone.
+    Drop(&'a [u8]),
+    /// The same, and the documents that are its members.
+    DropMembers(&'a [u8]),
+    /// All documents and indexes are gone.
+    Flush,
+}

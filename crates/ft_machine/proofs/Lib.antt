@@ -1,0 +1,5 @@
+pub mod NameLaws
+pub mod DeterminedLaws
+pub mod Examples
+pub mod HistoryLaws
+pub mod Stepping

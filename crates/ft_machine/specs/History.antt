@@ -1,0 +1,41 @@
+-- Histories: what happened, entry by entry, each legal in the state before it.
+use Rattle.std.specs.Prelude.{◌≡◌, ◌<◌, ℕ, List, [], ◌∷◌, ◌++◌, length}
+use Rattle.ft_base.specs.Words.{KeepsLimits}
+use Rattle.ft_machine.specs.Machine.{State, empty_state}
+use Rattle.ft_machine.specs.Step.{Answers, next_number}
+
+-- What one event left in the history.
+pub data Entry : Type 0 where
+  -- a caller's command at a moment, and its reply
+  Exec : (caller moment : ℕ) (words : List (List ℕ)) (reply : List ℕ) → Entry
+
+-- Entries that lead from a state to another, the first with this number, where `May` says which entry may follow.
+abbrev pub Leads : {S E : Type 0} → (ℕ → S → E → S → Type 0) → ℕ → S → List E → S → Type 0
+Leads May number old [] new = new ≡ old
+Leads {S} May number old (entry ∷ entries) new = (between : S) × May number old entry between × Leads May (next_number number) between entries new
+
+-- An entry with this number may follow a state, and leads to the next.
+abbrev pub MayFollow : ℕ → State → Entry → State → Type 0
+MayFollow number old (Exec caller moment words reply) new = (0 < length words) × KeepsLimits words × Answers words number moment old reply new
+
+-- a legal history from its first number, and the state after it
+abbrev pub IsLegal : ℕ → List Entry → State → Type 0
+IsLegal first entries after = Leads MayFollow first empty_state entries after
+
+-- the replies of a history, one after another
+abbrev pub replies_of : List Entry → List ℕ
+replies_of [] = []
+replies_of (Exec caller moment words reply ∷ entries) = reply ++ replies_of entries
+
+-- the commands, their moments and their callers
+abbrev pub words_of : Entry → List (List ℕ)
+words_of (Exec caller moment words reply) = words
+
+abbrev pub moment_of : Entry → ℕ
+moment_of (Exec caller moment words reply) = moment
+
+abbrev pub caller_of : Entry → ℕ
+caller_of (Exec caller moment words reply) = caller
+
+abbrev pub reply_of : Entry → List ℕ
+reply_of (Exec caller moment words reply) = reply

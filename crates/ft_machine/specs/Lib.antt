@@ -1,0 +1,11 @@
+pub mod Arguments
+pub mod Determined
+pub mod History
+pub mod Indexes
+pub mod Informing
+pub mod Machine
+pub mod PlainCommands
+pub mod Refusals
+pub mod Searching
+pub mod Step
+pub mod Writes

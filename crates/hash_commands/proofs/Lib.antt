@@ -1,0 +1,4 @@
+pub mod CountingLaws
+pub mod PlainLaws
+pub mod VersionsLaws
+pub mod WritesLaws

@@ -1,0 +1,17 @@
+use Rattle.std.specs.Prelude.{◌<◌, length}
+use Rattle.std.proofs.Common.{sym, subst}
+use Rattle.ft_base.specs.Hash.{Hash}
+use Rattle.ft_meaning.specs.Meaning.{ValuesFit}
+use Rattle.hash_commands.proofs.WritesLaws.{found-filled, found-fits}
+use Rattle.indexed_store.proofs.StepLaws.{in_step-read}
+use Rattle.hash_commands.proofs.renaming.copy_under.Goals as goal
+
+pub returns-in_err-hash-clause-kept : goal.returns-in_err-hash-clause-kept
+returns-in_err-hash-clause-kept c = in_step-read c.args.store.now c.copy_of.new.store c.args.indexes.now c.args.id c.copy_of.ensures.space c.copy_of.ensures.last c.requires.kept
+
+pub prepare_hash-requires-clause-filled : goal.prepare_hash-requires-clause-filled
+prepare_hash-requires-clause-filled c =
+    subst (λ (hash : Hash). 0 < length hash) (sym c.in_ok-hash.ensures.hash) (found-filled c.args.store.now.space c.args.from.now c.requires.there c.requires.kept.documents.filled)
+
+pub prepare_hash-requires-clause-values : goal.prepare_hash-requires-clause-values
+prepare_hash-requires-clause-values c = subst ValuesFit (sym c.in_ok-hash.ensures.hash) (found-fits c.args.store.now.space c.args.from.now c.requires.kept.documents.fit)

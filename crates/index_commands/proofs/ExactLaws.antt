@@ -1,0 +1,62 @@
+-- What is read for a search, and what is told of an index, exactly.
+use Rattle.std.specs.Prelude.{◌≡◌, ◌≤◌, ℕ, List, length, Bool, Option, None, Some, Result, Ok, Err, IfOk, OnOk, find}
+use Rattle.std.proofs.Common.{ap, ◌∙◌, inl, inr}
+use Rattle.cmd_parse.specs.Read.{Asked, Plain, CreateIndex, AlterIndex, InfoOf, Search}
+use Rattle.ft_base.specs.Reply.{spelling}
+use Rattle.ft_base.specs.declared.definition.IndexDef.{IndexDef}
+use Rattle.ft_base.specs.declared.doc.Doc.{Doc}
+use Rattle.ft_base.specs.declared.reply.Reply.{Reply}
+use Rattle.ft_index.specs.Index.{Index}
+use Rattle.ft_machine.specs.Refusals.{want_of_memory}
+use Rattle.ft_machine.specs.Step.{Told}
+use Rattle.index_commands.specs.Exactness.{IsRefusal, ReadsFew, ReadsRows, TellsEntries, TellsExactly, TellsOf}
+use Rattle.index_info.specs.Info.{info_reply}
+use Rattle.index_info.specs.declared.info.Counts.{Counts}
+use Rattle.index_lists.specs.Lists.{AllLists}
+use Rattle.index_lists.specs.Records.{all_entries}
+use Rattle.indexed_store.specs.Named.{is_named}
+use Rattle.search_exec.specs.Ids.{reads_after, reads_for}
+use Rattle.search_exec.specs.Replies.{found_reply}
+
+-- what a query found was answered, or memory was wanting
+pub reads-found : {E : Type 0} (no_content : Bool) (docs : List Doc) (written : List ℕ) (made : Result Reply E) (old new : ℕ) → IfOk made (λ reply. reply ≡ found_reply no_content docs)
+    → OnOk made (new ≡ reads_after old (reads_for no_content (length docs))) → old ≤ new → Told made written → ReadsRows no_content written old new
+reads-found no_content docs written (Ok reply) old new is reads rises (inl said) = inl (record { found = docs; shown = said ∙ ap spelling is; reads = reads })
+reads-found no_content docs written (Ok reply) old new is reads rises (inr want) = inr (inr (want, rises))
+reads-found no_content docs written (Err e) old new is reads rises want = inr (inr (want, rises))
+
+-- a command that is refused reads nothing for a search
+pub reads-refused : (asks : Asked) (written : List ℕ) (old new : ℕ) → IsRefusal written → new ≡ old → ReadsFew asks written old new
+reads-refused (Plain verb args) written old new refused same = tt
+reads-refused (CreateIndex index) written old new refused same = tt
+reads-refused (AlterIndex index fields) written old new refused same = tt
+reads-refused (InfoOf index) written old new refused same = tt
+reads-refused (Search index query no_content params) written old new refused same = inr (inl (refused, same))
+
+-- and tells of no index
+pub tells-refused : (asks : Asked) (indexes : List Index) (written : List ℕ) → IsRefusal written → TellsExactly asks indexes written
+tells-refused (Plain verb args) indexes written refused = tt
+tells-refused (CreateIndex index) indexes written refused = tt
+tells-refused (AlterIndex index fields) indexes written refused = tt
+tells-refused (InfoOf index) indexes written refused = of_index (find (is_named index) indexes)
+  where
+    of_index : (found : Option Index) → TellsOf found written
+    of_index None = tt
+    of_index (Some index) = inr refused
+tells-refused (Search index query no_content params) indexes written refused = tt
+
+-- what is told by the counts of an index
+pub entries-of : {E : Type 0} (index : Index) (def : IndexDef) (lists : AllLists) (made : Result Reply E) (counts : Counts) → def ≡ index.def → lists ≡ index.lists → counts.records ≡ all_entries lists
+    → IfOk made (λ reply. reply ≡ info_reply def counts) → IfOk made (λ reply. TellsEntries index reply)
+entries-of index def lists (Err e) counts its of_lists count made = tt
+entries-of index def lists (Ok reply) counts its of_lists count made = record {
+  counts = counts;
+  same = made ∙ ap (λ (d : IndexDef). info_reply d counts) its;
+  records = count ∙ ap all_entries of_lists;
+}
+
+-- it was answered, or memory was wanting
+pub tells-told : {E : Type 0} (index : Index) (made : Result Reply E) (written : List ℕ) → IfOk made (λ reply. TellsEntries index reply) → Told made written → TellsOf (Some index) written
+tells-told index (Ok reply) written tells (inl said) = inl (reply, tells, said)
+tells-told index (Ok reply) written tells (inr want) = inr (want_of_memory, want)
+tells-told index (Err e) written tells want = inr (want_of_memory, want)

@@ -1,0 +1,249 @@
+-- What the commands of indexes give.
+use Rattle.std.proofs.Common.{◌≡◌, ◌<◌, ◌≤◌, ◌+◌, ℕ, Bool, true, false, cond, List, [], ◌∷◌, ◌++◌, length, map, Option, Some, None, refl, sym, ap, ◌∙◌, subst, inl, inr, arith}
+use Rattle.std.specs.Prelude.{◌||◌, Result, Ok, Err, IfOk, IsTrue, codes, drop, find, is_some, nat_le, nat_lt}
+use Rattle.std.specs.Borrow.{Bor}
+use Rattle.std.specs.List.{All}
+use Rattle.std.specs.Option.{option_copied, option_map}
+use Rattle.std.proofs.lemmas.Bool.Decides.{nat_tests}
+use Rattle.std.proofs.lemmas.List.{length-append}
+use Rattle.std.proofs.lemmas.List.Elements.{All-cons, All-nil}
+use Rattle.std.proofs.lemmas.Slice.Eq.{bytes_eq-Decides}
+use Rattle.cmd_parse.specs.Read.{AlterIndex, CreateIndex, Plain}
+use Rattle.cmd_parse.specs.declared.command.Verb.TheVariants.{DropIndex, ListIndexes, TagVals}
+use Rattle.ft_base.specs.Reply.{fits_wire, spelling}
+use Rattle.ft_base.specs.declared.definition.Field.{Field}
+use Rattle.ft_base.specs.declared.definition.IndexDef.{IndexDef}
+use Rattle.ft_base.specs.declared.doc.Doc.{Doc}
+use Rattle.ft_base.specs.declared.reply.Reply.{Reply}
+use Rattle.ft_base.specs.declared.reply.Reply.TheVariants.{Array, Bulk, Fault, Line}
+use Rattle.index_lists.proofs.AliveLaws.{row_of}
+use Rattle.ft_index.specs.Index.{Index}
+use Rattle.ft_schema.specs.Gives.{IsFaultOf}
+use Rattle.ft_schema.specs.Schema.{extended, has_any_alias, is_over}
+use Rattle.ft_schema.specs.declared.fault.SchemaFault.{SchemaFault}
+use Rattle.ft_schema.specs.declared.fault.SchemaFault.TheVariants as schema
+use Rattle.indexed_store.proofs.NamedLaws.{index_of-named}
+use Rattle.indexed_store.specs.Definitions.{Defined, failures_over, index_of, with_index, without_index}
+use Rattle.indexed_store.specs.DefinitionsOf.{defined, definitions_of}
+use Rattle.indexed_store.specs.Named.{is_named}
+use Rattle.indexed_store.specs.Removing.{without_members}
+use Rattle.inverted_list.specs.Listing.{RisesAbove}
+use Rattle.tag_values.specs.Values.{tag_values}
+use Rattle.hash_replies.proofs.ReadsLaws.{fits-Bulk, shown-fits}
+use Rattle.ft_machine.proofs.Stepping.{stays, told}
+use Rattle.ft_machine.specs.Arguments.{first, second}
+use Rattle.ft_machine.specs.Indexes.{altered, altered_to, created, defines, dropped, index_over, listed, most_indexes, name_bulk, tag_field, tag_vals, tags_reply, unknown_index}
+use Rattle.ft_machine.specs.Machine.{Outcome, State, answered}
+use Rattle.engine_changes.specs.Changing.{HasMore}
+use Rattle.ft_machine.specs.Refusals.{schema_refusal}
+use Rattle.ft_machine.specs.PlainCommands.{PlainMayWant, plain}
+use Rattle.ft_machine.specs.Step.{Does, Told}
+
+-- whether a name is taken, as a look-up says
+pub named-known : (indexes : List Index) (definitions : List Defined) (name : List ℕ) (index : Option (Bor Index)) → definitions ≡ definitions_of indexes → option_copied index ≡ find (is_named name) indexes
+    → is_some (index_of definitions name) ≡ is_some index
+named-known indexes definitions name index same found =
+    ap (λ (o : Option Defined). is_some o) (ap (λ (ds : List Defined). index_of ds name) same ∙ index_of-named indexes name)
+    ∙ (mapped (find (is_named name) indexes) ∙ (ap is_some (sym found) ∙ copied index))
+  where
+    mapped : (o : Option Index) → is_some (option_map defined o) ≡ is_some o
+    mapped None = refl
+    mapped (Some index) = refl
+
+    copied : (o : Option (Bor Index)) → is_some (option_copied o) ≡ is_some o
+    copied None = refl
+    copied (Some index) = refl
+
+-- the definition of a name that was found, and of one that was not
+pub named-some : (indexes : List Index) (definitions : List Defined) (name : List ℕ) (index : Index) → definitions ≡ definitions_of indexes → Some index ≡ find (is_named name) indexes → index_of definitions name ≡ Some (defined index)
+named-some indexes definitions name index same found = ap (λ (ds : List Defined). index_of ds name) same ∙ (index_of-named indexes name ∙ ap (option_map defined) (sym found))
+
+pub named-none : (indexes : List Index) (definitions : List Defined) (name : List ℕ) → definitions ≡ definitions_of indexes → None ≡ find (is_named name) indexes → index_of definitions name ≡ None
+named-none indexes definitions name same found = ap (λ (ds : List Defined). index_of ds name) same ∙ (index_of-named indexes name ∙ ap (option_map defined) (sym found))
+
+-- FT.CREATE of a name that is taken
+created-taken : (def : IndexDef) (state : State) → is_some (index_of state.definitions def.name) ≡ true → created def state ≡ answered (Fault (codes "Index already exists")) state
+created-taken def state taken = rw taken refl
+
+pub create-taken : (def : IndexDef) (number : ℕ) (state : State) (written : List ℕ) → is_some (index_of state.definitions def.name) ≡ true → written ≡ spelling (Fault (codes "Index already exists"))
+    → Does (CreateIndex def) number state written state
+create-taken def number state written taken said = inl (stays (created def state) state written (Fault (codes "Index already exists")) (created-taken def state taken) said)
+
+-- where there is no room
+created-full : (def : IndexDef) (state : State) → is_some (index_of state.definitions def.name) ≡ false → nat_le most_indexes (length state.definitions) ≡ true → created def state ≡ answered (Fault (codes "Too many indexes")) state
+created-full def state free full = rw (free, full) refl
+
+pub create-full : (def : IndexDef) (number : ℕ) (state : State) (written : List ℕ) → is_some (index_of state.definitions def.name) ≡ false → most_indexes ≤ length state.definitions → written ≡ spelling (Fault (codes "Too many indexes"))
+    → Does (CreateIndex def) number state written state
+create-full def number state written free full said = inl (stays (created def state) state written (Fault (codes "Too many indexes")) (created-full def state free (grind (arith, nat_tests, full))) said)
+
+-- where the index goes last
+created-last : (def : IndexDef) (state : State) → is_some (index_of state.definitions def.name) ≡ false → nat_le most_indexes (length state.definitions) ≡ false
+    → created def state ≡ defines (state.definitions ++ index_over def state.space 0 ∷ []) state
+created-last def state free room = rw (free, room) refl
+
+same-defined : (index : Index) (def : IndexDef) (failures : ℕ) → index.def ≡ def → index.failures ≡ failures → defined index ≡ record { def = def; failures = failures }
+same-defined index def failures is counted = ap (λ (d : IndexDef). record { def = d; failures = index.failures }) is ∙ ap (λ (n : ℕ). record { def = def; failures = n }) counted
+
+pub create-done : (def : IndexDef) (number : ℕ) (state : State) (written : List ℕ) (index : Index) → is_some (index_of state.definitions def.name) ≡ false → length state.definitions < most_indexes
+    → index.def ≡ def → index.failures ≡ failures_over def state.space 0 → written ≡ spelling (Line (codes "OK"))
+    → Does (CreateIndex def) number state written (record state { definitions = state.definitions ++ defined index ∷ [] })
+create-done def number state written index free room is counted said =
+    let given = created-last def state free (grind (arith, nat_tests, room)) in
+    inl (
+      said ∙ ap (λ (o : Outcome). spelling o.reply) (sym given),
+      ap (λ (d : Defined). record state { definitions = state.definitions ++ d ∷ [] }) (same-defined index def (failures_over def state.space 0) is counted) ∙ ap (λ (o : Outcome). o.after) (sym given),
+    )
+
+-- FT.ALTER where no index has the name
+pub alter-unknown : (name : List ℕ) (fields : List Field) (number : ℕ) (state : State) (written : List ℕ) → index_of state.definitions name ≡ None → written ≡ spelling (Fault unknown_index)
+    → Does (AlterIndex name fields) number state written state
+alter-unknown name fields number state written none said = inl (stays (altered (index_of state.definitions name) fields state) state written (Fault unknown_index) (ap (λ (i : Option Defined). altered i fields state) none) said)
+
+-- where the fields have a fault
+alter-stays : (name : List ℕ) (fields : List Field) (number : ℕ) (state : State) (written : List ℕ) (old : Defined) (fault : SchemaFault) → index_of state.definitions name ≡ Some old
+    → extended old.def fields ≡ Err fault → written ≡ spelling (Fault (schema_refusal fault)) → Does (AlterIndex name fields) number state written state
+alter-stays name fields number state written old fault there is said =
+    inl (stays (altered (index_of state.definitions name) fields state) state written (Fault (schema_refusal fault))
+    (ap (λ (i : Option Defined). altered i fields state) there ∙ ap (λ (r : Result IndexDef SchemaFault). altered_to old.failures r state) is) said)
+
+pub alter-fault : (name : List ℕ) (fields : List Field) (number : ℕ) (state : State) (written : List ℕ) (old : Defined) (fault : SchemaFault) → index_of state.definitions name ≡ Some old
+    → IsFaultOf fault (extended old.def fields) → written ≡ spelling (Fault (schema_refusal fault)) → Does (AlterIndex name fields) number state written state
+alter-fault name fields number state written old schema.NoMemory there is said = inr (tt, said, refl)
+alter-fault name fields number state written old (schema.BadOption at) there is said = alter-stays name fields number state written old (schema.BadOption at) there is said
+alter-fault name fields number state written old (schema.BadKind at) there is said = alter-stays name fields number state written old (schema.BadKind at) there is said
+alter-fault name fields number state written old (schema.DuplicateField at) there is said = alter-stays name fields number state written old (schema.DuplicateField at) there is said
+alter-fault name fields number state written old (schema.TooManyFields at) there is said = alter-stays name fields number state written old (schema.TooManyFields at) there is said
+alter-fault name fields number state written old (schema.BadNumber at) there is said = alter-stays name fields number state written old (schema.BadNumber at) there is said
+alter-fault name fields number state written old (schema.OutOfScope at) there is said = alter-stays name fields number state written old (schema.OutOfScope at) there is said
+
+-- where they are added
+pub alter-done : (name : List ℕ) (fields : List Field) (number : ℕ) (state : State) (written : List ℕ) (old : Defined) (index : Index) → index_of state.definitions name ≡ Some old
+    → extended old.def fields ≡ Ok index.def → index.failures ≡ failures_over index.def state.space old.failures → written ≡ spelling (Line (codes "OK"))
+    → Does (AlterIndex name fields) number state written (record state { definitions = with_index state.definitions (defined index) })
+alter-done name fields number state written old index there is counted said =
+    let given = ap (λ (i : Option Defined). altered i fields state) there ∙ ap (λ (r : Result IndexDef SchemaFault). altered_to old.failures r state) is in
+    inl (
+      said ∙ ap (λ (o : Outcome). spelling o.reply) (sym given),
+      ap (λ (d : Defined). record state { definitions = with_index state.definitions d }) (same-defined index index.def (failures_over index.def state.space old.failures) refl counted) ∙ ap (λ (o : Outcome). o.after) (sym given),
+    )
+
+or-right : (a b : Bool) → (a || b) ≡ false → b ≡ false
+or-right true b none = cc (none)
+or-right false b none = none
+
+-- what more fields leave
+pub record Grows (def : IndexDef) (fields : List Field) (made : IndexDef) : Type 0 where
+  pub name : made.name ≡ def.name
+  pub number : length made.fields ≡ length def.fields + length fields
+  pub few : length made.fields ≤ 1024
+
+pub extended-grows : (def : IndexDef) (fields : List Field) (made : IndexDef) → extended def fields ≡ Ok made → Grows def fields made
+unfolding extended
+extended-grows def fields made is = by_tests (has_any_alias def.fields fields) (is_over def.fields fields) refl is
+  where
+    by_tests : (twice over : Bool) → is_over def.fields fields ≡ over
+        → cond twice (Err (schema.DuplicateField 5)) (cond over (Err (schema.TooManyFields 5)) (Ok (record def { fields = def.fields ++ fields }))) ≡ Ok made → Grows def fields made
+    by_tests true over within is = cc (is)
+    by_tests false true within is = cc (is)
+    by_tests false false within is =
+        let same : record def { fields = def.fields ++ fields } ≡ made = cc (is) in
+        let all : length made.fields ≡ length def.fields + length fields = ap (λ (d : IndexDef). length d.fields) (sym same) ∙ length-append def.fields fields in
+        let short : nat_lt 1024 (length def.fields + length fields) ≡ false = or-right _ (nat_lt 1024 (length def.fields + length fields)) within in
+        record { name = ap (λ (d : IndexDef). d.name) (sym same); number = all; few = grind (arith, nat_tests, short, all) }
+
+found-named : (indexes : List Index) (name : List ℕ) (index : Index) → find (is_named name) indexes ≡ Some index → is_named name index ≡ true
+found-named [] name index found = cc (found)
+found-named (first ∷ indexes) name index found = by_test (is_named name first) refl found (found-named indexes name index)
+  where
+    by_test : (here : Bool) → is_named name first ≡ here → cond here (Some first) (find (is_named name) indexes) ≡ Some index → (find (is_named name) indexes ≡ Some index → is_named name index ≡ true) → is_named name index ≡ true
+    by_test true test found later = let same : first ≡ index = cc (found) in subst (λ (i : Index). is_named name i ≡ true) same test
+    by_test false test found later = later found
+
+-- an index with more fields has more than the one whose place it takes
+pub alter-more : (indexes all : List Index) (name : List ℕ) (fields : List Field) (old made : Index) → all ≡ indexes → Some old ≡ find (is_named name) indexes → 0 < length fields → extended old.def fields ≡ Ok made.def
+    → HasMore (index_of (definitions_of all) made.def.name) made
+alter-more indexes all name fields old made same found some is =
+    let grows = extended-grows old.def fields made.def is in
+    let named : name ≡ made.def.name = (bytes_eq-Decides name old.def.name).0 (found-named indexes name old (sym found)) ∙ sym grows.name in
+    let there : index_of (definitions_of all) made.def.name ≡ Some (defined old) = ap (index_of (definitions_of all)) (sym named) ∙ named-some indexes (definitions_of all) name old (ap definitions_of same) found in
+    subst (λ (d : Option Defined). HasMore d made) (sym there) (omega (arith, some, grows.number))
+
+-- FT.DROPINDEX
+pub drop-unknown : (args : List (List ℕ)) (number : ℕ) (state : State) (written : List ℕ) → is_some (index_of state.definitions (first args)) ≡ false → written ≡ spelling (Fault unknown_index)
+    → Does (Plain DropIndex args) number state written state
+drop-unknown args number state written none said = inl (stays (plain DropIndex args number state) state written (Fault unknown_index) (by_index (index_of state.definitions (first args)) none) said)
+  where
+    by_index : (index : Option Defined) → is_some index ≡ false → dropped index (first args) (drop 1 args) state ≡ answered (Fault unknown_index) state
+    by_index None none = refl
+    by_index (Some index) none = cc (none)
+
+pub drop-one : (args : List (List ℕ)) (number : ℕ) (state : State) (written name : List ℕ) → is_some (index_of state.definitions (first args)) ≡ true → length args ≡ 1 → name ≡ first args → written ≡ spelling (Line (codes "OK"))
+    → Does (Plain DropIndex args) number state written (record state { definitions = without_index state.definitions name })
+drop-one [] number state written name there one is said = absurd (omega (arith, one))
+drop-one (word ∷ []) number state written name there one is said = by_index (index_of state.definitions word) refl there
+  where
+    by_index : (index : Option Defined) → index_of state.definitions word ≡ index → is_some index ≡ true → Does (Plain DropIndex (word ∷ [])) number state written (record state { definitions = without_index state.definitions name })
+    by_index None found there = cc (there)
+    by_index (Some index) found there =
+        let given = ap (λ (i : Option Defined). dropped i word [] state) found in
+        inl (said ∙ ap (λ (o : Outcome). spelling o.reply) (sym given), ap (λ (w : List ℕ). record state { definitions = without_index state.definitions w }) is ∙ ap (λ (o : Outcome). o.after) (sym given))
+drop-one (word ∷ more ∷ args) number state written name there one is said = absurd (omega (arith, one))
+
+pub drop-two : (args : List (List ℕ)) (number : ℕ) (state : State) (written name : List ℕ) → is_some (index_of state.definitions (first args)) ≡ true → 2 ≤ length args → name ≡ first args → written ≡ spelling (Line (codes "OK"))
+    → Does (Plain DropIndex args) number state written (record state { space = without_members (index_of state.definitions name) state.space; definitions = without_index state.definitions name })
+drop-two [] number state written name there two is said = absurd (omega (arith, two))
+drop-two (word ∷ []) number state written name there two is said = absurd (omega (arith, two))
+drop-two (word ∷ how ∷ args) number state written name there two is said = by_index (index_of state.definitions word) refl there
+  where
+    by_index : (index : Option Defined) → index_of state.definitions word ≡ index → is_some index ≡ true
+        → Does (Plain DropIndex (word ∷ how ∷ args)) number state written (record state { space = without_members (index_of state.definitions name) state.space; definitions = without_index state.definitions name })
+    by_index None found there = cc (there)
+    by_index (Some index) found there =
+        let given = ap (λ (i : Option Defined). dropped i word (how ∷ args) state) found in
+        inl (
+          said ∙ ap (λ (o : Outcome). spelling o.reply) (sym given),
+          ap (λ (w : List ℕ). record state { space = without_members (index_of state.definitions w) state.space; definitions = without_index state.definitions w }) is
+              ∙ (ap (λ (i : Option Defined). record state { space = without_members i state.space; definitions = without_index state.definitions word }) found ∙ ap (λ (o : Outcome). o.after) (sym given)),
+        )
+
+-- FT._LIST
+names-listed : (indexes : List Index) → map (λ (index : Index). Bulk index.def.name) indexes ≡ map name_bulk (definitions_of indexes)
+names-listed [] = refl
+names-listed (index ∷ indexes) = ap (λ (rest : List Reply). Bulk index.def.name ∷ rest) (names-listed indexes)
+
+pub listed-names : (indexes : List Index) (names : List Reply) → names ≡ map (λ (index : Index). Bulk index.def.name) indexes → Array names ≡ listed (definitions_of indexes)
+listed-names indexes names is = ap Array (is ∙ names-listed indexes)
+
+pub names-fit : (indexes : List Index) (names : List Reply) → names ≡ map (λ (index : Index). Bulk index.def.name) indexes → IsTrue (fits_wire (Array names))
+names-fit indexes names is = subst (λ (rs : List Reply). IsTrue (fits_wire (Array rs))) (sym is) (shown-fits (λ (index : Index). Bulk index.def.name) indexes (λ index. fits-Bulk index.def.name))
+
+pub list-told : {E : Type 0} (args : List (List ℕ)) (indexes : List Index) (number : ℕ) (state : State) (written : List ℕ) (made : Result Reply E) → state.definitions ≡ definitions_of indexes
+    → IfOk made (λ reply. reply ≡ listed (definitions_of indexes)) → Told made written → Does (Plain ListIndexes args) number state written state
+list-told args indexes number state written made same is said = told (plain ListIndexes args number state) (PlainMayWant ListIndexes args) state written made (listed (definitions_of indexes)) tt (ap (λ (ds : List Defined). answered (listed ds) state) same) is said
+
+-- FT.TAGVALS
+pub tags-fit : (tags : List Reply) (values : List (List ℕ)) → tags ≡ map Bulk values → IsTrue (fits_wire (Array tags))
+tags-fit tags values is = subst (λ (rs : List Reply). IsTrue (fits_wire (Array rs))) (sym is) (shown-fits Bulk values fits-Bulk)
+
+pub tags-unknown : (args : List (List ℕ)) (number : ℕ) (state : State) (written : List ℕ) → index_of state.definitions (first args) ≡ None → written ≡ spelling (Fault unknown_index)
+    → Does (Plain TagVals args) number state written state
+tags-unknown args number state written none said =
+    inl (stays (plain TagVals args number state) state written (Fault unknown_index) (ap (λ (i : Option Defined). answered (tag_vals i (second args) state.space) state) none) said)
+
+pub tags-no_field : (args : List (List ℕ)) (number : ℕ) (state : State) (written : List ℕ) (index : Defined) → index_of state.definitions (first args) ≡ Some index → tag_field index.def.fields (second args) ≡ None
+    → written ≡ spelling (Fault (codes "Unknown field at word 2")) → Does (Plain TagVals args) number state written state
+tags-no_field args number state written index there none said =
+    inl (stays (plain TagVals args number state) state written (Fault (codes "Unknown field at word 2"))
+    (ap (λ (i : Option Defined). answered (tag_vals i (second args) state.space) state) there ∙ ap (λ (f : Option Field). answered (tags_reply f index.def state.space) state) none) said)
+
+pub tags-told : {E : Type 0} (args : List (List ℕ)) (number : ℕ) (state : State) (written : List ℕ) (index : Defined) (field : Field) (made : Result Reply E) → index_of state.definitions (first args) ≡ Some index
+    → tag_field index.def.fields (second args) ≡ Some field → IfOk made (λ reply. reply ≡ Array (map Bulk (tag_values index.def field state.space))) → Told made written → Does (Plain TagVals args) number state written state
+tags-told args number state written index field made there here is said =
+    told (plain TagVals args number state) (PlainMayWant TagVals args) state written made (Array (map Bulk (tag_values index.def field state.space))) tt
+    (ap (λ (i : Option Defined). answered (tag_vals i (second args) state.space) state) there ∙ ap (λ (f : Option Field). answered (tags_reply f index.def state.space) state) here) is said
+
+-- ids that rise are above 0
+pub ids-above : (low : ℕ) (docs : List Doc) → RisesAbove low (map row_of docs) → All (λ (doc : Doc). 0 < doc.id) docs
+ids-above low [] rises = All-nil (λ (doc : Doc). 0 < doc.id)
+ids-above low (doc ∷ docs) rises = All-cons (λ (doc : Doc). 0 < doc.id) doc docs (omega (arith, rises.0)) (ids-above doc.id docs rises.1)

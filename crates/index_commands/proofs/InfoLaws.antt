@@ -1,0 +1,73 @@
+-- What FT.INFO tells of an index is true of its documents.
+use Rattle.std.specs.Prelude.{◌≡◌, ◌≤◌, ◌+◌, ℕ, List, [], ◌∷◌, Option, None, Some, Result, Ok, Err, IfOk, find, length, refl}
+use Rattle.std.proofs.Common.{sym, ap, ◌∙◌, arith, inl, inr, subst}
+use Rattle.std.proofs.lemmas.List.{length-map}
+use Rattle.cmd_parse.specs.Read.{InfoOf}
+use Rattle.ft_base.specs.Reply.{spelling}
+use Rattle.ft_base.specs.declared.definition.IndexDef.{IndexDef}
+use Rattle.ft_base.specs.declared.doc.Doc.{Doc}
+use Rattle.ft_base.specs.declared.reply.Reply.{Reply}
+use Rattle.ft_base.specs.declared.reply.Reply.TheVariants.{Fault}
+use Rattle.ft_index.specs.Index.{Index, Indexes}
+use Rattle.ft_meaning.specs.Member.{members}
+use Rattle.index_info.specs.Info.{info_reply}
+use Rattle.index_lists.specs.Has.{Has}
+use Rattle.index_lists.specs.Lists.{AllLists}
+use Rattle.ft_meaning.specs.Records.{live_records}
+use Rattle.indexed_store.specs.Definitions.{Defined}
+use Rattle.indexed_store.specs.DefinitionsOf.{defined, definitions_of}
+use Rattle.indexed_store.specs.Named.{is_named}
+use Rattle.inverted_list.specs.Listing.{RisesAbove, last_id}
+use Rattle.ft_machine.specs.Indexes.{unknown_index}
+use Rattle.ft_machine.specs.Informing.{IsInformed, Tells}
+use Rattle.ft_machine.specs.Machine.{State}
+use Rattle.ft_machine.specs.Step.{Does, Told}
+use Rattle.index_commands.proofs.SearchLaws.{named}
+
+-- as many ids as rise up to a number are no more than the number
+pub rising-few : {X : Type 0} (low : ℕ) (rows : List (ℕ × X)) → RisesAbove low rows → low + length rows ≤ last_id low rows
+rising-few low [] rises = omega arith
+rising-few low (row ∷ rows) rises = omega (arith, rises.0, rising-few row.0 rows rises.1)
+
+-- there is no such index
+pub informs-none : (indexes : List Index) (state : State) (number : ℕ) (name written : List ℕ) → state.definitions ≡ definitions_of indexes → find (is_named name) indexes ≡ None
+    → written ≡ spelling (Fault unknown_index) → Does (InfoOf name) number state written state
+informs-none indexes state number name written same none said = inl (record {
+  reply = Fault unknown_index;
+  may = subst (λ (i : Option Defined). IsInformed i state.space (Fault unknown_index)) (sym (named indexes state name None same none)) refl;
+  gives = (said, refl);
+})
+
+-- there is, and what was told of it was answered, or memory was wanting
+pub informs-index : {E : Type 0} (indexes : List Index) (index : Index) (state : State) (number : ℕ) (name written : List ℕ) (made : Result Reply E) → state.definitions ≡ definitions_of indexes
+    → find (is_named name) indexes ≡ Some index → IfOk made (λ reply. Tells (defined index) state.space reply) → Told made written → Does (InfoOf name) number state written state
+informs-index indexes index state number name written (Ok reply) same there tells (inl said) = inl (record {
+  reply = reply;
+  may = subst (λ (i : Option Defined). IsInformed i state.space reply) (sym (named indexes state name (Some index) same there)) tells;
+  gives = (said, refl);
+})
+informs-index indexes index state number name written (Ok reply) same there tells (inr want) = inr (tt, want, refl)
+informs-index indexes index state number name written (Err e) same there tells want = inr (tt, want, refl)
+
+-- what is told by the counts of an index
+pub told-of : {E : Type 0} (index : Index) (def : IndexDef) (lists : AllLists) (made : Result Reply E) (docs records failures : ℕ) → def ≡ index.def → lists ≡ index.lists → docs ≡ length index.table.live → failures ≡ index.failures
+    → ((def : IndexDef) (live : List (ℕ × List ℕ)) (all : List Doc) → Has def live lists all → live_records def all ≤ records)
+    → IfOk made (λ reply. reply ≡ info_reply def (record { docs = docs; records = records; failures = failures; cursors = 0 }))
+    → IfOk made (λ reply. (all : List Doc) → Indexes index all → Tells (defined index) all reply)
+told-of index def lists (Err e) docs records failures its of_lists counted failed least made = tt
+told-of index def lists (Ok reply) docs records failures its of_lists counted failed least made = λ all stands.
+    let there = members index.def all in
+    let count : docs ≡ length there = counted ∙ (ap (λ (rows : List (ℕ × List ℕ)). length rows) stands.live ∙ length-map there (λ (doc : Doc). (doc.id, doc.key))) in
+    record {
+      records = records;
+      least = least index.def index.table.live there (subst (λ (ls : AllLists). Has index.def index.table.live ls there) (sym of_lists) stands);
+      same = made ∙ (ap (λ (d : IndexDef). info_reply d (record { docs = docs; records = records; failures = failures; cursors = 0 })) its
+          ∙ (ap (λ (n : ℕ). info_reply index.def (record { docs = n; records = records; failures = failures; cursors = 0 })) count
+          ∙ ap (λ (n : ℕ). info_reply index.def (record { docs = length there; records = records; failures = n; cursors = 0 })) failed));
+    }
+
+-- what is told of an index is told of the documents that it stands for
+pub told-at : {E : Type 0} (index : Index) (made : Result Reply E) (docs : List Doc) → Indexes index docs
+    → IfOk made (λ reply. (all : List Doc) → Indexes index all → Tells (defined index) all reply) → IfOk made (λ reply. Tells (defined index) docs reply)
+told-at index (Ok reply) docs stands tells = tells docs stands
+told-at index (Err e) docs stands tells = tt

@@ -1,0 +1,4 @@
+pub mod ExactLaws
+pub mod IndexCommandLaws
+pub mod InfoLaws
+pub mod SearchLaws

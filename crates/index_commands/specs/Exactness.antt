@@ -1,0 +1,58 @@
+-- How many documents a search reads, and how many records are told of an index: by the store's own count, and the lists'.
+use Rattle.std.specs.Prelude.{◌≡◌, ◌≤◌, ◌⊎◌, ℕ, List, length, Bool, Option, Some, None, find}
+use Rattle.cmd_parse.specs.Read.{Asked, Plain, CreateIndex, AlterIndex, InfoOf, Search}
+use Rattle.ft_base.specs.Reply.{spelling}
+use Rattle.ft_base.specs.declared.doc.Doc.{Doc}
+use Rattle.ft_base.specs.declared.reply.Reply.{Reply}
+use Rattle.ft_base.specs.declared.reply.Reply.TheVariants.{Fault}
+use Rattle.ft_index.specs.Index.{Index}
+use Rattle.ft_machine.specs.Refusals.{out_of_memory}
+use Rattle.index_info.specs.Info.{info_reply}
+use Rattle.index_info.specs.declared.info.Counts.{Counts}
+use Rattle.index_lists.specs.Records.{all_entries}
+use Rattle.indexed_store.specs.Named.{is_named}
+use Rattle.search_exec.specs.Ids.{reads_after, reads_for}
+use Rattle.search_exec.specs.Replies.{found_reply}
+
+-- a refusal is written, or that memory was wanting
+abbrev pub IsRefusal : List ℕ → Type 0
+IsRefusal written = (text : List ℕ) × (written ≡ spelling (Fault text))
+
+-- Documents are shown, and as many were read: those in the window, and none where their fields are left out.
+pub record ReadsShown (no_content : Bool) (written : List ℕ) (old new : ℕ) : Type 0 where
+  pub found : List Doc
+  pub shown : written ≡ spelling (found_reply no_content found)
+  pub reads : new ≡ reads_after old (reads_for no_content (length found))
+
+-- A search has read just what it shows; where it is refused, nothing.
+abbrev pub ReadsRows : Bool → List ℕ → ℕ → ℕ → Type 0
+ReadsRows no_content written old new =
+    ReadsShown no_content written old new
+    ⊎ ((IsRefusal written × (new ≡ old)) ⊎ ((written ≡ spelling out_of_memory) × (old ≤ new)))
+
+-- whatever is asked, it reads no more than that
+abbrev pub ReadsFew : Asked → List ℕ → ℕ → ℕ → Type 0
+ReadsFew (Plain verb args) written old new = Unit {0}
+ReadsFew (CreateIndex index) written old new = Unit {0}
+ReadsFew (AlterIndex index fields) written old new = Unit {0}
+ReadsFew (InfoOf index) written old new = Unit {0}
+ReadsFew (Search index query no_content params) written old new = ReadsRows no_content written old new
+
+-- What is told of an index has as many records as its lists have entries.
+pub record TellsEntries (index : Index) (reply : Reply) : Type 0 where
+  pub counts : Counts
+  pub same : reply ≡ info_reply index.def counts
+  pub records : counts.records ≡ all_entries index.lists
+
+-- the same of what is written, unless it is a refusal
+abbrev pub TellsOf : Option Index → List ℕ → Type 0
+TellsOf None written = Unit {0}
+TellsOf (Some index) written = ((reply : Reply) × TellsEntries index reply × (written ≡ spelling reply)) ⊎ IsRefusal written
+
+-- whatever is asked, FT.INFO tells as many
+abbrev pub TellsExactly : Asked → List Index → List ℕ → Type 0
+TellsExactly (Plain verb args) indexes written = Unit {0}
+TellsExactly (CreateIndex index) indexes written = Unit {0}
+TellsExactly (AlterIndex index fields) indexes written = Unit {0}
+TellsExactly (InfoOf index) indexes written = TellsOf (find (is_named index) indexes) written
+TellsExactly (Search index query no_content params) indexes written = Unit {0}

@@ -1,0 +1,98 @@
+//! FT._LIST and FT.TAGVALS.
+ghost use Rattle.reply_buffer.specs.declared.short_reply.TheConstants.{SHORT_REPLY};
+ghost use Rattle.std.specs.Prelude.{◌≡◌, ◌<◌, ◌≤◌, ℕ, [], length, map, vec_capacity, IfOk, IsTrue};
+ghost use Rattle.std.specs.List.{All, find};
+ghost use Rattle.std.specs.Option.{option_copied};
+ghost use Rattle.cmd_parse.specs.Read.{Plain};
+ghost use Rattle.cmd_parse.specs.declared.command.Verb.TheVariants.{TagVals};
+ghost use Rattle.ft_base.specs.Reply.{fits_wire};
+ghost use Rattle.ft_base.specs.declared.doc.Doc.{Doc};
+ghost use Rattle.ft_base.specs.declared.reply.Reply.TheVariants.{Array, Bulk};
+ghost use Rattle.ft_machine.specs.Indexes.{listed, tag_field};
+ghost use Rattle.ft_machine.specs.Machine.{State};
+ghost use Rattle.ft_machine.specs.Step.{Does};
+ghost use Rattle.ft_index.specs.Index.{Index};
+ghost use Rattle.indexed_store.specs.DefinitionsOf.{definitions_of};
+ghost use Rattle.tag_values.specs.Values.{tag_values};
+
+use ft_base::{Field, IndexDef, ListOf, NoMemory, Reply, Words};
+use ft_index::FtIndex;
+use hash_store::HashStore;
+use indexed_store::index_named;
+use reply_buffer::{put_fault, put_made};
+use std::alloc::Global;
+use tag_values::tag_values;
+
+/// The names of the indexes, in order of creation.
+pub fn names_of_indexes(indexes: &[FtIndex], alloc: Global) -> Result<Reply, NoMemory>
+    ensures reply { IfOk result (λ reply. reply ≡ listed (definitions_of indexes.now)) }
+    ensures fits { IfOk result (λ reply. IsTrue (fits_wire reply)) }
+{
+    let names = bulks_of_names(indexes, alloc)?;
+    Ok(Reply::Array(names))
+}
+
+fn bulks_of_names(indexes: &[FtIndex], alloc: Global) -> Result<ListOf<Reply>, NoMemory>
+    ensures { IfOk result (λ names. names
+        ≡ map (λ (index : Index). Bulk index.def.name) indexes.now) }
+{
+    let mut names = Vec::new(alloc);
+    for index in indexes {
+        names.push(Reply::Bulk(index.def().name.clone()?))?;
+    }
+    Ok(ListOf::from_vec(names))
+}
+
+/// Does FT.TAGVALS, and writes the reply.
+pub fn answer_tag_vals(
+    store: &mut HashStore,
+    indexes: &[FtIndex],
+    alloc: Global,
+    args: &Words<'_>,
+    out: &mut Vec<u8>,
+)
+    requires number { length args.now ≡ 2 }
+    requires ids { All (λ (doc : Doc). 0 < doc.id) store.old.space }
+    requires empty { out.old.items ≡ [] }
+    requires room { SHORT_REPLY ≤ vec_capacity out.old }
+    ensures does { (number : ℕ) (state : State) → state.space ≡ store.old.space
+        → state.definitions ≡ definitions_of indexes.now
+        → Does (Plain TagVals args.now) number state out.new.items state }
+    ensures space { store.new.space ≡ store.old.space }
+    ensures last { store.new.last ≡ store.old.last }
+    ensures room { SHORT_REPLY ≤ vec_capacity out.new }
+{
+    let Some(index) = index_named(indexes, args.word(0)) else {
+        return put_fault(out, b"Unknown index name");
+    };
+    let def = index.def();
+    let Some(field) = tag_field(def.fields.as_slice(), args.word(1)) else {
+        return put_fault(out, b"Unknown field at word 2");
+    };
+    put_made(tags_reply(store, alloc, def, field), out);
+}
+
+/// The distinct tags of a field over an index's members.
+fn tags_reply(
+    store: &mut HashStore,
+    alloc: Global,
+    def: &IndexDef,
+    field: &Field,
+) -> Result<Reply, NoMemory>
+    requires ids { All (λ (doc : Doc). 0 < doc.id) store.old.space }
+    ensures reply { IfOk result (λ reply. reply
+        ≡ Array (map Bulk (tag_values def.now field.now store.old.space))) }
+    ensures fits { IfOk result (λ reply. IsTrue (fits_wire reply)) }
+    ensures space { store.new.space ≡ store.old.space }
+    ensures last { store.new.last ≡ store.old.last }
+{
+    let tags = tag_values(alloc, store, def, field)?;
+    Ok(Reply::Array(tags))
+}
+
+/// The TAG field of an alias.
+fn tag_field<'a>(fields: &'a [Field], alias: &[u8]) -> Option<&'a Field>
+    ensures { option_copied result ≡ tag_field fields.now alias.now }
+{
+    fields.iter().find(|field| field.kind.is_tag() && alias == field.alias.as_slice())
+}

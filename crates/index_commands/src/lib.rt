@@ -1,0 +1,19 @@
+//! The commands of indexes: FT.CREATE, FT.ALTER, FT.DROPINDEX, FT._LIST, FT.TAGVALS, FT.INFO and FT.SEARCH.
+//!
+//! Each writes its reply; those that change an index answer the change, of which nothing is seen yet. What each gives is
+//! defined in `ft_machine`. Read `definitions.rt` first, then `search.rt`, `info.rt` and `index_reads.rt`.
+#![tactic(auto)]
+
+mod definitions;
+mod index_reads;
+mod info;
+mod search;
+
+/// FT.CREATE, FT.ALTER and FT.DROPINDEX.
+pub use definitions::{alter, create, drop_named};
+/// FT._LIST and FT.TAGVALS.
+pub use index_reads::{answer_tag_vals, names_of_indexes};
+/// FT.INFO.
+pub use info::answer_info;
+/// FT.SEARCH.
+pub use search::answer_search;

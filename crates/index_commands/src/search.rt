@@ -1,0 +1,113 @@
+//! FT.SEARCH: the query is parsed by the fields of its index, and answered by its plan. The store is
+//! read for the documents that are shown with their fields, and for no other.
+ghost use Rattle.reply_buffer.specs.declared.short_reply.TheConstants.{SHORT_REPLY};
+ghost use Rattle.std.specs.Prelude.{◌≡◌, ◌<◌, ◌≤◌, ◌^◌, ℕ, [], length, vec_capacity, IfOk, IsTrue, OnOk};
+ghost use Rattle.std.specs.List.{All};
+ghost use Rattle.cmd_parse.specs.Read.{Search};
+ghost use Rattle.ft_base.specs.Reply.{fits_wire};
+ghost use Rattle.ft_base.specs.declared.doc.Doc.{Doc};
+ghost use Rattle.ft_base.specs.declared.limits.TheConstants.{MAX_WORD_BYTES};
+ghost use Rattle.ft_machine.specs.Machine.{State};
+ghost use Rattle.index_commands.specs.Searchable.{IsSearchable};
+ghost use Rattle.ft_machine.specs.Step.{Does};
+ghost use Rattle.ft_index.specs.Index.{Indexes, IsIndex};
+ghost use Rattle.ft_meaning.specs.Holds.{found_of};
+ghost use Rattle.ft_meaning.specs.Meaning.{ValuesFit};
+ghost use Rattle.indexed_store.specs.DefinitionsOf.{definitions_of};
+ghost use Rattle.index_commands.specs.Exactness.{ReadsRows};
+ghost use Rattle.search_exec.specs.Ids.{reads_after, reads_for};
+ghost use Rattle.search_exec.specs.Replies.{found_reply};
+
+use cmd_parse::SearchSpec;
+use ft_base::{ListOf, NoMemory, Query, Reply, Steps};
+use ft_index::FtIndex;
+use hash_store::HashStore;
+use id_iters::Hints;
+use indexed_store::index_named;
+use query_parse::parse;
+use query_plan::plan;
+use reply_buffer::{put_fault, put_made, put_query_refusal};
+use search_exec::search_index;
+use std::alloc::Global;
+use std::marker::Brand;
+use std::sync::ledger::{Blank, Ledger};
+
+/// Searches an index, and writes the reply.
+pub fn answer_search(
+    store: &mut HashStore,
+    indexes: &[FtIndex],
+    alloc: Global,
+    search: &SearchSpec<'_>,
+    out: &mut Vec<u8>,
+)
+    requires query { length search.now.query.now ≤ MAX_WORD_BYTES }
+    requires searchable { IsSearchable store.old indexes.now }
+    requires empty { out.old.items ≡ [] }
+    requires room { SHORT_REPLY ≤ vec_capacity out.old }
+    ensures does { (number : ℕ) (state : State) → state.space ≡ store.old.space
+        → state.definitions ≡ definitions_of indexes.now
+        → Does (Search search.now.index.now search.now.query.now search.now.no_content search.now.params)
+        number state out.new.items state }
+    ensures space { store.new.space ≡ store.old.space }
+    ensures last { store.new.last ≡ store.old.last }
+
+    // No more is read than is shown.
+    ensures reads { ReadsRows search.now.no_content out.new.items store.old.reads store.new.reads }
+
+    ensures room { SHORT_REPLY ≤ vec_capacity out.new }
+{
+    let Some(index) = index_named(indexes, search.index) else {
+        return put_fault(out, b"Unknown index name");
+    };
+    match parse(alloc, search.query, index.def(), &search.params) {
+        Ok(query) => {
+            let no_content = search.no_content;
+            put_made(
+                found_in::<Brand>(store, index, alloc, &query, no_content, Blank::new(1)),
+                out,
+            );
+        }
+        Err(fault) => put_query_refusal(fault, out),
+    }
+}
+
+/// What a query finds in an index.
+fn found_in<L: Ledger>(
+    store: &mut HashStore,
+    index: &FtIndex,
+    alloc: Global,
+    query: &Query,
+    no_content: bool,
+    blank: Blank,
+) -> Result<Reply, NoMemory>
+    requires name { blank.name ≡ L.name }
+    requires parts { blank.parts ≡ L.parts }
+    requires some { 0 < L.parts }
+    requires stands { Indexes index.now store.old.space }
+    requires sound { IsIndex index.now }
+    requires few { index.now.table.last < 2 ^ 62 }
+    requires values { All (λ (doc : Doc). ValuesFit doc.hash) store.old.space }
+    ensures reply { IfOk result (λ reply. reply
+        ≡ found_reply no_content (found_of query.now index.now.def store.old.space)) }
+    ensures fits { IfOk result (λ reply. IsTrue (fits_wire reply)) }
+    ensures space { store.new.space ≡ store.old.space }
+    ensures last { store.new.last ≡ store.old.last }
+    ensures reads { OnOk result (store.new.reads ≡ reads_after store.old.reads
+        (reads_for no_content (length (found_of query.now index.now.def store.old.space)))) }
+    ensures rises { store.old.reads ≤ store.new.reads }
+{
+    // Tells that the ids of the documents rise.
+    let _count = store.len();
+    let mut steps = Steps::<L>::new(blank);
+    let hints = Hints(ListOf::new(alloc));
+    let iter = plan(alloc, index, query, &hints, 0, &mut steps)?;
+    search_index(
+        alloc,
+        index,
+        index.table(),
+        store,
+        iter,
+        no_content,
+        &mut steps,
+    )
+}

@@ -1,0 +1,15 @@
+use Rattle.std.proofs.Common.{◌∙◌, ap, sym}
+use Rattle.cmd_parse.specs.declared.command.CmdFault.{CmdFault}
+use Rattle.ft_base.specs.Reply.{spelling}
+use Rattle.ft_base.specs.declared.reply.Reply.TheVariants.{Fault}
+use Rattle.ft_machine.specs.Refusals.{refusal}
+use Rattle.reply_buffer.proofs.refusals.put_refusal.Goals as goal
+
+pub returns-in-NotInteger-clause-fault : goal.returns-in-NotInteger-clause-fault
+returns-in-NotInteger-clause-fault c = c.put_fault-in-NotInteger.ensures.fault ∙ ap (λ (f : CmdFault). spelling (Fault (refusal c.args.name.now f))) (sym c.in-NotInteger.is)
+
+pub returns-in-BadDb-clause-fault : goal.returns-in-BadDb-clause-fault
+returns-in-BadDb-clause-fault c = c.put_fault-in-BadDb.ensures.fault ∙ ap (λ (f : CmdFault). spelling (Fault (refusal c.args.name.now f))) (sym c.in-BadDb.is)
+
+pub returns-in-NotBuilt-clause-fault : goal.returns-in-NotBuilt-clause-fault
+returns-in-NotBuilt-clause-fault c = c.put_fault-in-NotBuilt.ensures.fault ∙ ap (λ (f : CmdFault). spelling (Fault (refusal c.args.name.now f))) (sym c.in-NotBuilt.is)
