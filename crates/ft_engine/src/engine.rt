@@ -1,5 +1,6 @@
 //! The engine: a state of the machine, and the events that lead from one to the next.
-ghost use Rattle.std.specs.Prelude.{◌≡◌, ◌≢◌, ◌<◌, ◌≤◌, ◌^◌, Ok, Err, [], true, false, length, vec_capacity, IfOk, IsTrue};
+ghost use Rattle.std.specs.Prelude.{◌≡◌, ◌≢◌, ◌<◌, ◌≤◌, ◌⊎◌, ◌^◌, Ok, Err, [], true, false, length, vec_capacity, IfOk, IsTrue};
+ghost use Rattle.ft_base.specs.Reply.{spelling};
 ghost use Rattle.ft_base.specs.Words.{KeepsLimits};
 ghost use Rattle.cmd_parse.specs.Lawful.{HasSerial};
 ghost use Rattle.cmd_parse.specs.Read.{Asked, IsReading, command_of, read};
@@ -10,6 +11,7 @@ ghost use Rattle.ft_engine.specs.Quiet.{IsQuiet};
 ghost use Rattle.ft_engine.specs.Stands.{IsIndexed, opened};
 ghost use Rattle.engine_changes.specs.declared.change.Change.TheVariants.{Nothing};
 ghost use Rattle.index_commands.specs.Exactness.{IsRefusal, ReadsFew, TellsExactly};
+ghost use Rattle.ft_machine.specs.Refusals.{out_of_memory};
 ghost use Rattle.ft_machine.specs.Step.{Answers, At, Does, next_number};
 
 use crate::prepared::Prepared;
@@ -155,6 +157,8 @@ impl Engine {
         ensures reads { ReadsFew (command_of command.entry) out.new.items self.old.reads self.new.reads }
         ensures records { TellsExactly (command_of command.entry) self.old.indexes out.new.items }
         ensures quiet { IsQuiet (command_of command.entry) result.change }
+        // Where nothing changes, nothing is entered into an index either.
+        ensures still { is_change result.change ≡ false → (out.new.items ≡ spelling out_of_memory) ⊎ (self.new.indexes ≡ self.old.indexes) }
         ensures room { 64 ≤ vec_capacity out.new }
     {
         // Tells that the keys differ.

@@ -1,14 +1,16 @@
 //! The plain commands, each given to the call that does it.
 ghost use Rattle.hash_commands.specs.declared.removals.TheConstants.{MOST_COUNTED};
 ghost use Rattle.reply_buffer.specs.declared.short_reply.TheConstants.{SHORT_REPLY};
-ghost use Rattle.std.specs.Prelude.{◌≤◌, ◌+◌, ◌<◌, ◌^◌, ℕ, ◌≡◌, [], vec_capacity};
+ghost use Rattle.std.specs.Prelude.{◌≤◌, ◌+◌, ◌<◌, ◌^◌, ℕ, ◌≡◌, [], vec_capacity, ◌⊎◌, false};
+ghost use Rattle.ft_base.specs.Reply.{spelling};
 ghost use Rattle.cmd_parse.specs.Lawful.{Lawful};
 ghost use Rattle.cmd_parse.specs.Read.{Plain};
 ghost use Rattle.cmd_parse.specs.Asking.{AreWords};
-ghost use Rattle.engine_changes.specs.Changing.{IsReady, changed};
+ghost use Rattle.engine_changes.specs.Changing.{IsReady, changed, is_change};
 ghost use Rattle.indexed_store.specs.Standing.{InStep};
 ghost use Rattle.indexed_store.specs.DefinitionsOf.{definitions_of};
 ghost use Rattle.engine_changes.specs.States.{state_of};
+ghost use Rattle.ft_machine.specs.Refusals.{out_of_memory};
 ghost use Rattle.ft_machine.specs.Step.{Does};
 
 use cmd_parse::Verb;
@@ -46,6 +48,7 @@ pub fn prepare_plain<'a>(
     ensures definitions { definitions_of indexes.new ≡ definitions_of indexes.old }
     ensures kept { InStep store.new indexes.new (number + 1) }
     ensures ready { IsReady result number store.new.space store.new.ready indexes.new }
+    ensures still { is_change result ≡ false → (out.new.items ≡ spelling out_of_memory) ⊎ (indexes.new ≡ indexes.old) }
     ensures ids { MOST_COUNTED ≤ vec_capacity ids.new }
     ensures room { SHORT_REPLY ≤ vec_capacity out.new }
 {

@@ -1,14 +1,16 @@
 //! What a command asks is prepared: the reply is written, and what it needs is made ready.
 ghost use Rattle.hash_commands.specs.declared.removals.TheConstants.{MOST_COUNTED};
 ghost use Rattle.reply_buffer.specs.declared.short_reply.TheConstants.{SHORT_REPLY};
-ghost use Rattle.std.specs.Prelude.{◌≡◌, ◌<◌, ◌≤◌, ◌+◌, ◌^◌, ℕ, [], vec_capacity};
+ghost use Rattle.std.specs.Prelude.{◌≡◌, ◌<◌, ◌≤◌, ◌+◌, ◌^◌, ℕ, [], vec_capacity, ◌⊎◌, false};
+ghost use Rattle.ft_base.specs.Reply.{spelling};
 ghost use Rattle.cmd_parse.specs.Read.{command_of};
 ghost use Rattle.cmd_parse.specs.Asking.{IsAsked};
-ghost use Rattle.engine_changes.specs.Changing.{IsReady, changed};
+ghost use Rattle.engine_changes.specs.Changing.{IsReady, changed, is_change};
 ghost use Rattle.indexed_store.specs.Standing.{InStep};
 ghost use Rattle.indexed_store.specs.DefinitionsOf.{definitions_of};
 ghost use Rattle.engine_changes.specs.States.{state_of};
 ghost use Rattle.ft_engine.specs.Quiet.{IsQuiet};
+ghost use Rattle.ft_machine.specs.Refusals.{out_of_memory};
 ghost use Rattle.ft_machine.specs.Step.{Does};
 ghost use Rattle.index_commands.specs.Exactness.{ReadsFew, TellsExactly};
 
@@ -46,6 +48,7 @@ pub fn prepare_command<'a>(
     ensures reads { ReadsFew (command_of command.entry) out.new.items store.old.reads store.new.reads }
     ensures records { TellsExactly (command_of command.entry) indexes.old out.new.items }
     ensures quiet { IsQuiet (command_of command.entry) result }
+    ensures still { is_change result ≡ false → (out.new.items ≡ spelling out_of_memory) ⊎ (indexes.new ≡ indexes.old) }
     ensures ids { MOST_COUNTED ≤ vec_capacity ids.new }
     ensures room { SHORT_REPLY ≤ vec_capacity out.new }
 {

@@ -1,14 +1,16 @@
 //! HDEL.
 ghost use Rattle.reply_buffer.specs.declared.short_reply.TheConstants.{SHORT_REPLY};
-ghost use Rattle.std.specs.Prelude.{◌≡◌, ◌<◌, ◌≤◌, ◌+◌, ◌-◌, ℕ, [], length, vec_capacity, IfOk, nat_lt};
+ghost use Rattle.std.specs.Prelude.{◌≡◌, ◌<◌, ◌≤◌, ◌+◌, ◌-◌, ℕ, [], length, vec_capacity, IfOk, nat_lt, ◌⊎◌, false};
 ghost use Rattle.cmd_parse.specs.Read.{Plain};
 ghost use Rattle.cmd_parse.specs.declared.command.Verb.TheVariants.{Hdel};
+ghost use Rattle.ft_base.specs.Reply.{spelling};
 ghost use Rattle.ft_base.specs.Space.{doc_of};
 ghost use Rattle.ft_machine.specs.Machine.{State};
-ghost use Rattle.engine_changes.specs.Changing.{IsReady, changed};
+ghost use Rattle.engine_changes.specs.Changing.{IsReady, changed, is_change};
 ghost use Rattle.indexed_store.specs.Standing.{InStep};
 ghost use Rattle.indexed_store.specs.DefinitionsOf.{definitions_of};
 ghost use Rattle.engine_changes.specs.States.{state_of};
+ghost use Rattle.ft_machine.specs.Refusals.{out_of_memory};
 ghost use Rattle.ft_machine.specs.Step.{Does};
 ghost use Rattle.ft_machine.specs.Writes.{fields_gone, without_fields};
 ghost use Rattle.hash_replies.specs.Reads.{hash_in};
@@ -42,6 +44,7 @@ pub fn hdel<'a>(
     ensures definitions { definitions_of indexes.new ≡ definitions_of indexes.old }
     ensures kept { InStep store.new indexes.new (id + 1) }
     ensures ready { IsReady result id store.new.space store.new.ready indexes.new }
+    ensures still { is_change result ≡ false → (out.new.items ≡ spelling out_of_memory) ⊎ (indexes.new ≡ indexes.old) }
     ensures room { SHORT_REPLY ≤ vec_capacity out.new }
 {
     let fields = args.rest(1);
@@ -75,6 +78,7 @@ fn take_fields<'a>(
     ensures space { store.new.space ≡ store.old.space }
     ensures kept { InStep store.new indexes.new (id + 1) }
     ensures definitions { definitions_of indexes.new ≡ definitions_of indexes.old }
+    ensures still { IfOk result (λ made. is_change made.0 ≡ false → indexes.new ≡ indexes.old) }
 {
     let (before, left) = left_of(store, alloc, key, fields)?;
     let gone = before - left.len();

@@ -1,19 +1,21 @@
 //! HINCRBY.
 ghost use Rattle.reply_buffer.specs.declared.short_reply.TheConstants.{SHORT_REPLY};
-ghost use Rattle.std.specs.Prelude.{◌≡◌, ◌<◌, ◌≤◌, ◌+◌, ◌-◌, ℕ, Some, [], length, vec_capacity, IfOk, IsSome, OnOk};
+ghost use Rattle.std.specs.Prelude.{◌≡◌, ◌<◌, ◌≤◌, ◌+◌, ◌-◌, ℕ, Some, [], length, vec_capacity, IfOk, IsSome, OnOk, ◌⊎◌, false};
 ghost use Rattle.std.specs.Fmt.{signed_decimal};
 ghost use Rattle.cmd_parse.specs.Read.{Plain};
 ghost use Rattle.cmd_parse.specs.declared.command.Verb.TheVariants.{Hincrby};
+ghost use Rattle.ft_base.specs.Reply.{spelling};
 ghost use Rattle.ft_base.specs.Hash.{set_field};
 ghost use Rattle.ft_base.specs.Number.{int_of};
 ghost use Rattle.ft_base.specs.Space.{doc_of};
 ghost use Rattle.cmd_parse.specs.Asking.{AreWords};
 ghost use Rattle.ft_machine.specs.Arguments.{third};
-ghost use Rattle.engine_changes.specs.Changing.{IsReady, changed};
+ghost use Rattle.engine_changes.specs.Changing.{IsReady, changed, is_change};
 ghost use Rattle.indexed_store.specs.Writing.{Waits};
 ghost use Rattle.indexed_store.specs.Standing.{InStep};
 ghost use Rattle.indexed_store.specs.DefinitionsOf.{definitions_of};
 ghost use Rattle.engine_changes.specs.States.{state_of};
+ghost use Rattle.ft_machine.specs.Refusals.{out_of_memory};
 ghost use Rattle.ft_machine.specs.Step.{Does};
 ghost use Rattle.hash_replies.specs.Reads.{hash_in};
 
@@ -49,6 +51,7 @@ pub fn hincrby<'a>(
     ensures definitions { definitions_of indexes.new ≡ definitions_of indexes.old }
     ensures kept { InStep store.new indexes.new (id + 1) }
     ensures ready { IsReady result id store.new.space store.new.ready indexes.new }
+    ensures still { is_change result ≡ false → (out.new.items ≡ spelling out_of_memory) ⊎ (indexes.new ≡ indexes.old) }
     ensures room { SHORT_REPLY ≤ vec_capacity out.new }
 {
     let (key, field) = (args.word(0), args.word(1));

@@ -1,4 +1,4 @@
-use Rattle.std.proofs.Common.{refl}
+use Rattle.std.proofs.Common.{inr, refl}
 use Rattle.cmd_parse.specs.declared.command.Verb.TheVariants.{Del, DropIndex, Flushall, ListIndexes, TagVals}
 use Rattle.engine_changes.specs.States.{state_of}
 use Rattle.index_commands.proofs.IndexCommandLaws.{ids-above, list-told}
@@ -51,6 +51,7 @@ returns-in_default c = record {
   definitions = refl;
   kept = in_step-read c.args.store.now c.answer_plain.new.store c.args.indexes.now c.args.number c.answer_plain.ensures.space c.answer_plain.ensures.last c.requires.kept;
   ready = tt;
+  still = λ nothing. inr refl;
   ids = c.requires.ids;
   room = c.answer_plain.ensures.room;
 }

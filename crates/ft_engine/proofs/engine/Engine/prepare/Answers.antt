@@ -1,4 +1,4 @@
-use Rattle.std.proofs.Common.{◌++◌, refl, inr, ap, arith, false, true, subst, sym, drop, take, ◌∙◌}
+use Rattle.std.proofs.Common.{◌++◌, refl, inl, inr, ap, arith, false, true, subst, sym, drop, take, ◌∙◌}
 use Rattle.std.specs.Prelude.{◌≡◌, ◌+◌, Bool, List, length, map, max}
 use Rattle.std.specs.List.{IsDistinct}
 use Rattle.std.specs.Str.{bytes_eq}
@@ -62,3 +62,13 @@ returns-clause-answer c =
     ∙ (ap (λ (ds : List Defined). record { space = store.space; definitions = ds; latest = c.max.result }) defined ∙ ap (state_of store old) latest) in
     stepped (command_of c.args.command) c.self.inside.next c.args.self.now.next c.args.now c.self.inside.latest (state_of store old) (λ (s : State). changed made.result made.new.store.ready s) c.args.self.now.state next
     made.new.out.items (sym (ap (λ (e : Stands). e.next) c.self.view_is)) (omega (arith, c.if-self-ge-LAST_NUMBER.false)) (sym (ap (λ (e : Stands). e.state) c.self.view_is) ∙ ap (λ (is : List Index). state_of store is c.self.inside.latest) (sym lent)) refl same made.ensures.does
+
+pub returns-clause-still : goal.returns-clause-still
+returns-clause-still c nothing =
+    let made = c.prepare_command-change in
+    let now = made.new.indexes in
+    let whole : length now ≡ c.self.inside.indexes.len = omega (arith, made.auto.indexes, c.as_mut_slice.ensures.len) in
+    elim (made.ensures.still nothing) [
+      | inl want ↦ inl want
+      | inr same ↦ inr (take_at now (drop (length now) c.self.inside.indexes.items) c.self.inside.indexes.len whole ∙ (same ∙ (c.as_mut_slice.ensures.value ∙ ap (λ (e : Stands). e.indexes) c.self.view_is)))
+    ]
