@@ -147,11 +147,11 @@ fn reads_words_as_the_index_has_them(rt: HostRuntime) -> Result<(), Fail> {
     Ok(())
 }
 
-// The first of some searches over so many documents with rising numbers that is answered otherwise.
-fn differs_over(alloc: Global, count: u32, rows: &[(&str, &str)]) -> Result<String, NoMemory> {
+// The first of some searches that is answered otherwise, over documents with the numbers from 1 up to before the end.
+fn differs_over(alloc: Global, end: u32, rows: &[(&str, &str)]) -> Result<String, NoMemory> {
     let mut session = begin(alloc)?;
     said_to(alloc, &mut session, b"FT.CREATE/ix/SCHEMA/n/NUMERIC")?;
-    for number in 1..count + 1 {
+    for number in 1..end {
         let line = format!(in alloc; "HSET/d{number}/n/{number}")?;
         said_to(alloc, &mut session, line.as_bytes())?;
     }
@@ -169,7 +169,7 @@ fn differs_over(alloc: Global, count: u32, rows: &[(&str, &str)]) -> Result<Stri
 fn finds_numbers_of_a_range_that_split(rt: HostRuntime) -> Result<(), Fail> {
     let differs = differs_over(
         rt.alloc(),
-        1_025,
+        1_026,
         &[
             (
                 "FT.SEARCH/ix/@n:[512 513]/NOCONTENT",
