@@ -114,8 +114,8 @@ def check_crate(crate, architecture, wrong_bodies, faults):
             faults.append(f"docs/WRONG_BODIES.md: no row of `{crate}` and `{edit.stem}`")
 
 
-# The definitions that the clause of the program's `run` cites.
-CITED = ("Ends", "FaultText", "Script", "Session", "Status")
+# The definitions that the clauses of the program's `run` cite.
+CITED = ("Ends", "FaultText", "Limits", "Script", "Session", "Status")
 USED = re.compile(r"^use Rattle\.(\w+)\.specs\.(\w+)", re.M)
 LISTED = re.compile(r"`(?:crates/(\w+)/specs/)?(\w+)\.antt`")
 

@@ -3,9 +3,8 @@ use Rattle.std.proofs.Common.{◌≡◌, ℕ, zero, suc, Bool, true, false, not,
 use Rattle.std.proofs.Math.ListN.{drop_of_length-le}
 use Rattle.std.proofs.lemmas.List.{take_more}
 use Rattle.std.proofs.lemmas.Map.Text.{is_eq-slice_cmp}
-use Rattle.std.proofs.lemmas.Slice.Eq.{bytes_eq-Decides}
 use Rattle.std.specs.BTreeSet.{BTreeSet, contains_by, Updates}
-use Rattle.std.specs.Cmp.Lexicographic.{slice_cmp}
+use Rattle.std.specs.Cmp.Lexicographic.{nat_list_eq_equiv, slice_cmp}
 use Rattle.std.specs.List.{list_any}
 use Rattle.std.specs.Ordering.{is_eq, nat_cmp}
 use Rattle.std.specs.declared.cmp.Ordering.{Ordering}
@@ -59,20 +58,6 @@ knows_none words first names none = record {
   same = rw add-zero refl;
 }
 
--- equal bytes are so either way
-pub flips : (a b : List ℕ) → bytes_eq a b ≡ bytes_eq b a
-flips a b = by_tests (bytes_eq a b) (bytes_eq b a) refl refl
-  where
-    by_tests : (x y : Bool) → bytes_eq a b ≡ x → bytes_eq b a ≡ y → x ≡ y
-    by_tests true true p q = refl
-    by_tests false false p q = refl
-    by_tests true false p q =
-        let equal : bytes_eq b a ≡ true = (bytes_eq-Decides b a).1 (sym ((bytes_eq-Decides a b).0 p)) in
-        absurd (cc)
-    by_tests false true p q =
-        let equal : bytes_eq a b ≡ true = (bytes_eq-Decides a b).1 (sym ((bytes_eq-Decides b a).0 q)) in
-        absurd (cc)
-
 -- the order of names that the set goes by
 abbrev by_bytes : Bor (List ℕ) → Bor (List ℕ) → Ordering
 by_bytes x y = slice_cmp nat_cmp x.now y.now
@@ -106,7 +91,7 @@ goes-on words first k names more name knows within is new updates =
       before = get_or words (2 * k) [] ∷ knows.before;
       known = λ other.
           updates.0 (record { ref_ptr = (0, 0); now = other })
-          ∙ (ap (λ b. cond b true (contains_by (λ (k : Bor (List ℕ)). slice_cmp nat_cmp other k.now) names)) (is_eq-slice_cmp name.now other ∙ (flips name.now other ∙ ap (bytes_eq other) is))
+          ∙ (ap (λ b. cond b true (contains_by (λ (k : Bor (List ℕ)). slice_cmp nat_cmp other k.now) names)) (is_eq-slice_cmp name.now other ∙ (nat_list_eq_equiv.symm name.now other ∙ ap (bytes_eq other) is))
           ∙ (ap (λ b. cond (bytes_eq other (get_or words (2 * k) [])) true b) (knows.known other) ∙ cond-or (bytes_eq other (get_or words (2 * k) [])) (list_any (bytes_eq other) knows.before)));
       same =
           ap (λ at. first_repeat at (get_or words (2 * k) [] ∷ knows.before) (drop (k + 1) (params_of words))) (sym place)

@@ -1,22 +1,19 @@
 -- What a search asks is made of its words: the names of its parameters differ, and each word of them is among the command's.
-use Rattle.std.proofs.Common.{◌≡◌, ℕ, Bool, true, false, cond, List, [], ◌∷◌, ◌||◌, ◌+◌, Option, Some, None, Result, Ok, Err, length, drop, map, get_or, refl, ◌∙◌, subst, arith}
+use Rattle.std.proofs.Common.{◌≡◌, ℕ, Bool, true, false, cond, List, [], ◌∷◌, ◌+◌, Option, Some, None, Result, Ok, Err, length, drop, map, get_or, refl, ◌∙◌, subst, arith}
+use Rattle.std.proofs.lemmas.Bool.{or_parts}
 use Rattle.std.proofs.lemmas.List.Elements.{All-from_recursion, Contains-append_right}
+use Rattle.std.specs.Cmp.Lexicographic.{nat_list_eq_equiv}
 use Rattle.std.specs.List.{AllByRecursion, Contains, IsDistinct, list_any}
 use Rattle.std.specs.Prelude.{codes, ◌&&◌}
 use Rattle.std.specs.Str.{bytes_eq}
 use Rattle.ft_base.specs.Names.{is_name}
 use Rattle.ft_base.specs.Number.{int_of}
 use Rattle.ft_base.specs.declared.query.Param.{Param}
-use Rattle.cmd_parse.proofs.PairLaws.{flips}
 use Rattle.cmd_parse.specs.declared.command.CmdFault.{CmdFault}
 use Rattle.cmd_parse.specs.declared.command.CmdFault.TheVariants.{NotBuilt}
 use Rattle.cmd_parse.specs.Lawful.{AreParams, IsLawful}
 use Rattle.cmd_parse.specs.Read.{Asked, Search, search, searched}
 use Rattle.cmd_parse.specs.Search.{counts_pairs, is_no_content, params_at, params_behind, params_of, first_repeat, unless_repeated}
-
-or_parts : (a b : Bool) → (a || b) ≡ false → (a ≡ false) × (b ≡ false)
-or_parts true b e = absurd (cc)
-or_parts false b e = (refl, e)
 
 -- names that are none of those before and not this one
 apart : (name : List ℕ) (before names : List (List ℕ)) → AllByRecursion (λ other. list_any (bytes_eq other) (name ∷ before) ≡ false) names
@@ -25,7 +22,7 @@ apart name before [] each = (tt, tt)
 apart name before (other ∷ names) each =
     let here = or_parts (bytes_eq other name) (list_any (bytes_eq other) before) each.0 in
     let others = apart name before names each.1 in
-    ((flips name other ∙ here.0, others.0), (here.1, others.1))
+    ((nat_list_eq_equiv.symm name other ∙ here.0, others.0), (here.1, others.1))
 
 abbrev names_of : List Param → List (List ℕ)
 names_of params = map (λ (param : Param). param.name) params

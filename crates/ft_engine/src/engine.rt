@@ -126,7 +126,7 @@ impl Engine {
             → TellsExactly asks self.old.indexes out.new.items }
 
         ensures free { self.new.pending ≡ false }
-        ensures room { 64 ≤ vec_capacity out.new }
+        ensures room { vec_capacity out.old ≤ vec_capacity out.new }
     {
         match read_command(self.alloc, words.rest(0), self.next) {
             Ok(command) => {
@@ -159,7 +159,7 @@ impl Engine {
         ensures quiet { IsQuiet (command_of command.entry) result.change }
         // Where nothing changes, nothing is entered into an index either.
         ensures still { is_change result.change ≡ false → (out.new.items ≡ spelling out_of_memory) ⊎ (self.new.indexes ≡ self.old.indexes) }
-        ensures room { 64 ≤ vec_capacity out.new }
+        ensures room { vec_capacity out.old ≤ vec_capacity out.new }
     {
         // Tells that the keys differ.
         let _count = self.store.len();
@@ -229,7 +229,7 @@ impl Engine {
         ensures next { self.new.next ≡ next_number self.old.next }
         ensures indexed { IsIndexed self.new }
         ensures free { self.new.pending ≡ false }
-        ensures room { 64 ≤ vec_capacity out.new }
+        ensures room { vec_capacity out.old ≤ vec_capacity out.new }
     {
         // Tells that the keys differ.
         let _count = self.store.len();

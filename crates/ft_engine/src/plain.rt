@@ -50,7 +50,7 @@ pub fn prepare_plain<'a>(
     ensures ready { IsReady result number store.new.space store.new.ready indexes.new }
     ensures still { is_change result ≡ false → (out.new.items ≡ spelling out_of_memory) ⊎ (indexes.new ≡ indexes.old) }
     ensures ids { MOST_COUNTED ≤ vec_capacity ids.new }
-    ensures room { SHORT_REPLY ≤ vec_capacity out.new }
+    ensures room { vec_capacity out.old ≤ vec_capacity out.new }
 {
     match verb {
         Verb::Hset => hset(store, indexes, alloc, number, args, out),

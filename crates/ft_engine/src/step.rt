@@ -50,7 +50,7 @@ pub fn prepare_command<'a>(
     ensures quiet { IsQuiet (command_of command.entry) result }
     ensures still { is_change result ≡ false → (out.new.items ≡ spelling out_of_memory) ⊎ (indexes.new ≡ indexes.old) }
     ensures ids { MOST_COUNTED ≤ vec_capacity ids.new }
-    ensures room { SHORT_REPLY ≤ vec_capacity out.new }
+    ensures room { vec_capacity out.old ≤ vec_capacity out.new }
 {
     match command {
         Command::Plain { verb, args } => {

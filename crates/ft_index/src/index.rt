@@ -1,11 +1,12 @@
 //! An index over its documents' ids: entries of lists first, liveness last.
-ghost use Rattle.std.specs.Prelude.{◌≡◌, ◌<◌, ◌≤◌, ◌++◌, ◌∷◌, List, None, Some, [], nat_eq, length, IfOk, OnOk};
+ghost use Rattle.std.specs.Prelude.{◌≡◌, ◌≢◌, ◌<◌, ◌≤◌, ◌++◌, ◌∷◌, List, None, Some, [], nat_eq, length, IfOk, OnErr, OnOk};
 ghost use Rattle.std.specs.Map.{remove_entry};
 ghost use Rattle.ft_base.specs.declared.doc.Doc.{Doc};
 ghost use Rattle.ft_meaning.specs.Meaning.{ValuesFit};
 ghost use Rattle.ft_meaning.specs.Member.{most_failures, one_more};
 ghost use Rattle.ft_index.specs.Fits.{fit_of};
 ghost use Rattle.ft_index.specs.Index.{Indexes, IsIndex, committed};
+ghost use Rattle.ft_index.specs.declared.ready.Fit.TheVariants.{Member};
 ghost use Rattle.index_lists.specs.Lists.{has_id};
 ghost use Rattle.index_lists.specs.Markers.{AreBefore, GainsMarkers, HasMarker, IsGiven};
 ghost use Rattle.index_lists.specs.Without.{without};
@@ -160,6 +161,10 @@ impl FtIndex {
             → Indexes (committed self.new) (docs ++ doc.now ∷ [])) }
         ensures last { self.new.table.last ≤ doc.now.id }
         ensures sound { IsIndex self.new }
+        // Where it is no member, nothing else changes; where memory is wanting, nothing waits.
+        ensures others { IfOk result (λ ready. ready.fit ≢ Member
+            → self.new ≡ record self.old { waits = Some ready }) }
+        ensures none { OnErr result (self.new.waits ≡ None) }
         // Which markers its lists have.
         ensures before { AreBefore markers.new self.new.lists }
         ensures gains { GainsMarkers self.old.lists self.new.lists markers.old markers.new }

@@ -6,7 +6,6 @@ use Rattle.ft_base.specs.Reply.{spelling}
 use Rattle.ft_base.specs.declared.reply.Reply.{Reply}
 use Rattle.ft_base.specs.declared.reply.Reply.TheVariants.{Fault}
 use Rattle.ft_machine.specs.PlainCommands.{PlainMayWant, plain}
-use Rattle.ft_machine.specs.Arguments.{first}
 use Rattle.indexed_store.specs.Definitions.{index_of}
 use Rattle.ft_machine.specs.Informing.{IsInformed}
 use Rattle.ft_machine.specs.Indexes.{altered, created}

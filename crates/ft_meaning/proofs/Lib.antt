@@ -1,2 +1,3 @@
 mod Examples
+pub mod HoldsLaws
 pub mod MeaningLaws

@@ -4,8 +4,9 @@ use Rattle.std.specs.Prelude.{nat_le, nat_lt, codes}
 use Rattle.std.proofs.lemmas.List.Sums.{sum_by-append}
 use Rattle.std.specs.List.{IsDistinct, AllByRecursion}
 use Rattle.std.specs.Str.{bytes_eq}
+use Rattle.std.proofs.lemmas.Bool.{or_parts}
 use Rattle.std.proofs.lemmas.Bool.Decides.{nat_tests}
-use Rattle.std.proofs.lemmas.Slice.Eq.{bytes_eq-Decides}
+use Rattle.std.specs.Cmp.Lexicographic.{nat_list_eq_equiv}
 use Rattle.ft_base.specs.declared.definition.Field.{Field}
 use Rattle.ft_base.specs.declared.definition.FieldKind.{FieldKind}
 use Rattle.ft_base.specs.declared.definition.FieldKind.TheVariants as indexed
@@ -15,7 +16,7 @@ use Rattle.ft_base.proofs.ReadingLaws.{both}
 use Rattle.ft_schema.specs.declared.fault.Cause.TheVariants.{BadOption, DuplicateField, TooManyFields}
 use Rattle.ft_schema.specs.declared.fault.SchemaFault.{SchemaFault}
 use Rattle.ft_schema.specs.declared.fault.SchemaFault.TheVariants as answers
-use Rattle.ft_schema.specs.declared.limits.TheConstants.{MAX_FIELDS, MAX_TEXT_FIELDS}
+use Rattle.ft_schema.specs.Limits.{most_fields, most_texts}
 use Rattle.ft_schema.specs.declared.field_options.FieldOptions.{FieldOptions}
 use Rattle.ft_schema.specs.FieldAliases.{field_aliases}
 use Rattle.ft_schema.specs.Names.{Word}
@@ -40,17 +41,17 @@ within e test = grind (arith, nat_tests)
 -- an alias under which a field may go behind others
 pub record Admits (before : List Field) (alias : Word) : Type 0 where
   pub new : has_alias before alias ≡ false
-  pub few : length before < MAX_FIELDS
+  pub few : length before < most_fields
 
 admitted-Ok : (before : List Field) (from : List Word) (found : Option (Word × List Word)) (alias : Word × List Word) → admitted before from found ≡ Ok alias → Admits before alias.0
-admitted-Ok before from None alias e = by_room (nat_le MAX_FIELDS (length before)) e
+admitted-Ok before from None alias e = by_room (nat_le most_fields (length before)) e
   where
     by_room : (full : Bool) → cond {A = Read Word} full (fault TooManyFields from) (fault BadOption []) ≡ Ok alias → Admits before alias.0
     by_room true e = absurd (cc)
     by_room false e = absurd (cc)
-admitted-Ok before from (Some found) alias e = by_tests (has_alias before found.0) refl (nat_le MAX_FIELDS (length before)) refl e
+admitted-Ok before from (Some found) alias e = by_tests (has_alias before found.0) refl (nat_le most_fields (length before)) refl e
   where
-    by_tests : (known : Bool) → has_alias before found.0 ≡ known → (full : Bool) → nat_le MAX_FIELDS (length before) ≡ full
+    by_tests : (known : Bool) → has_alias before found.0 ≡ known → (full : Bool) → nat_le most_fields (length before) ≡ full
         → cond {A = Read Word} known (fault DuplicateField from) (cond full (fault TooManyFields from) (Ok found)) ≡ Ok alias → Admits before alias.0
     by_tests true k full f e = absurd (cc)
     by_tests false k true f e = absurd (cc)
@@ -59,16 +60,16 @@ admitted-Ok before from (Some found) alias e = by_tests (has_alias before found.
         record { new = ap (λ (a : Word × List Word). has_alias before a.0) (sym same) ∙ k; few = grind (arith, nat_tests) }
 
 kind_admitted-Ok : (before : List Field) (from : List Word) (found : Read FieldKind) (kind : FieldKind × List Word) → kind_admitted before from found ≡ Ok kind
-    → (is_text kind.0 && nat_le MAX_TEXT_FIELDS (text_count before)) ≡ false
+    → (is_text kind.0 && nat_le most_texts (text_count before)) ≡ false
 kind_admitted-Ok before from (Err stop) kind e = absurd (cc)
-kind_admitted-Ok before from (Ok found) kind e = by_test (is_text found.0 && nat_le MAX_TEXT_FIELDS (text_count before)) refl e
+kind_admitted-Ok before from (Ok found) kind e = by_test (is_text found.0 && nat_le most_texts (text_count before)) refl e
   where
-    by_test : (full : Bool) → (is_text found.0 && nat_le MAX_TEXT_FIELDS (text_count before)) ≡ full → cond {A = Read FieldKind} full (fault TooManyFields from) (Ok found) ≡ Ok kind
-        → (is_text kind.0 && nat_le MAX_TEXT_FIELDS (text_count before)) ≡ false
+    by_test : (full : Bool) → (is_text found.0 && nat_le most_texts (text_count before)) ≡ full → cond {A = Read FieldKind} full (fault TooManyFields from) (Ok found) ≡ Ok kind
+        → (is_text kind.0 && nat_le most_texts (text_count before)) ≡ false
     by_test true t e = absurd (cc)
     by_test false t e =
         let same : found ≡ kind = cc in
-        ap (λ (k : FieldKind × List Word). is_text k.0 && nat_le MAX_TEXT_FIELDS (text_count before)) (sym same) ∙ t
+        ap (λ (k : FieldKind × List Word). is_text k.0 && nat_le most_texts (text_count before)) (sym same) ∙ t
 
 is_text-kind_by : (kind : FieldKind) (options : FieldOptions) → is_text (kind_by kind options) ≡ is_text kind
 is_text-kind_by indexed.Text options = refl
@@ -78,14 +79,14 @@ is_text-kind_by indexed.Numeric options = refl
 -- a field that may go behind others
 pub record Follows (before : List Field) (field : Field) : Type 0 where
   pub admits : Admits before field.alias
-  pub texts : (is_text field.kind && nat_le MAX_TEXT_FIELDS (text_count before)) ≡ false
+  pub texts : (is_text field.kind && nat_le most_texts (text_count before)) ≡ false
 
 of_parts : (before : List Field) (name alias : Word) (kind : FieldKind) (options : FieldOptions) (rest : List Word) (read : Field × List Word) → Admits before alias
-    → (is_text kind && nat_le MAX_TEXT_FIELDS (text_count before)) ≡ false → (field_by name alias kind options, rest) ≡ read → Follows before read.0
+    → (is_text kind && nat_le most_texts (text_count before)) ≡ false → (field_by name alias kind options, rest) ≡ read → Follows before read.0
 of_parts before name alias kind options rest read admits texts same =
     subst (λ (r : Field × List Word). Follows before r.0) same (record {
       admits = admits;
-      texts = ap (λ b. b && nat_le MAX_TEXT_FIELDS (text_count before)) (is_text-kind_by kind options) ∙ texts;
+      texts = ap (λ b. b && nat_le most_texts (text_count before)) (is_text-kind_by kind options) ∙ texts;
     })
 
 -- a field that is read may go behind those before it
@@ -106,19 +107,6 @@ all_append : (P : Word → Type 0) (xs ys : List Word) → AllByRecursion P xs �
 all_append P [] ys h k = k
 all_append P (x ∷ xs) ys h k = (h.0, all_append P xs ys h.1 k)
 
-or_parts : (a b : Bool) → (a || b) ≡ false → (a ≡ false) × (b ≡ false)
-or_parts true b e = absurd (cc)
-or_parts false b e = (refl, e)
-
-differ : (a b : Word) → bytes_eq a b ≡ false → bytes_eq b a ≡ false
-differ a b e = by_test (bytes_eq b a) refl
-  where
-    by_test : (same : Bool) → bytes_eq b a ≡ same → bytes_eq b a ≡ false
-    by_test true t =
-        let equal : bytes_eq a b ≡ true = (bytes_eq-Decides a b).1 (sym ((bytes_eq-Decides b a).0 t)) in
-        absurd (cc)
-    by_test false t = t
-
 -- where no new field has an alias of the old, none has that of the first, and none one of the others
 none_of : (f : Field) (fs new : List Field) → has_any_alias (f ∷ fs) new ≡ false → AllByRecursion (λ alias. bytes_eq f.alias alias ≡ false) (field_aliases new) × (has_any_alias fs new ≡ false)
 none_of f fs [] e = (tt, refl)
@@ -126,7 +114,7 @@ none_of f fs (g ∷ gs) e =
     let here = or_parts (has_alias (f ∷ fs) g.alias) (has_any_alias (f ∷ fs) gs) e in
     let both_of = or_parts (bytes_eq g.alias f.alias) (has_alias fs g.alias) here.0 in
     let others = none_of f fs gs here.1 in
-    ((differ g.alias f.alias both_of.0, others.0), ap (λ b. b || has_any_alias fs gs) both_of.1 ∙ others.1)
+    ((nat_list_eq_equiv.symm f.alias g.alias ∙ both_of.0, others.0), ap (λ b. b || has_any_alias fs gs) both_of.1 ∙ others.1)
 
 field_aliases-append : (old new : List Field) → field_aliases (old ++ new) ≡ field_aliases old ++ field_aliases new
 field_aliases-append [] new = refl
@@ -140,7 +128,7 @@ distinct-append (f ∷ fs) new h k e =
     (rw (field_aliases-append fs new) (all_append (λ alias. bytes_eq f.alias alias ≡ false) (field_aliases fs) (field_aliases new) h.0 none.0), distinct-append fs new h.1 k none.1)
 
 -- fields with one more that may go behind them
-next-lawful : (before : List Field) (field : Field) → text_count before ≤ MAX_TEXT_FIELDS → IsDistinct bytes_eq (field_aliases before) → Follows before field → IsLawful (before ++ field ∷ [])
+next-lawful : (before : List Field) (field : Field) → text_count before ≤ most_texts → IsDistinct bytes_eq (field_aliases before) → Follows before field → IsLawful (before ++ field ∷ [])
 unfolding IsDistinct
 next-lawful before field texts distinct follows = record {
   some = omega (arith, length-append before (field ∷ []));
@@ -149,11 +137,11 @@ next-lawful before field texts distinct follows = record {
   distinct = distinct-append before (field ∷ []) distinct (tt, tt) (ap (λ b. b || false) follows.admits.new);
 }
   where
-    by_kind : (text : Bool) → (text && nat_le MAX_TEXT_FIELDS (text_count before)) ≡ false → text_count before + cond text 1 0 ≤ MAX_TEXT_FIELDS
+    by_kind : (text : Bool) → (text && nat_le most_texts (text_count before)) ≡ false → text_count before + cond text 1 0 ≤ most_texts
     by_kind true t = grind (arith, nat_tests)
     by_kind false t = omega arith
 
-next-Ok : (before : List Field) (words : List Word) (read : List Field × List Word) → text_count before ≤ MAX_TEXT_FIELDS → IsDistinct bytes_eq (field_aliases before)
+next-Ok : (before : List Field) (words : List Word) (read : List Field × List Word) → text_count before ≤ most_texts → IsDistinct bytes_eq (field_aliases before)
     → next_field_at before words ≡ Ok read → IsLawful read.0
 next-Ok before words read texts distinct e =
     let f = both (field_at before words) _ _ e in
@@ -210,7 +198,7 @@ extended-lawful index fields answer old new e = by_tests (has_any_alias index.fi
     by_tests true k over o e = absurd (cc)
     by_tests false k true o e = absurd (cc)
     by_tests false k false o e =
-        let parts = or_parts (nat_lt MAX_TEXT_FIELDS (text_count index.fields + text_count fields)) (nat_lt MAX_FIELDS (length index.fields + length fields)) o in
+        let parts = or_parts (nat_lt most_texts (text_count index.fields + text_count fields)) (nat_lt most_fields (length index.fields + length fields)) o in
         subst (λ (i : IndexDef). IsLawful i.fields) (is_ok_of e) (record {
           some = omega (arith, length-append index.fields fields, old.some);
           number = within (length-append index.fields fields) parts.1;

@@ -12,7 +12,7 @@ use Rattle.ft_schema.specs.declared.names.Kind.TheVariants as kinds
 use Rattle.ft_schema.specs.declared.names.FieldOption.{FieldOption}
 use Rattle.ft_schema.specs.declared.names.FieldOption.TheVariants as option
 use Rattle.ft_schema.specs.declared.field_options.FieldOptions.{FieldOptions}
-use Rattle.ft_schema.specs.declared.limits.TheConstants.{MAX_FIELDS, MAX_TEXT_FIELDS}
+use Rattle.ft_schema.specs.Limits.{most_fields, most_texts}
 use Rattle.ft_schema.specs.Names.{Word, kind_of, field_option_of}
 use Rattle.ft_base.specs.Names.{is_name}
 use Rattle.ft_base.specs.Reading.{◌>>=◌}
@@ -34,7 +34,7 @@ alias_at name (word ∷ alias ∷ words) = if is_name word (codes "AS") then Som
 
 -- one field too many, at its name
 abbrev pub unless_full : List Field → List Word → Read Word → Read Word
-unless_full before from read = if nat_le MAX_FIELDS (length before) then fault TooManyFields from else read
+unless_full before from read = if nat_le most_fields (length before) then fault TooManyFields from else read
 
 -- A field behind others is refused at its name where its alias repeats one, else where it is one too many.
 abbrev pub admitted : List Field → List Word → Option (Word × List Word) → Read Word
@@ -57,7 +57,7 @@ kind_at (word ∷ words) = kind_with (kind_of word) (word ∷ words) words
 -- One TEXT field too many is refused at its name.
 abbrev pub kind_admitted : List Field → List Word → Read FieldKind → Read FieldKind
 kind_admitted before from (Err stop) = Err stop
-kind_admitted before from (Ok kind) = if is_text kind.0 && nat_le MAX_TEXT_FIELDS (text_count before) then fault TooManyFields from else Ok kind
+kind_admitted before from (Ok kind) = if is_text kind.0 && nat_le most_texts (text_count before) then fault TooManyFields from else Ok kind
 
 -- no option yet
 abbrev pub no_field_options : FieldOptions

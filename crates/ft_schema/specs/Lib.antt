@@ -3,6 +3,7 @@ pub mod FieldAliases
 pub mod Fields
 pub mod Gives
 pub mod Lawful
+pub mod Limits
 pub mod Names
 pub mod Options
 pub mod Reading

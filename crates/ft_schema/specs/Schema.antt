@@ -9,7 +9,7 @@ use Rattle.ft_schema.specs.declared.fault.SchemaFault.{SchemaFault}
 use Rattle.ft_schema.specs.declared.fault.SchemaFault.TheVariants.{BadOption, BadKind, DuplicateField, TooManyFields, BadNumber, OutOfScope, NoMemory}
 use Rattle.ft_schema.specs.declared.fault.Stop.{Stop}
 use Rattle.ft_schema.specs.declared.fault.Stop.TheVariants as stops
-use Rattle.ft_schema.specs.declared.limits.TheConstants.{MAX_FIELDS, MAX_TEXT_FIELDS}
+use Rattle.ft_schema.specs.Limits.{most_fields, most_texts}
 use Rattle.ft_schema.specs.declared.index_options.IndexOptions.{IndexOptions}
 use Rattle.ft_schema.specs.Names.{Word}
 use Rattle.ft_base.specs.Names.{is_name}
@@ -91,7 +91,7 @@ has_any_alias old new = list_any (λ (field : Field). has_alias old field.alias)
 
 -- whether the fields together are too many
 abbrev pub is_over : List Field → List Field → Bool
-is_over old new = nat_lt MAX_TEXT_FIELDS (text_count old + text_count new) || nat_lt MAX_FIELDS (length old + length new)
+is_over old new = nat_lt most_texts (text_count old + text_count new) || nat_lt most_fields (length old + length new)
 
 -- An index with more fields. A fault stands at word 5 of FT.ALTER, whichever field it is.
 unfoldable pub extended : IndexDef → List Field → Result IndexDef SchemaFault

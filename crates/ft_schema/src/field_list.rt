@@ -2,7 +2,7 @@
 ghost use Rattle.std.specs.Prelude.{◌≡◌, false, [], ◌∷◌, ◌++◌, length, nat_le, IfOk};
 ghost use Rattle.ft_schema.specs.Fields.{has_alias, text_count};
 ghost use Rattle.ft_schema.specs.FieldAliases.{field_aliases};
-ghost use Rattle.ft_schema.specs.declared.limits.TheConstants.{MAX_FIELDS, MAX_TEXT_FIELDS};
+ghost use Rattle.ft_schema.specs.Limits.{most_fields, most_texts};
 
 use crate::alias_set::AliasSet;
 use crate::limits::{MAX_FIELDS, MAX_TEXT_FIELDS};
@@ -50,14 +50,14 @@ impl FieldList {
 
     /// Whether one field more is too many.
     pub fn is_full(&self) -> bool
-        ensures { result ≡ nat_le MAX_FIELDS (length self.now) }
+        ensures { result ≡ nat_le most_fields (length self.now) }
     {
         MAX_FIELDS <= self.fields.len()
     }
 
     /// Whether one TEXT field more is too many.
     pub fn is_full_of_texts(&self) -> bool
-        ensures { result ≡ nat_le MAX_TEXT_FIELDS (text_count self.now) }
+        ensures { result ≡ nat_le most_texts (text_count self.now) }
     {
         MAX_TEXT_FIELDS <= self.texts
     }

@@ -8,6 +8,7 @@ use Rattle.std.specs.List.{AllByRecursion, IsDistinct, list_any}
 use Rattle.std.specs.Map.{keys_of}
 use Rattle.std.specs.Str.{bytes_eq}
 use Rattle.std.proofs.lemmas.Bool.{cases_Bool}
+use Rattle.std.proofs.Math.Bool.{or-false}
 use Rattle.std.proofs.lemmas.Cmp.{nat_list_eq_equiv}
 use Rattle.std.proofs.lemmas.List.{append-nil, take_more}
 use Rattle.std.proofs.lemmas.List.Filters.{length-filter_both}
@@ -20,10 +21,6 @@ use Rattle.ft_machine.specs.Writes.{without_fields}
 
 pub same_bytes : IsEquivalence bytes_eq
 same_bytes = nat_list_eq_equiv
-
-or-false : (b : Bool) → (b || false) ≡ b
-or-false true = refl
-or-false false = refl
 
 -- a field that was set is there, and the others as before
 pub found-set : (hash : Hash) (word value field : List ℕ) → is_some (get_field (set_field hash word value) field) ≡ (is_some (get_field hash field) || (bytes_eq field word || false))

@@ -45,7 +45,7 @@ pub fn hdel<'a>(
     ensures kept { InStep store.new indexes.new (id + 1) }
     ensures ready { IsReady result id store.new.space store.new.ready indexes.new }
     ensures still { is_change result ≡ false → (out.new.items ≡ spelling out_of_memory) ⊎ (indexes.new ≡ indexes.old) }
-    ensures room { SHORT_REPLY ≤ vec_capacity out.new }
+    ensures room { vec_capacity out.old ≤ vec_capacity out.new }
 {
     let fields = args.rest(1);
     match take_fields(store, indexes, alloc, id, args.word(0), &fields) {

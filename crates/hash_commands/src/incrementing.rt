@@ -52,7 +52,7 @@ pub fn hincrby<'a>(
     ensures kept { InStep store.new indexes.new (id + 1) }
     ensures ready { IsReady result id store.new.space store.new.ready indexes.new }
     ensures still { is_change result ≡ false → (out.new.items ≡ spelling out_of_memory) ⊎ (indexes.new ≡ indexes.old) }
-    ensures room { SHORT_REPLY ≤ vec_capacity out.new }
+    ensures room { vec_capacity out.old ≤ vec_capacity out.new }
 {
     let (key, field) = (args.word(0), args.word(1));
     let Some(by) = read_int(args.word(2)) else {

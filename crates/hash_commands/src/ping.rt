@@ -14,7 +14,7 @@ pub fn answer_say(alloc: Global, message: &[u8], out: &mut Vec<u8>)
     requires empty { out.old.items ≡ [] }
     requires room { SHORT_REPLY ≤ vec_capacity out.old }
     ensures reply { (out.new.items ≡ spelling (Bulk message.now)) ⊎ (out.new.items ≡ spelling out_of_memory) }
-    ensures room { SHORT_REPLY ≤ vec_capacity out.new }
+    ensures room { vec_capacity out.old ≤ vec_capacity out.new }
 {
     match put_bulk(alloc, message, out) {
         Ok(()) => {}

@@ -30,8 +30,9 @@ pub fn answer_plain(
     ensures does { (number : ℕ) (state : State) → state.space ≡ store.old.space
         → Does (Plain verb args.now) number state out.new.items state }
     ensures space { store.new.space ≡ store.old.space }
+    ensures ready { store.new.ready ≡ store.old.ready }
     ensures last { store.new.last ≡ store.old.last }
-    ensures room { SHORT_REPLY ≤ vec_capacity out.new }
+    ensures room { vec_capacity out.old ≤ vec_capacity out.new }
 {
     match verb {
         Verb::Ping if args.len() == 0 => put_short(out, b"+PONG\r\n"),

@@ -34,7 +34,7 @@ pub fn flush<'a>(store: &HashStore, indexes: &[FtIndex], out: &mut Vec<u8>) -> C
         → Does (Plain Flushall args) number state out.new.items (changed result waits state) }
     ensures ready { (number : ℕ) (waits : Option Doc) (all : List Index) → all ≡ indexes.now
         → IsReady result number store.now.space waits all }
-    ensures room { SHORT_REPLY ≤ vec_capacity out.new }
+    ensures room { vec_capacity out.old ≤ vec_capacity out.new }
 {
     put_short(out, b"+OK\r\n");
     if store.len() == 0 && indexes.is_empty() {
@@ -58,7 +58,7 @@ pub fn del<'a>(
     ensures ready { (number : ℕ) (waits : Option Doc) (all : List Index)
         → IsReady result number store.now.space waits all }
     ensures ids { MOST_COUNTED ≤ vec_capacity ids.new }
-    ensures room { SHORT_REPLY ≤ vec_capacity out.new }
+    ensures room { vec_capacity out.old ≤ vec_capacity out.new }
 {
     let Ok(count) = count_found(store, ids, keys) else {
         put_no_memory(out);

@@ -48,7 +48,7 @@ pub fn hset<'a>(
     ensures kept { InStep store.new indexes.new (id + 1) }
     ensures ready { IsReady result id store.new.space store.new.ready indexes.new }
     ensures still { is_change result ≡ false → (out.new.items ≡ spelling out_of_memory) ⊎ (indexes.new ≡ indexes.old) }
-    ensures room { SHORT_REPLY ≤ vec_capacity out.new }
+    ensures room { vec_capacity out.old ≤ vec_capacity out.new }
 {
     let pairs = args.rest(1);
     match set_fields(store, indexes, alloc, id, args.word(0), &pairs) {
@@ -118,7 +118,7 @@ pub fn hsetnx<'a>(
     ensures kept { InStep store.new indexes.new (id + 1) }
     ensures ready { IsReady result id store.new.space store.new.ready indexes.new }
     ensures still { is_change result ≡ false → (out.new.items ≡ spelling out_of_memory) ⊎ (indexes.new ≡ indexes.old) }
-    ensures room { SHORT_REPLY ≤ vec_capacity out.new }
+    ensures room { vec_capacity out.old ≤ vec_capacity out.new }
 {
     if hexists(store, args.word(0), args.word(1)) {
         put_number(0, out);

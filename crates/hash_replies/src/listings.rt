@@ -3,6 +3,7 @@ ghost use Rattle.std.specs.Prelude.{◌≡◌, length, IfOk, IsTrue};
 ghost use Rattle.ft_base.specs.Reply.{fits_wire};
 ghost use Rattle.ft_base.specs.Space.{doc_of};
 ghost use Rattle.ft_base.specs.declared.reply.Reply.TheVariants.{Array};
+ghost use Rattle.hash_store.specs.Store.{after_read};
 ghost use Rattle.hash_replies.specs.Reads.{hash_in, in_turn, names, values};
 
 use ft_base::{Bytes, HashRec, ListOf, NoMemory, Reply};
@@ -14,6 +15,7 @@ pub fn hgetall(store: &mut HashStore, alloc: Global, key: &[u8]) -> Result<Reply
     ensures reply { IfOk result (λ reply. reply
         ≡ Array (in_turn (hash_in (doc_of store.old.space key.now)))) }
     ensures fits { IfOk result (λ reply. IsTrue (fits_wire reply)) }
+    ensures store { store.new ≡ after_read (doc_of store.old.space key.now) store.old }
     ensures space { store.new.space ≡ store.old.space }
     ensures last { store.new.last ≡ store.old.last }
 {
@@ -42,6 +44,7 @@ pub fn hkeys(store: &mut HashStore, alloc: Global, key: &[u8]) -> Result<Reply, 
     ensures reply { IfOk result (λ reply. reply
         ≡ Array (names (hash_in (doc_of store.old.space key.now)))) }
     ensures fits { IfOk result (λ reply. IsTrue (fits_wire reply)) }
+    ensures store { store.new ≡ after_read (doc_of store.old.space key.now) store.old }
     ensures space { store.new.space ≡ store.old.space }
     ensures last { store.new.last ≡ store.old.last }
 {
@@ -67,6 +70,7 @@ pub fn hvals(store: &mut HashStore, alloc: Global, key: &[u8]) -> Result<Reply, 
     ensures reply { IfOk result (λ reply. reply
         ≡ Array (values (hash_in (doc_of store.old.space key.now)))) }
     ensures fits { IfOk result (λ reply. IsTrue (fits_wire reply)) }
+    ensures store { store.new ≡ after_read (doc_of store.old.space key.now) store.old }
     ensures space { store.new.space ≡ store.old.space }
     ensures last { store.new.last ≡ store.old.last }
 {
@@ -90,6 +94,7 @@ fn all_values(alloc: Global, hash: &HashRec) -> Result<Reply, NoMemory>
 /// The number of a key's fields.
 pub fn hlen(store: &mut HashStore, key: &[u8]) -> usize
     ensures count { result ≡ length (hash_in (doc_of store.old.space key.now)) }
+    ensures store { store.new ≡ after_read (doc_of store.old.space key.now) store.old }
     ensures space { store.new.space ≡ store.old.space }
     ensures last { store.new.last ≡ store.old.last }
 {

@@ -4,6 +4,7 @@ ghost use Rattle.ft_base.specs.Hash.{get_field};
 ghost use Rattle.ft_base.specs.Reply.{fits_wire};
 ghost use Rattle.ft_base.specs.Space.{doc_of};
 ghost use Rattle.ft_base.specs.declared.reply.Reply.TheVariants.{Array};
+ghost use Rattle.hash_store.specs.Store.{after_read};
 ghost use Rattle.hash_replies.specs.Reads.{hash_in, value_reply};
 
 use ft_base::{HashRec, ListOf, NoMemory, Reply, Words};
@@ -20,6 +21,7 @@ pub fn hget(
     ensures reply { IfOk result (λ reply. reply
         ≡ value_reply (get_field (hash_in (doc_of store.old.space key.now)) field.now)) }
     ensures fits { IfOk result (λ reply. IsTrue (fits_wire reply)) }
+    ensures store { store.new ≡ after_read (doc_of store.old.space key.now) store.old }
     ensures space { store.new.space ≡ store.old.space }
     ensures last { store.new.last ≡ store.old.last }
 {
@@ -46,6 +48,7 @@ pub fn hmget(store: &mut HashStore, alloc: Global, args: &Words<'_>) -> Result<R
         (λ field. value_reply (get_field (hash_in (doc_of store.old.space (slice_index_or args.now 0 []))) field))
         (drop 1 args.now))) }
     ensures fits { IfOk result (λ reply. IsTrue (fits_wire reply)) }
+    ensures store { store.new ≡ after_read (doc_of store.old.space (slice_index_or args.now 0 [])) store.old }
     ensures space { store.new.space ≡ store.old.space }
     ensures last { store.new.last ≡ store.old.last }
 {
@@ -70,6 +73,7 @@ fn values_of(alloc: Global, hash: &HashRec, fields: &Words<'_>) -> Result<Reply,
 /// Whether a key has a field.
 pub fn hexists(store: &mut HashStore, key: &[u8], field: &[u8]) -> bool
     ensures there { result ≡ is_some (get_field (hash_in (doc_of store.old.space key.now)) field.now) }
+    ensures store { store.new ≡ after_read (doc_of store.old.space key.now) store.old }
     ensures space { store.new.space ≡ store.old.space }
     ensures last { store.new.last ≡ store.old.last }
 {

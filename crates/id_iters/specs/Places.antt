@@ -2,7 +2,7 @@
 use Rattle.std.specs.Prelude.{◌≡◌, ◌<◌, ℕ, List, IsSome, Option, None, Some}
 use Rattle.std.specs.List.{All}
 use Rattle.inverted_list.specs.Listing.{Listing, hit_of}
-use Rattle.inverted_list.specs.Places.{IsSound}
+use Rattle.inverted_list.specs.Places.{Fits, IsSound}
 use Rattle.inverted_list.specs.declared.place.Place.{Place}
 use Rattle.id_iters.specs.Held.{Held}
 use Rattle.id_iters.specs.Leaves.{word_list}
@@ -20,6 +20,17 @@ abbrev pub FitsList : Held → ListName → Place → Type 0
 FitsList held (names.Word text) place = IsSoundIn (held.words text) place
 FitsList held (names.Tag field text) place = IsSoundIn (held.tags field text) place
 FitsList held (names.Range field low) place = IsSoundIn (held.ranges field low) place
+
+-- the place is the one that is opened in the list behind the ids up to `after`; where there is no list, it is the first of all places
+abbrev pub IsOpenedIn : {P : Type 0} → Option (Listing P) → ℕ → Place → Type 0
+IsOpenedIn None after place = place ≡ record { marker = record { event = 0; nth = 0 }; block = 0; at = 0; last = after }
+IsOpenedIn (Some list) after place = Fits place after list
+
+-- the place is the one that is opened in the list of that name behind the ids up to `after`
+abbrev pub IsOpened : Held → ListName → ℕ → Place → Type 0
+IsOpened held (names.Word text) after place = IsOpenedIn (held.words text) after place
+IsOpened held (names.Tag field text) after place = IsOpenedIn (held.tags field text) after place
+IsOpened held (names.Range field low) after place = IsOpenedIn (held.ranges field low) after place
 
 -- The leaf may be asked from a number on: its place is sound, and stands behind lower ids alone.
 pub record LeafReady (held : Held) (leaf : Leaf) (from : ℕ) : Type 0 where

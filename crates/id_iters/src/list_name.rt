@@ -2,7 +2,7 @@
 ghost use Rattle.std.specs.Prelude.{◌≡◌, ◌≤◌, IfSome};
 ghost use Rattle.std.specs.Option.{option_copied};
 ghost use Rattle.id_iters.specs.Leaves.{word_list};
-ghost use Rattle.id_iters.specs.Places.{FitsList, IsSoundIn};
+ghost use Rattle.id_iters.specs.Places.{FitsList, IsOpened, IsOpenedIn, IsSoundIn};
 
 use crate::lists::Lists;
 use ft_base::{Bytes, Steps};
@@ -19,7 +19,8 @@ pub enum ListName {
 }
 
 impl ListName {
-    /// A place in the list behind the ids up to `after`. A hint that is such a place is answered as it is.
+    /// A place in the list behind the ids up to `after`. A hint that is such a place is answered as it is, and costs no
+    /// step.
     pub fn open_at<T: Lists, L: Ledger>(
         &self,
         lists: &T,
@@ -29,7 +30,12 @@ impl ListName {
     ) -> Place
         requires { IfSome hint (λ place. FitsList (T.held lists.now) self.now place) }
         ensures fits { FitsList (T.held lists.now) self.now result }
+        ensures opened { IsOpened (T.held lists.now) self.now after result }
         ensures last { result.last ≡ after }
+        // What a hint saves.
+        ensures hint { IfSome hint (λ place. IsOpened (T.held lists.now) self.now after place → result ≡ place) }
+        ensures free { IfSome hint
+            (λ place. IsOpened (T.held lists.now) self.now after place → steps.new ≡ steps.old) }
         ensures counts { steps.old ≤ steps.new }
     {
         match self {
@@ -66,7 +72,11 @@ fn open_in<P: Payload, L: Ledger>(
 ) -> Place
     requires { IfSome hint (λ place. IsSoundIn (option_copied list) place) }
     ensures sound { IsSoundIn (option_copied list.entry) result }
+    ensures opened { IsOpenedIn (option_copied list.entry) after result }
     ensures last { result.last ≡ after }
+    ensures hint { IfSome hint (λ place. IsOpenedIn (option_copied list.entry) after place → result ≡ place) }
+    ensures free { IfSome hint
+        (λ place. IsOpenedIn (option_copied list.entry) after place → steps.new ≡ steps.old) }
     ensures counts { steps.old ≤ steps.new }
 {
     match list {

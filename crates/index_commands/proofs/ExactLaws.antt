@@ -15,7 +15,8 @@ use Rattle.index_info.specs.declared.info.Counts.{Counts}
 use Rattle.index_lists.specs.Lists.{AllLists}
 use Rattle.index_lists.specs.Records.{all_entries}
 use Rattle.indexed_store.specs.Named.{is_named}
-use Rattle.search_exec.specs.Ids.{reads_after, reads_for}
+use Rattle.hash_store.specs.Store.{reads_after}
+use Rattle.search_exec.specs.Ids.{reads_for}
 use Rattle.search_exec.specs.Replies.{found_reply}
 
 -- what a query found was answered, or memory was wanting

@@ -45,7 +45,7 @@ pub fn create<'a>(
         → IsReady result number store.new.space waits all }
     ensures space { store.new.space ≡ store.old.space }
     ensures last { store.new.last ≡ store.old.last }
-    ensures room { SHORT_REPLY ≤ vec_capacity out.new }
+    ensures room { vec_capacity out.old ≤ vec_capacity out.new }
 {
     if index_named(indexes, def.name.as_slice()).is_some() {
         put_fault(out, b"Index already exists");
@@ -88,7 +88,7 @@ pub fn alter<'a>(
         → IsReady result number store.new.space waits all }
     ensures space { store.new.space ≡ store.old.space }
     ensures last { store.new.last ≡ store.old.last }
-    ensures room { SHORT_REPLY ≤ vec_capacity out.new }
+    ensures room { vec_capacity out.old ≤ vec_capacity out.new }
 {
     let Some(index) = index_named(indexes, name) else {
         put_fault(out, b"Unknown index name");
@@ -145,7 +145,7 @@ pub fn drop_named<'a>(indexes: &[FtIndex], args: &Words<'a>, out: &mut Vec<u8>) 
         → Does (Plain DropIndex args.now) number state out.new.items (changed result waits state) }
     ensures ready { (number : ℕ) (space : List Doc) (waits : Option Doc) (all : List Index)
         → all ≡ indexes.now → IsReady result number space waits all }
-    ensures room { SHORT_REPLY ≤ vec_capacity out.new }
+    ensures room { vec_capacity out.old ≤ vec_capacity out.new }
 {
     let name = args.word(0);
     if index_named(indexes, name).is_none() {

@@ -60,7 +60,7 @@ pub fn answer_tag_vals(
         → Does (Plain TagVals args.now) number state out.new.items state }
     ensures space { store.new.space ≡ store.old.space }
     ensures last { store.new.last ≡ store.old.last }
-    ensures room { SHORT_REPLY ≤ vec_capacity out.new }
+    ensures room { vec_capacity out.old ≤ vec_capacity out.new }
 {
     let Some(index) = index_named(indexes, args.word(0)) else {
         return put_fault(out, b"Unknown index name");

@@ -29,7 +29,7 @@ pub fn answer_info(indexes: &[FtIndex], alloc: Global, name: &[u8], out: &mut Ve
         → All (λ (index : Index). Indexes index state.space) indexes.now
         → Does (InfoOf name.now) number state out.new.items state }
     ensures records { TellsOf (find (is_named name.now) indexes.now) out.new.items }
-    ensures room { SHORT_REPLY ≤ vec_capacity out.new }
+    ensures room { vec_capacity out.old ≤ vec_capacity out.new }
 {
     let Some(index) = index_named(indexes, name) else {
         return put_fault(out, b"Unknown index name");

@@ -15,7 +15,8 @@ ghost use Rattle.ft_meaning.specs.Holds.{found_of};
 ghost use Rattle.ft_meaning.specs.Meaning.{ValuesFit};
 ghost use Rattle.indexed_store.specs.DefinitionsOf.{definitions_of};
 ghost use Rattle.index_commands.specs.Exactness.{ReadsRows};
-ghost use Rattle.search_exec.specs.Ids.{reads_after, reads_for};
+ghost use Rattle.hash_store.specs.Store.{reads_after};
+ghost use Rattle.search_exec.specs.Ids.{reads_for};
 ghost use Rattle.search_exec.specs.Replies.{found_reply};
 
 use cmd_parse::SearchSpec;
@@ -54,7 +55,7 @@ pub fn answer_search(
     // No more is read than is shown.
     ensures reads { ReadsRows search.now.no_content out.new.items store.old.reads store.new.reads }
 
-    ensures room { SHORT_REPLY ≤ vec_capacity out.new }
+    ensures room { vec_capacity out.old ≤ vec_capacity out.new }
 {
     let Some(index) = index_named(indexes, search.index) else {
         return put_fault(out, b"Unknown index name");

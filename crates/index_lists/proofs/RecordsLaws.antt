@@ -14,9 +14,10 @@ use Rattle.ft_base.specs.declared.definition.FieldKind.TheVariants as kinds
 use Rattle.ft_base.specs.declared.definition.IndexDef.{IndexDef}
 use Rattle.ft_base.specs.declared.doc.Doc.{Doc}
 use Rattle.ft_base.specs.Kinds.{is_numeric}
-use Rattle.ft_meaning.specs.Holds.{value_number, value_tags}
+use Rattle.ft_meaning.specs.Holds.{value_tags}
 use Rattle.ft_meaning.specs.Meaning.{field_tokens}
 use Rattle.ft_meaning.specs.Records.{live_records, number_count, tag_count, word_count, words_of}
+use Rattle.ft_meaning.proofs.HoldsLaws.{value_number-none}
 use Rattle.numeric_ranges.specs.Ranges.{AreParted, IsPartition, Rows, entries_in_rows, lies_in, low_of}
 use Rattle.numeric_ranges.specs.Values.{Entries}
 use Rattle.numeric_ranges.proofs.ValueLaws.{le_from_not_lt}
@@ -214,17 +215,12 @@ number-entries-count def number field (doc ∷ docs) at =
     by_value (Some value) is = rw (at, is) (omega arith)
 
 -- a field without ranges has no number
-no-value : (kind : FieldKind) (value : Option (List ℕ)) → is_numeric kind ≡ false → value_number kind value ≡ None
-no-value kinds.Numeric value away = absurd (cc (away))
-no-value kinds.Text value away = refl
-no-value (kinds.Tag separator case) value away = refl
-
 no-number : (field : Field) (doc : Doc) → is_ranged (Some field) ≡ false → number_count doc field ≡ 0
 no-number field doc away = elim (cases_Bool field.noindex) [
   | inl y ↦ rw y refl
   | inr n ↦
       let kind : is_numeric field.kind ≡ false = rw n at away in
-      rw (n, no-value field.kind (get_field doc.hash field.name) kind) refl
+      rw (n, value_number-none field.kind (get_field doc.hash field.name) kind) refl
 ]
 
 -- the ranges of a field have an entry for each document that has a number there

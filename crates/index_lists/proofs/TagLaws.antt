@@ -4,6 +4,7 @@ use Rattle.std.proofs.lemmas.Bool.{cases_Bool, eqb-true, eqb-false, cond-true, c
 use Rattle.std.proofs.Math.Seq.{take-suc}
 use Rattle.std.specs.Cmp.Lexicographic.{bytes_decides, nat_list_eq_equiv}
 use Rattle.std.specs.List.{filter, list_any}
+use Rattle.std.specs.Option.{unwrap_or}
 use Rattle.std.specs.Prelude.{slice_get}
 use Rattle.std.specs.Str.{bytes_eq}
 use Rattle.field_text.specs.Tags.{firsts, tags_of}
@@ -88,7 +89,7 @@ entries-tagged old new field tag markers id hit sets other name = elim (cases_Bo
       let turned : bytes_eq tag name ≡ bytes_eq name tag = nat_list_eq_equiv.symm tag name in
       let added = entries-added (index.tags_of old field) (index.tags_of new field) tag markers id hit sets.here name in
       rw (y, is) (by_name (bytes_eq name tag) turned added)
-  | inr n ↦ rw n (ap (λ (tags : Lists TagHit). entries_of tags name) (sets.others other (eqb-false other field n)) ∙ sym (append-nil (entries_in old other name)))
+  | inr n ↦ rw n (ap (λ (tags : Option (Lists TagHit)). entries_of (unwrap_or tags []) name) (sets.others other (eqb-false other field n)) ∙ sym (append-nil (entries_in old other name)))
 ]
   where
     by_name : (b : Bool) → bytes_eq tag name ≡ b
@@ -120,7 +121,7 @@ tags-take old new field tag from to id hit before sets event next taken =
         | inl is_tag ↦ inl (ap (λ (n : ℕ). (n, name.1)) is ∙ ap (λ (t : List ℕ). (field, t)) is_tag)
         | inr same ↦ inr (subst (λ (n : ℕ). tag_marker new (n, name.1) ≡ tag_marker old (n, name.1)) (sym is) (ap marker_in same))
       ]
-      | inr away ↦ inr (ap (λ (tags : Lists TagHit). marker_in (list_of tags name.1)) (sets.others name.0 away))
+      | inr away ↦ inr (ap (λ (tags : Option (Lists TagHit)). marker_in (list_of (unwrap_or tags []) name.1)) (sets.others name.0 away))
     ]
 
 -- one tag more of a field's tags

@@ -55,6 +55,9 @@ impl IndexLists {
     pub fn new(alloc: Global, def: &IndexDef, markers: &mut Markers) -> Result<IndexLists, NoMemory>
         requires { length def.now.fields ≤ 1_024 }
         ensures empty { IfOk result (λ lists. Has def.now [] lists []) }
+        // No word and no tag has even a list without entries.
+        ensures words { IfOk result (λ lists. lists.words ≡ []) }
+        ensures tags { IfOk result (λ lists. lists.tags ≡ []) }
         ensures up_to { IfOk result (λ lists. AreUpTo 0 lists) }
         // Which markers its lists have.
         ensures differ { IfOk result (λ lists. MarkersDiffer lists) }

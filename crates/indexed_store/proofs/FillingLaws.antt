@@ -1,11 +1,12 @@
 -- The documents in order of ids, one after another.
-use Rattle.std.specs.Prelude.{◌≡◌, ◌<◌, ◌≤◌, ℕ, Bool, true, false, cond, List, [], ◌∷◌, ◌++◌, Option, None, Some, map, find, nat_lt, refl}
-use Rattle.std.proofs.Common.{ap, subst, inl, inr, arith}
+use Rattle.std.specs.Prelude.{◌≡◌, ◌<◌, ◌≤◌, ◌+◌, ◌-◌, ◌^◌, ℕ, Bool, true, false, cond, List, [], ◌∷◌, ◌++◌, Option, None, Some, length, map, min, find, nat_lt, refl}
+use Rattle.std.proofs.Common.{ap, subst, inl, inr, arith, length-append}
 use Rattle.std.specs.List.{All}
 use Rattle.std.proofs.lemmas.Bool.{cases_Bool, lt-ltb, le-ltb, lt-leb, le-leb}
 use Rattle.std.proofs.lemmas.List.Elements.{All-head, All-tail}
 use Rattle.std.proofs.lemmas.Bool.Decides.{nat_tests}
 use Rattle.ft_base.specs.declared.doc.Doc.{Doc}
+use Rattle.hash_store.specs.Store.{reads_after}
 use Rattle.indexed_store.specs.Filling.{beyond, upto}
 use Rattle.index_lists.proofs.AliveLaws.{last_id-low, row_of}
 use Rattle.inverted_list.specs.Listing.{RisesAbove, last_id}
@@ -78,3 +79,8 @@ found-value P after (d ∷ docs) doc each found = by_test (nat_lt after d.id) fo
     by_test : (here : Bool) → cond here (Some d) (find (λ (x : Doc). nat_lt after x.id) docs) ≡ Some doc → (find (λ (x : Doc). nat_lt after x.id) docs ≡ Some doc → P doc) → P doc
     by_test true found later = let same : d ≡ doc = cc (found) in subst P same (All-head P d docs each)
     by_test false found later = later found
+
+-- one document more is read
+pub reads-next : (first old new : ℕ) (seen all : List Doc) (doc : Doc) → all ≡ seen ++ doc ∷ [] → old ≡ reads_after first (length seen) → new ≡ min (old + 1) (2 ^ 64 - 1)
+    → new ≡ reads_after first (length all)
+reads-next first old new seen all doc next before read = omega (arith, before, read, ap length next, length-append seen (doc ∷ []))

@@ -348,3 +348,10 @@ settled-step old new indexes now put number (Some doc) replaced written step wai
     (subst (λ (is : List Index). InStep new is (doc.id + 1)) (sym made)
     (in_step-written new old.space doc replaced indexes (ap (λ (s : Store). s.space) is) (omega (arith, last, at, step.last)) was (subst (AreWritten old.space) (sym at) written) waits.fits waits.filled
     (subst (λ n. All (IndexStands old.space (n + 1) (markers_at (n + 1))) indexes) (sym at) step.stand) waits.awaits step.apart))
+
+-- where only the documents change, the rest stays
+pub rest-same : (old new : Store) (docs : List Doc) → new ≡ record old { space = docs } → new ≡ record old { space = new.space }
+rest-same old new docs is = is ∙ ap (λ (d : List Doc). record old { space = d }) (sym (ap (λ (s : Store). s.space) is))
+
+pub rest-after : (old mid new : Store) → mid ≡ record old { space = mid.space } → new ≡ record mid { space = new.space } → new ≡ record old { space = new.space }
+rest-after old mid new before after = after ∙ ap (λ (s : Store). record s { space = new.space }) before

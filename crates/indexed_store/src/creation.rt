@@ -1,6 +1,7 @@
 //! An index that is created, or gets more fields, takes the documents that are there.
-ghost use Rattle.std.specs.Prelude.{◌≡◌, ◌≤◌, ◌+◌, length, IfOk};
+ghost use Rattle.std.specs.Prelude.{◌≡◌, ◌≤◌, ◌+◌, length, IfOk, OnOk};
 ghost use Rattle.ft_meaning.specs.Member.{most_failures};
+ghost use Rattle.hash_store.specs.Store.{reads_after};
 ghost use Rattle.indexed_store.specs.Definitions.{failures_over};
 ghost use Rattle.indexed_store.specs.Standing.{AreOfEvent, AreWritten, IndexStands, markers_at};
 
@@ -31,6 +32,9 @@ pub fn index_over(
     ensures given { IfOk result (λ index. AreOfEvent event index) }
     ensures space { store.new.space ≡ store.old.space }
     ensures last { store.new.last ≡ store.old.last }
+    ensures ready { store.new.ready ≡ store.old.ready }
+    // Each document is read once.
+    ensures reads { OnOk result (store.new.reads ≡ reads_after store.old.reads (length store.old.space)) }
 {
     let mut markers = Markers { event, next: 0 };
     let mut index = FtIndex::new(alloc, def, &mut markers)?;

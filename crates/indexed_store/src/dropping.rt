@@ -27,6 +27,8 @@ pub fn drop_index(indexes: &mut Vec<FtIndex>, name: &[u8])
 pub fn drop_members(store: &mut HashStore, indexes: &mut Vec<FtIndex>, name: &[u8])
     ensures space { (next : ℕ) → InStep store.old indexes.old.items next → store.new.space
         ≡ without_members (index_of (definitions_of indexes.old.items) name.now) store.old.space }
+    // Nothing else of the store changes.
+    ensures rest { store.new ≡ record store.old { space = store.new.space } }
     ensures definitions { definitions_of indexes.new.items
         ≡ without_index (definitions_of indexes.old.items) name.now }
     ensures kept { (next : ℕ)
@@ -43,6 +45,7 @@ pub fn drop_members(store: &mut HashStore, indexes: &mut Vec<FtIndex>, name: &[u
 fn remove_live(store: &mut HashStore, indexes: &mut [FtIndex], dropped: FtIndex)
     ensures space { store.new.space
         ≡ without_keys store.old.space (map (λ row. row.1) dropped.table.live) }
+    ensures rest { store.new ≡ record store.old { space = store.new.space } }
     ensures kept { (next : ℕ) → InStep store.old indexes.old next → InStep store.new indexes.new next }
     ensures definitions { definitions_of indexes.new ≡ definitions_of indexes.old }
 {

@@ -1,6 +1,7 @@
 //! How a new index takes the documents that are there already.
 ghost use Rattle.std.specs.Prelude.{◌≡◌, ℕ, ◌<◌, ◌≤◌, [], length, map, IfOk, IfNone, IfSome, OnOk, unwrap_or};
 ghost use Rattle.ft_base.specs.declared.doc.Doc.{Doc};
+ghost use Rattle.hash_store.specs.Store.{reads_after};
 ghost use Rattle.indexed_store.specs.Filling.{beyond, upto};
 ghost use Rattle.indexed_store.specs.Definitions.{failures_over};
 ghost use Rattle.indexed_store.specs.Standing.{AreOfEvent, AreWritten, IndexStands};
@@ -31,9 +32,14 @@ pub fn fill(
     ensures def { index.new.def ≡ index.old.def }
     ensures space { store.new.space ≡ store.old.space }
     ensures last { store.new.last ≡ store.old.last }
+    ensures ready { store.new.ready ≡ store.old.ready }
+    // Each document is read once.
+    ensures reads { OnOk result (store.new.reads ≡ reads_after store.old.reads (length store.old.space)) }
     ensures event { markers.new.event ≡ markers.old.event }
     ensures given { AreOfEvent markers.old.event index.new }
 {
+    // This tells that the count of reads has 64 bits.
+    let _reads = store.reads();
     let mut after = 0;
     'filling: while let Some(id) = put_next(index, store, after, markers)? {
         after = id;
@@ -68,6 +74,10 @@ fn put_next(
     ensures sound { IsIndex index.new }
     ensures space { store.new.space ≡ store.old.space }
     ensures last { store.new.last ≡ store.old.last }
+    ensures ready { store.new.ready ≡ store.old.ready }
+    ensures reads { IfOk result (λ id. (first : ℕ)
+        → store.old.reads ≡ reads_after first (length (upto after store.old.space))
+        → store.new.reads ≡ reads_after first (length (upto (unwrap_or id after) store.old.space))) }
     ensures before { AreBefore markers.new index.new.lists }
     ensures event { markers.new.event ≡ markers.old.event }
     ensures given { AreOfEvent markers.old.event index.new }

@@ -13,6 +13,8 @@ use hash_store::HashStore;
 /// Takes the documents of the keys out.
 pub fn remove_all(store: &mut HashStore, indexes: &mut [FtIndex], keys: &Words<'_>)
     ensures space { store.new.space ≡ without_keys store.old.space keys.now }
+    // Nothing else of the store changes.
+    ensures rest { store.new ≡ record store.old { space = store.new.space } }
     ensures kept { (next : ℕ) → InStep store.old indexes.old next → InStep store.new indexes.new next }
     ensures definitions { definitions_of indexes.new ≡ definitions_of indexes.old }
 {
@@ -24,6 +26,8 @@ pub fn remove_all(store: &mut HashStore, indexes: &mut [FtIndex], keys: &Words<'
 /// Takes a key's document out of the store and of each index.
 pub fn remove(store: &mut HashStore, indexes: &mut [FtIndex], key: &[u8])
     ensures space { store.new.space ≡ erase store.old.space key.now }
+    // Nothing else of the store changes.
+    ensures rest { store.new ≡ record store.old { space = store.new.space } }
     ensures kept { (next : ℕ) → InStep store.old indexes.old next → InStep store.new indexes.new next }
     ensures definitions { definitions_of indexes.new ≡ definitions_of indexes.old }
 {

@@ -1,6 +1,7 @@
 -- What stands in brackets or braces, and the names of a field, are read as what they spell.
-use Rattle.std.proofs.Common.{◌≡◌, ℕ, zero, suc, ◌<◌, Bool, true, false, cond, IsTrue, not, ◌&&◌, List, [], ◌∷◌, ◌++◌, length, map, Option, Some, None, Ok, Err, refl, sym, ap, ◌∙◌, append_assoc, append-nil, unwrap_or, arith}
+use Rattle.std.proofs.Common.{◌≡◌, ℕ, zero, suc, ◌<◌, Bool, true, false, cond, List, [], ◌∷◌, ◌++◌, length, map, Option, Some, None, Ok, Err, refl, sym, ap, ◌∙◌, append_assoc, append-nil, unwrap_or, arith}
 use Rattle.std.specs.List.{cons_option, flat_map, list_all}
+use Rattle.std.proofs.lemmas.Bool.{and_parts, not-true}
 use Rattle.ft_base.specs.declared.definition.IndexDef.{IndexDef}
 use Rattle.ft_base.specs.declared.query.Param.{Param}
 use Rattle.ft_base.specs.declared.query.Query.{Query}
@@ -53,10 +54,6 @@ pub bare_unless : {A : Type 0} (fs : List QueryFault) (rest : List Lexeme) (x : 
 bare_unless [] rest x = refl
 bare_unless (f ∷ fs) rest x = refl
 
-pub not_true : (b : Bool) → IsTrue (not b) → b ≡ false
-not_true true h = absurd cc
-not_true false h = refl
-
 module _ (def : IndexDef) (params : List Param) where
   -- ---- attributes
 
@@ -64,8 +61,8 @@ module _ (def : IndexDef) (params : List Param) where
       → (n : ℕ) (before : List Pair) (r : ℕ) (rest : List Lexeme) → length us < n → Same before names → pairs_in def params n before (us ++ sign r signs.AttrClose ∷ rest) ≡ Closed (before ++ pairs) rest
   block_again d zero before r rest l s = absurd (omega arith)
   block_again (none names) (suc n) before r rest l s = ap (λ (ps : List Pair). Closed ps rest) (sym (append-nil before))
-  block_again (last names p q name t h k) (suc n) before r rest l s = rw (s name ∙ not_true (has_name names name) h, k) refl
-  block_again (more names p q v name t h k d) (suc n) before r rest l s = rw (s name ∙ not_true (has_name names name) h, k)
+  block_again (last names p q name t h k) (suc n) before r rest l s = rw (s name ∙ not-true (has_name names name) h, k) refl
+  block_again (more names p q v name t h k d) (suc n) before r rest l s = rw (s name ∙ not-true (has_name names name) h, k)
       (block_again d n (before ++ record { at = p; name = name; value = Some t } ∷ []) r rest (omega arith) (same_more before names (record { at = p; name = name; value = Some t }) s)
       ∙ ap (λ (ps : List Pair). Closed ps rest) (append_assoc before (record { at = p; name = name; value = Some t } ∷ []) _))
 
@@ -99,14 +96,6 @@ module _ (def : IndexDef) (params : List Param) where
   tag_sign (kinds.Sign s) h = absurd cc
   tag_sign other h = refl
 
-  and_left : (a b : Bool) → IsTrue (a && b) → a ≡ true
-  and_left true b h = refl
-  and_left false b h = absurd cc
-
-  and_right : (a b : Bool) → IsTrue (a && b) → IsTrue b
-  and_right true b h = h
-  and_right false b h = absurd cc
-
   tag_step : (case : Bool) (before : List TagPart) (t : Lexeme) (rest : List Lexeme) → is_tag t.kind ≡ true
       → tags_at def params case before (t ∷ rest) ≡ unless (faults_at params t) rest (tags_at def params case (before ++ tag_part params case t.kind ∷ []) rest)
   unfolding tags_at
@@ -130,8 +119,9 @@ module _ (def : IndexDef) (params : List Param) where
       → bare (tags_at def params case before (us ++ sign s signs.TagClose ∷ rest)) ≡ told (tag_faults def params 0 us) (Ok (before ++ map (λ (t : Lexeme). tag_part params case t.kind) us, rest))
   tags_again case before [] s rest h = ap bare (tags_end case before s rest) ∙ ap (λ (ps : List TagPart). Ok (ps, rest)) (sym (append-nil before))
   tags_again case before (t ∷ us) s rest h =
-      ap bare (tag_step case before t (us ++ sign s signs.TagClose ∷ rest) (and_left (is_tag t.kind) (list_all (λ (u : Lexeme). is_tag u.kind) us) h))
-      ∙ tags_told case before t us s rest (tags_again case (before ++ tag_part params case t.kind ∷ []) us s rest (and_right (is_tag t.kind) (list_all (λ (u : Lexeme). is_tag u.kind) us) h)) (faults_at params t)
+      let both = and_parts (is_tag t.kind) (list_all (λ (u : Lexeme). is_tag u.kind) us) h in
+      ap bare (tag_step case before t (us ++ sign s signs.TagClose ∷ rest) both.0)
+      ∙ tags_told case before t us s rest (tags_again case (before ++ tag_part params case t.kind ∷ []) us s rest both.1) (faults_at params t)
 
   -- ---- names
 

@@ -27,7 +27,7 @@ use Rattle.query_grammar.proofs.Signs.{Late, lexeme, param_front, sign_front}
 abbrev fitting : Bool → List ℕ
 fitting b = cond b (codes "true") (codes "1")
 
-one_spelled : int_of (codes "1") ≡ Some (pos 1)
+pub one_spelled : int_of (codes "1") ≡ Some (pos 1)
 unfolding int_of
 one_spelled = rw (decimal_digit 1 (lit< tt)) refl
 
@@ -59,7 +59,8 @@ or_swap true true c = refl
 or_swap true false c = refl
 or_swap false b c = refl
 
-named_last : (before : List Pair) (p : Pair) (x : List ℕ) → has_name (pair_names (before ++ p ∷ [])) x ≡ (bytes_eq x p.name || has_name (pair_names before) x)
+-- the names of attributes, with one more
+pub named_last : (before : List Pair) (p : Pair) (x : List ℕ) → has_name (pair_names (before ++ p ∷ [])) x ≡ (bytes_eq x p.name || has_name (pair_names before) x)
 named_last [] p x = refl
 named_last (q ∷ before) p x =
     ap (λ (b : Bool). bytes_eq x q.name || b) (named_last before p x) ∙ or_swap (bytes_eq x q.name) (bytes_eq x p.name) (has_name (pair_names before) x)

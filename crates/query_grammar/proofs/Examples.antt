@@ -1,16 +1,11 @@
 -- What the definitions say of a few texts.
-use Rattle.std.proofs.Common.{◌≡◌, ℕ, List, [], ◌∷◌, length, true, false, Result, Ok, Err, Some, refl, sym, ap, ap₂, ◌∙◌, lit<, map, pos}
+use Rattle.std.proofs.Common.{◌≡◌, ℕ, List, [], ◌∷◌, length, true, false, Result, Ok, Err, Some, refl, ap, ap₂, ◌∙◌, pos}
 use Rattle.std.specs.Prelude.{codes}
 use Rattle.ft_base.specs.Number.{int_of}
 use Rattle.ft_base.specs.declared.definition.FieldKind.TheVariants as field_kind
 use Rattle.ft_base.specs.declared.definition.IndexDef.{IndexDef}
-use Rattle.std.proofs.lemmas.Fmt.{decimal_digit}
-use Rattle.ft_base.specs.declared.query.Fields.{Fields}
-use Rattle.ft_base.specs.declared.query.Query.TheFolds.{fold-roll-Query}
-use Rattle.ft_base.specs.declared.query.Query.TheOpen as layer
-use Rattle.ft_base.specs.declared.query.Query.TheVariants.{rolls-And, rolls-Not, rolls-Word}
 use Rattle.query_grammar.specs.Answer.{lex_place}
-use Rattle.query_grammar.specs.Shape.{Shape, One, Several, Else, shape_of, shape_step, together}
+use Rattle.query_grammar.specs.Shape.{Shape, One, Several, Else, shape_of, together}
 use Rattle.ft_base.specs.declared.query.Fields.TheVariants.{All, Named}
 use Rattle.ft_base.specs.declared.query.Query.{Query}
 use Rattle.ft_base.specs.declared.query.Query.TheVariants as tree
@@ -27,6 +22,8 @@ use Rattle.query_grammar.specs.declared.fault.QueryFault.{QueryFault}
 use Rattle.query_grammar.specs.declared.fault.QueryFault.TheVariants.{Syntax, UnknownField, WrongKind, NoParam, TooDeep, OutOfScope}
 use Rattle.query_grammar.specs.Values.{below_limit, slop_of}
 use Rattle.query_grammar.specs.Reading.{answer_of, whole_at, joined_at, chain_at, atom_at, pairs_at, part_at, name_at, names_at, value_at, range_at, tags_at, unary_at}
+use Rattle.query_grammar.proofs.Blocks.{one_spelled}
+use Rattle.query_grammar.proofs.Shapes.{shape-And, shape-Not, shape-Word}
 
 -- an index of a TEXT field t, a NUMERIC field n and a TAG field g, with one stop word
 abbrev def : IndexDef
@@ -120,33 +117,20 @@ levels = (refl, refl)
 
 -- ---- attributes, which ask for the shape of a tree
 
-one_spelled : int_of (codes "1") ≡ Some (pos 1)
-unfolding int_of
-one_spelled = rw (decimal_digit 1 (lit< tt)) refl
-
 one_slop : slop_of (codes "1") ≡ Some 1
 one_slop = ap below_limit one_spelled
 
-word_shape : (fields : Fields) (text : List ℕ) → shape_of (tree.Word fields text) ≡ One fields text
-word_shape fields text = ap shape_of (sym (rolls-Word fields text)) ∙ fold-roll-Query Shape shape_step (layer.Word fields text)
-
-not_shape : (q : Query) → shape_of (tree.Not q) ≡ Else
-not_shape q = ap shape_of (sym (rolls-Not q)) ∙ fold-roll-Query Shape shape_step (layer.Not q)
-
-and_shape : (qs : List Query) → shape_of (tree.And qs) ≡ together (map shape_of qs)
-and_shape qs = ap shape_of (sym (rolls-And qs)) ∙ fold-roll-Query Shape shape_step (layer.And qs)
-
 pair_shape : (a b : Query) (x y : Shape) → shape_of a ≡ x → shape_of b ≡ y → shape_of (tree.And (a ∷ b ∷ [])) ≡ together (x ∷ y ∷ [])
-pair_shape a b x y e f = and_shape (a ∷ b ∷ []) ∙ ap₂ (λ (x y : Shape). together (x ∷ y ∷ [])) e f
+pair_shape a b x y e f = shape-And (a ∷ b ∷ []) ∙ ap₂ (λ (x y : Shape). together (x ∷ y ∷ [])) e f
 
 words_shape : (a b : List ℕ) → shape_of (tree.And (word a ∷ word b ∷ [])) ≡ Several All (a ∷ b ∷ [])
-words_shape a b = pair_shape (word a) (word b) (One All a) (One All b) (word_shape All a) (word_shape All b)
+words_shape a b = pair_shape (word a) (word b) (One All a) (One All b) (shape-Word All a) (shape-Word All b)
 
 group_shape : (a : List ℕ) (q : Query) (bs : List (List ℕ)) → shape_of q ≡ Several All bs → shape_of (tree.And (word a ∷ q ∷ [])) ≡ Else
-group_shape a q bs e = pair_shape (word a) q (One All a) (Several All bs) (word_shape All a) e
+group_shape a q bs e = pair_shape (word a) q (One All a) (Several All bs) (shape-Word All a) e
 
 denied_shape : (a : List ℕ) (q : Query) → shape_of (tree.And (word a ∷ tree.Not q ∷ [])) ≡ Else
-denied_shape a q = pair_shape (word a) (tree.Not q) (One All a) Else (word_shape All a) (not_shape q)
+denied_shape a q = pair_shape (word a) (tree.Not q) (One All a) Else (shape-Word All a) (shape-Not q)
 
 -- a phrase of a group of words
 phrase : shown (codes "(x z)=>{$slop:1}") ≡ Ok (tree.Phrase All (codes "x" ∷ codes "z" ∷ []) (Some 1) false)
@@ -166,7 +150,7 @@ arrow_first = rw (one_spelled, denied_shape (codes "x") (word (codes "y"))) refl
 -- a value that its name does not have
 wrong_value : shown (codes "x=>{$inorder:1}") ≡ Err (Syntax 13)
 unfolding lexemes lexed lexeme_at next_of_tag piece_at next_quoted quote_at next_raw raw_at run_at sign_role text_role range_role tag_role attribute_role next_letter word_at param_at whole_at joined_at chain_at atom_at pairs_at part_at name_at names_at value_at range_at tags_at unary_at
-wrong_value = rw (word_shape All (codes "x")) refl
+wrong_value = rw (shape-Word All (codes "x")) refl
 
 -- a fault of the lexemes stands at its own place
 lone_escape : shown (codes "hello\\") ≡ Err (Syntax 5)

@@ -2,7 +2,7 @@ mod Again
 mod AgainFields
 mod AgainParts
 mod Answers
-mod Blocks
+pub mod Blocks
 mod Chains
 mod Enclosed
 mod Ends
@@ -15,6 +15,7 @@ pub mod OneAnswer
 mod Order
 mod OrderParts
 mod Placing
+pub mod Shapes
 mod Signs
 mod Sound
 mod SoundAtoms

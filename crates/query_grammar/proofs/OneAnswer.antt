@@ -21,7 +21,7 @@ use Rattle.query_grammar.proofs.Chains.{sentence_begun}
 use Rattle.query_grammar.proofs.AgainParts.{bare, told}
 use Rattle.query_grammar.proofs.AgainFields.{sentence_read}
 use Rattle.query_grammar.proofs.Ends.{Halts, left, among_cut, among_found, broken_whole, faults_in, first_found, halts_end, none_cut, none_found, parts_in, reads, spelled}
-use Rattle.query_grammar.proofs.Placing.{rise_le, certain_place, first_of_longer, first_of_sentence, rise_split}
+use Rattle.query_grammar.proofs.Placing.{rise_le, certain_place, first_of_longer, first_of_sentence, no_faults, rise_split}
 use Rattle.query_grammar.proofs.Sound.{IsPart, LeadPart}
 use Rattle.query_grammar.proofs.SoundUnary.{read_spelled}
 use Rattle.query_grammar.proofs.Targets.{Spelled, Stops, Takes}
@@ -52,13 +52,10 @@ module _ (def : IndexDef) (params : List Param) where
   pub one_meaning : (ts : List Lexeme) (q r : Query) → IsMeaning def params ts q → IsMeaning def params ts r → q ≡ r
   one_meaning ts q r h k = let same : ◌≡◌ {A = Result Query Stop} (Ok q) (Ok r) = sym (meaning_read ts q h) ∙ meaning_read ts r k in cc
 
-  no_fault_here : (f : QueryFault) → Contains [] f → ⊥
-  no_fault_here f c = let l : c.0 < 0 = c.1 in absurd (omega arith)
-
   no_fault : (end : ℕ) (ts : List Lexeme) (q : Query) (f : QueryFault) → IsMeaning def params ts q → HasFault def params end ts f → ⊥
   no_fault end ts q f h (broken front [] e b ends) = ends h.form (subst (λ (x : List Lexeme). IsQuery params x h.form) (e ∙ append-nil front) h.spelled)
   no_fault end ts q f h (broken front (t ∷ rest) e b ends) = ends (record { more = rest; form = h.form; spelled = subst (λ (x : List Lexeme). IsQuery params x h.form) (e ∙ sym (append_assoc front (t ∷ []) rest)) h.spelled })
-  no_fault end ts q f h (certain seen rest g e b c) = no_fault_here g (subst (λ (fs : List QueryFault). Contains fs g) h.clean (c rest h.form (subst (λ (x : List Lexeme). IsQuery params x h.form) e h.spelled)))
+  no_fault end ts q f h (certain seen rest g e b c) = no_faults g (subst (λ (fs : List QueryFault). Contains fs g) h.clean (c rest h.form (subst (λ (x : List Lexeme). IsQuery params x h.form) e h.spelled)))
 
   -- It has no tree where it has a fault.
   pub never_both : (end : ℕ) (ts : List Lexeme) (q : Query) (f : QueryFault) → IsMeaning def params ts q → IsFault def params end ts f → ⊥

@@ -65,10 +65,10 @@ module _ (mid bound : ℕ) where
       let a : suc t.at ≤ m = rise_le (suc t.at) m ts h.1 in
       (inl (omega arith), h.0, rising_lower (after mid bound t.at) (suc t.at) bound (ts ++ us) (omega arith) (rising (suc t.at) m ts us h.1 l k late))
 
-module _ (def : IndexDef) (params : List Param) where
-  no_faults : (f : QueryFault) → Contains [] f → ⊥
-  no_faults f c = let l : c.0 < 0 = c.1 in absurd (omega arith)
+pub no_faults : (f : QueryFault) → Contains [] f → ⊥
+no_faults f c = let l : c.0 < 0 = c.1 in absurd (omega arith)
 
+module _ (def : IndexDef) (params : List Param) where
   -- a sentence with what stands behind its beginning at the end
   record LateSentence (bound : ℕ) (seen : List Lexeme) : Type 0 where
     pub others : List Lexeme

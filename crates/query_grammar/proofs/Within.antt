@@ -1,5 +1,6 @@
 -- An arrow of a sentence stands before attributes, whose faults the sentence has.
-use Rattle.std.proofs.Common.{◌≡◌, ◌⊎◌, inl, inr, ℕ, Bool, true, false, ◌&&◌, IsTrue, List, [], ◌∷◌, ◌++◌, refl, sym, ap, ◌∙◌, append_assoc}
+use Rattle.std.proofs.Common.{◌≡◌, ◌⊎◌, inl, inr, ℕ, Bool, true, false, IsTrue, List, [], ◌∷◌, ◌++◌, refl, sym, ap, ◌∙◌, append_assoc}
+use Rattle.std.proofs.lemmas.Bool.{and_parts}
 use Rattle.std.proofs.lemmas.List.Elements.{Contains-append_left, Contains-append_right}
 use Rattle.std.specs.List.{Contains, flat_map, list_all}
 use Rattle.ft_base.specs.declared.definition.IndexDef.{IndexDef}
@@ -86,15 +87,9 @@ names_no (more_names t p h d) = (name_kind t.kind h, (refl, names_no d))
 
 tags_no : (ts : List Lexeme) → IsTrue (list_all (λ (u : Lexeme). is_tag u.kind) ts) → NoArrow ts
 tags_no [] h = tt
-tags_no (t ∷ ts) h = (tag_kind t.kind (left (is_tag t.kind) (list_all (λ (u : Lexeme). is_tag u.kind) ts) h), tags_no ts (right (is_tag t.kind) (list_all (λ (u : Lexeme). is_tag u.kind) ts) h))
-  where
-    left : (a b : Bool) → IsTrue (a && b) → a ≡ true
-    left true b h = refl
-    left false b h = absurd cc
-
-    right : (a b : Bool) → IsTrue (a && b) → IsTrue b
-    right true b h = h
-    right false b h = absurd cc
+tags_no (t ∷ ts) h =
+    let both = and_parts (is_tag t.kind) (list_all (λ (u : Lexeme). is_tag u.kind) ts) h in
+    (tag_kind t.kind both.0, tags_no ts both.1)
 
 module _ (def : IndexDef) (params : List Param) where
   edge_kind : (k : LexKind) → is_edge params k ≡ true → is_arrow k ≡ false

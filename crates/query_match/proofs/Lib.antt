@@ -1,3 +1,2 @@
 mod PlacesLemmas
-mod QueryLemmas
 mod SearchedLemmas

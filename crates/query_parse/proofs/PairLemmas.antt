@@ -1,8 +1,7 @@
 -- What is asked of attributes as contracts see them, asked of them as the code has them.
-use Rattle.std.proofs.Common.{◌≡◌, ◌≤◌, ℕ, List, [], ◌∷◌, ◌++◌, length, drop, get_or, Bool, cond, true, false, refl, ap, sym, ◌∙◌, append-nil, arith}
-use Rattle.std.specs.Prelude.{◌||◌, Option, Some, None, option_to_list}
+use Rattle.std.proofs.Common.{◌≡◌, ◌≤◌, ℕ, List, [], ◌∷◌, ◌++◌, length, drop, get_or, cond, true, false, refl, ap, sym, ◌∙◌, append-nil, arith}
+use Rattle.std.specs.Prelude.{Option, Some, None, option_to_list}
 use Rattle.query_parse.specs.Blocks.{and_one}
-use Rattle.std.specs.Str.{bytes_eq}
 use Rattle.ft_base.specs.declared.definition.IndexDef.{IndexDef}
 use Rattle.ft_base.specs.declared.query.Param.{Param}
 use Rattle.query_lex.specs.declared.lexeme.Lexeme.{Lexeme}
@@ -12,19 +11,6 @@ use Rattle.query_grammar.specs.Grammar.{has_name}
 use Rattle.query_grammar.specs.Reading.{Block, Open, behind_name, name_in, named_pair, names_of, next_sign, pair_with, sign_in}
 use Rattle.query_parse.specs.Seen.{pair_of, pairs_of}
 use Rattle.query_parse.specs.declared.blocks.Pair.{Pair}
-
--- the names of attributes, with one more
-pub names-more : (def : IndexDef) (params : List Param) (pairs : List form.Pair) (pair : form.Pair) (name : List ℕ)
-    → has_name (names_of def params (pairs ++ pair ∷ [])) name ≡ (bytes_eq name pair.name || has_name (names_of def params pairs) name)
-names-more def params [] pair name = refl
-names-more def params (first ∷ pairs) pair name =
-    ap (λ (any : Bool). bytes_eq name first.name || any) (names-more def params pairs pair name)
-    ∙ swapped (bytes_eq name first.name) (bytes_eq name pair.name) (has_name (names_of def params pairs) name)
-  where
-    swapped : (a b c : Bool) → (a || (b || c)) ≡ (b || (a || c))
-    swapped true true c = refl
-    swapped true false c = refl
-    swapped false b c = refl
 
 -- one attribute more
 pub pairs-of-more : (pairs : List Pair) (pair : Pair) → pairs_of (pairs ++ pair ∷ []) ≡ pairs_of pairs ++ pair_of pair ∷ []

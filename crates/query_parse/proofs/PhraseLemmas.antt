@@ -6,7 +6,7 @@ use Rattle.ft_base.specs.declared.query.Query.TheVariants as tree
 use Rattle.query_grammar.specs.Faults.{is_else}
 use Rattle.query_grammar.specs.Meaning.{arranged}
 use Rattle.query_grammar.specs.Shape.{Shape, One, Several, Else, same_fields, shape_of, together, with_word}
-use Rattle.query_parse.proofs.QueryLemmas.{shape-Empty, shape-All, shape-Word, shape-Prefix, shape-Phrase, shape-Tags, shape-Range, shape-And, shape-Or, shape-Not, shape-Optional}
+use Rattle.query_grammar.proofs.Shapes.{part_shapes}
 use Rattle.query_parse.specs.Words.{fields_in, word_in}
 
 -- words in the same fields, as a shape
@@ -77,4 +77,4 @@ else-stays slop in_order q (One fields word) e = refl
 else-stays slop in_order q (Several fields words) e = absurd cc
 else-stays slop in_order q Else e = refl
 
-pub ruleset arranging = (few-stay, else-stays, shape-Empty, shape-All, shape-Word, shape-Prefix, shape-Phrase, shape-Tags, shape-Range, shape-And, shape-Or, shape-Not, shape-Optional)
+pub ruleset arranging = (few-stay, else-stays, part_shapes)

@@ -1,48 +1,11 @@
--- The shape of each part of a tree.
-use Rattle.std.proofs.Common.{◌≡◌, ◌<◌, get_or, drop, ℕ, ℤ, List, [], ◌∷◌, length, map, Bool, true, false, cond, Option, None, not, ◌||◌, refl, ap, sym, ◌∙◌, arith}
+-- Which words a shape has and in which fields, and whether parts side by side are words.
+use Rattle.std.proofs.Common.{◌≡◌, ◌<◌, get_or, drop, ℕ, List, [], ◌∷◌, length, map, Bool, true, false, cond, None, not, ◌||◌, refl, ap, sym, ◌∙◌, arith}
 use Rattle.ft_base.specs.declared.query.Fields.{Fields}
 use Rattle.ft_base.specs.declared.query.Query.{Query}
-use Rattle.ft_base.specs.declared.query.TagPart.{TagPart}
-use Rattle.ft_base.specs.declared.query.Query.TheVariants.{rolls-Empty, rolls-All, rolls-Word, rolls-Prefix, rolls-Phrase, rolls-Tags, rolls-Range, rolls-And, rolls-Or, rolls-Not, rolls-Optional}
-use Rattle.ft_base.specs.declared.query.Query.TheVariants as tree
-use Rattle.ft_base.specs.declared.query.Query.TheFolds.{fold-roll-Query}
-use Rattle.ft_base.specs.declared.query.Query.TheOpen as layer
-use Rattle.query_grammar.specs.Shape.{Shape, One, Several, Else, same_fields, shape_of, shape_step, together, with_word}
-use Rattle.query_parse.specs.Words.{alike, fields_of, is_one, word_in}
+use Rattle.query_grammar.specs.Shape.{Shape, One, Several, Else, same_fields, shape_of, together, with_word}
 use Rattle.query_grammar.specs.Faults.{is_else}
-
-pub shape-Empty : shape_of tree.Empty ≡ Else
-shape-Empty = ap shape_of (sym rolls-Empty) ∙ fold-roll-Query Shape shape_step layer.Empty
-
-pub shape-All : shape_of tree.All ≡ Else
-shape-All = ap shape_of (sym rolls-All) ∙ fold-roll-Query Shape shape_step layer.All
-
-pub shape-Word : (fields : Fields) (text : List ℕ) → shape_of (tree.Word fields text) ≡ One fields text
-shape-Word fields text = ap shape_of (sym (rolls-Word fields text)) ∙ fold-roll-Query Shape shape_step (layer.Word fields text)
-
-pub shape-Prefix : (fields : Fields) (text : List ℕ) → shape_of (tree.Prefix fields text) ≡ Else
-shape-Prefix fields text = ap shape_of (sym (rolls-Prefix fields text)) ∙ fold-roll-Query Shape shape_step (layer.Prefix fields text)
-
-pub shape-Phrase : (fields : Fields) (words : List (List ℕ)) (slop : Option ℕ) (in_order : Bool) → shape_of (tree.Phrase fields words slop in_order) ≡ Several fields words
-shape-Phrase fields words slop in_order = ap shape_of (sym (rolls-Phrase fields words slop in_order)) ∙ fold-roll-Query Shape shape_step (layer.Phrase fields words slop in_order)
-
-pub shape-Tags : (field : ℕ) (tags : List TagPart) → shape_of (tree.Tags field tags) ≡ Else
-shape-Tags field tags = ap shape_of (sym (rolls-Tags field tags)) ∙ fold-roll-Query Shape shape_step (layer.Tags field tags)
-
-pub shape-Range : (field : ℕ) (low : ℤ) (high : ℤ) → shape_of (tree.Range field low high) ≡ Else
-shape-Range field low high = ap shape_of (sym (rolls-Range field low high)) ∙ fold-roll-Query Shape shape_step (layer.Range field low high)
-
-pub shape-And : (parts : List Query) → shape_of (tree.And parts) ≡ together (map shape_of parts)
-shape-And parts = ap shape_of (sym (rolls-And parts)) ∙ fold-roll-Query Shape shape_step (layer.And parts)
-
-pub shape-Or : (parts : List Query) → shape_of (tree.Or parts) ≡ Else
-shape-Or parts = ap shape_of (sym (rolls-Or parts)) ∙ fold-roll-Query Shape shape_step (layer.Or parts)
-
-pub shape-Not : (part : Query) → shape_of (tree.Not part) ≡ Else
-shape-Not part = ap shape_of (sym (rolls-Not part)) ∙ fold-roll-Query Shape shape_step (layer.Not part)
-
-pub shape-Optional : (part : Query) → shape_of (tree.Optional part) ≡ Else
-shape-Optional part = ap shape_of (sym (rolls-Optional part)) ∙ fold-roll-Query Shape shape_step (layer.Optional part)
+use Rattle.query_grammar.proofs.Shapes.{part_shapes}
+use Rattle.query_parse.specs.Words.{alike, fields_of, is_one, word_in}
 
 -- parts side by side of which one stands alone
 pub fields-alone : (shape : Shape) → fields_of (together (shape ∷ [])) ≡ fields_of shape
@@ -167,4 +130,4 @@ else-ends [] a b long first next e = absurd (omega (arith, long))
 else-ends (p ∷ []) a b long first next e = absurd (omega (arith, long))
 else-ends (p ∷ q ∷ parts) a b long first next e = else-apart p q parts (ap (λ x. alike (shape_of x) (shape_of q)) (sym first) ∙ (ap (λ x. alike (shape_of a) (shape_of x)) (sym next) ∙ e))
 
-pub ruleset shapes = (shape-Empty, shape-All, shape-Word, shape-Prefix, shape-Phrase, shape-Tags, shape-Range, shape-And, shape-Or, shape-Not, shape-Optional, fields-alone, word-alone, fields-none, word-none)
+pub ruleset shapes = (part_shapes, fields-alone, word-alone, fields-none, word-none)

@@ -2,6 +2,7 @@
 use Rattle.std.proofs.Common.{◌≡◌, ℕ, zero, suc, ◌<◌, ◌+◌, Bool, true, false, ◌&&◌, ◌||◌, eqb, List, [], ◌∷◌, filter, Option, Some, None, refl, sym, ap, ◌∙◌, inl, inr, arith}
 use Rattle.std.specs.List.{list_any, slice_get, filter_map, cons_option}
 use Rattle.query_plan.specs.Sought.{passes}
+use Rattle.std.proofs.Math.Bool.{or-false}
 use Rattle.std.proofs.lemmas.Bool.{cases_Bool, false≢true}
 use Rattle.std.proofs.lemmas.Bool.Decides.{nat_tests}
 
@@ -85,11 +86,7 @@ one_named : {X : Type 0} (q : X → Bool) (n m number : ℕ) (xs : List X) → n
 one_named q n m number [] is = refl
 one_named q n zero number (x ∷ xs) is =
     let here : eqb number n ≡ true = grind (arith, nat_tests) in
-    rw (here, passed q (suc n) number xs (omega (arith, is))) (or_false (q x))
-  where
-    or_false : (b : Bool) → (b || false) ≡ b
-    or_false true = refl
-    or_false false = refl
+    rw (here, passed q (suc n) number xs (omega (arith, is))) (or-false (q x))
 one_named q n (suc m) number (x ∷ xs) is =
     let other : eqb number n ≡ false = grind (arith, nat_tests) in
     rw other (one_named q (suc n) m number xs (omega (arith, is)))

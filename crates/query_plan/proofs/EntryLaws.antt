@@ -3,6 +3,7 @@ use Rattle.std.proofs.Common.{◌≡◌, ℕ, suc, ◌<◌, ◌≤◌, Bool, tru
 use Rattle.std.specs.Prelude.{nat_eq}
 use Rattle.std.specs.List.{All, list_any}
 use Rattle.std.specs.Map.{lookup}
+use Rattle.std.proofs.Math.Bool.{or-false}
 use Rattle.std.proofs.lemmas.Bool.{cases_Bool, false≢true}
 use Rattle.std.proofs.lemmas.Bool.Decides.{nat_tests, eqb_tells}
 use Rattle.ft_base.specs.declared.doc.Doc.{Doc}
@@ -12,6 +13,7 @@ use Rattle.id_iters.proofs.EntryLaws.{has_at_low}
 use Rattle.index_lists.specs.Has.{alive}
 use Rattle.index_lists.specs.Lists.{has_id}
 use Rattle.inverted_list.specs.Listing.{RisesAbove, last_id}
+use Rattle.numeric_ranges.proofs.HalfLaws.{rises_low}
 use Rattle.query_plan.specs.Plans.{IsIn}
 
 abbrev pub row_of : Doc → ℕ × List ℕ
@@ -84,11 +86,7 @@ pub one_finds : (test : Doc → Bool) (low : ℕ) (doc : Doc) (docs : List Doc) 
 one_finds test low doc [] rise among = absurd among
 one_finds test low doc (first ∷ docs) rise (inl same) =
     subst (λ (d : Doc). list_any (λ (e : Doc). nat_eq d.id e.id && test e) (first ∷ docs) ≡ test d) (sym same)
-    (rw (eqb_itself first.id, missed test first.id first.id docs rise.1 (omega arith)) (or_false (test first)))
-  where
-    or_false : (b : Bool) → (b || false) ≡ b
-    or_false true = refl
-    or_false false = refl
+    (rw (eqb_itself first.id, missed test first.id first.id docs rise.1 (omega arith)) (or-false (test first)))
 one_finds test low doc (first ∷ docs) rise (inr among) =
     let behind = above first.id doc docs rise.1 among in
     let other : eqb doc.id first.id ≡ false = grind (arith, nat_tests, behind) in
@@ -179,15 +177,11 @@ module _ {P : Type 0} (of : Doc → Option P) where
       ]
 
   -- their ids rise
-  rises_lower : (low high : ℕ) (es : List (ℕ × P)) → low ≤ high → RisesAbove high es → RisesAbove low es
-  rises_lower low high [] under rises = tt
-  rises_lower low high (e ∷ es) under rises = (omega (arith, under, rises.0), rises.1)
-
   entries_rise : (low : ℕ) (docs : List Doc) → Rise low docs → RisesAbove low (all_entries docs)
   entries_rise low [] rise = tt
   entries_rise low (doc ∷ docs) rise =
       elim (of doc) as (λ (o : Option P). RisesAbove low (entry_of doc.id o ++ all_entries docs)) [
-        | None ↦ rises_lower low doc.id (all_entries docs) (omega (arith, rise.0)) (entries_rise doc.id docs rise.1)
+        | None ↦ rises_low low doc.id (all_entries docs) (omega (arith, rise.0)) (entries_rise doc.id docs rise.1)
         | Some hit ↦ (rise.0, entries_rise doc.id docs rise.1)
       ]
 

@@ -1,7 +1,8 @@
 -- What the sets of a query's parts tell of documents.
-use Rattle.std.proofs.Common.{◌≡◌, ℕ, ℤ, ◌<◌, ◌≤◌, Bool, true, false, not, ◌&&◌, ◌||◌, List, [], ◌∷◌, ◌++◌, map, length, Option, Some, None, IsTrue, ◌↔◌, refl, sym, ap, ◌∙◌, subst, arith}
+use Rattle.std.proofs.Common.{◌≡◌, ℕ, ℤ, ◌<◌, ◌≤◌, Bool, true, false, not, ◌&&◌, List, [], ◌∷◌, ◌++◌, map, length, Option, Some, None, IsTrue, ◌↔◌, refl, sym, ap, ◌∙◌, subst, arith}
 use Rattle.std.specs.Prelude.{int_le, negsuc}
 use Rattle.std.specs.List.{list_all, list_any}
+use Rattle.std.proofs.Math.Bool.{and-true, or-false}
 use Rattle.std.proofs.lemmas.Bool.{le-leb}
 use Rattle.std.proofs.lemmas.List.{map-append}
 use Rattle.std.proofs.lemmas.List.Folds.{list_all-map}
@@ -10,13 +11,12 @@ use Rattle.ft_base.specs.declared.definition.IndexDef.{IndexDef}
 use Rattle.ft_base.specs.declared.doc.Doc.{Doc}
 use Rattle.ft_base.specs.declared.query.Fields.{Fields}
 use Rattle.ft_base.specs.declared.query.Query.{Query}
-use Rattle.ft_base.specs.declared.query.Query.TheFolds.{fold-roll-Query}
-use Rattle.ft_base.specs.declared.query.Query.TheOpen as layer
 use Rattle.ft_base.specs.declared.query.Query.TheVariants as query
 use Rattle.ft_base.specs.declared.query.TagPart.{TagPart}
 use Rattle.ft_base.proofs.AnyLaws.{any_filter_and, any_map}
-use Rattle.ft_meaning.specs.Holds.{Has, has_of, has_phrase, holds, holds_by, holds_step, named, searched}
+use Rattle.ft_meaning.specs.Holds.{has_of, has_phrase, holds, named, searched}
 use Rattle.ft_meaning.specs.Meaning.{field_tokens, has_words}
+use Rattle.ft_meaning.proofs.HoldsLaws.{holds-All, holds-And, holds-Empty, holds-Not, holds-Optional, holds-Or}
 use Rattle.id_iters.specs.Entries.{codes_at, phrase_has, stand_together}
 use Rattle.id_iters.specs.Held.{Held, codes_of}
 use Rattle.id_iters.specs.Leaves.{list_has, list_names, phrase_ids, word_entries}
@@ -135,28 +135,14 @@ module _ (def : IndexDef) (lists : AllLists) (held : Held) where
       stands (Some s) true = rw (le-leb 0 s (omega arith)) refl
       stands (Some s) false = rw (le-leb 0 s (omega arith)) refl
 
-      and_one : (b : Bool) → b ≡ (b && true)
-      and_one true = refl
-      and_one false = refl
-
       each : (doc : Doc) → list_any has_words (named def looked)
           ≡ list_any (λ (field : Field). has_phrase [] slop in_order (field_tokens def doc field)) (searched def looked)
       each doc =
           any_cong has_words (λ field. has_words field && has_phrase [] slop in_order (field_tokens def doc field)) (named def looked)
-          (λ field. and_one (has_words field) ∙ ap (λ b. has_words field && b) (sym (stands slop in_order)))
+          (λ field. sym (and-true (has_words field)) ∙ ap (λ b. has_words field && b) (sym (stands slop in_order)))
           ∙ sym (any_filter_and (λ (field : Field). has_phrase [] slop in_order (field_tokens def doc field)) has_words (named def looked))
 
   -- ---- parts made of others
-
-  pub holds-And : (has : Has) (parts : List Query) → holds_by has (query.And parts) ≡ list_all (holds_by has) parts
-  holds-And has parts =
-      ap (holds_by has) (sym (query.rolls-And parts))
-      ∙ (fold-roll-Query Bool (holds_step has) (layer.And parts) ∙ list_all-map (λ met. met) (holds_by has) parts)
-
-  pub holds-Or : (has : Has) (parts : List Query) → holds_by has (query.Or parts) ≡ list_any (holds_by has) parts
-  holds-Or has parts =
-      ap (holds_by has) (sym (query.rolls-Or parts))
-      ∙ (fold-roll-Query Bool (holds_step has) (layer.Or parts) ∙ any_map (λ met. met) (holds_by has) parts)
 
   pub every_tells : (queries : List Query) (whole : Query) (plans : List Planned) (ids : ℕ → Bool) → whole ≡ query.And queries → AllTell def lists held queries plans
       → ((id : ℕ) → ids id ≡ list_all (λ planned. ids_of held planned id) plans) → Tells def lists held (λ doc. holds whole def doc) ids
@@ -174,7 +160,7 @@ module _ (def : IndexDef) (lists : AllLists) (held : Held) where
       → Joins plans (made ∷ []) → Tells def lists held (λ doc. holds whole def doc) (ids_of held made)
   some_tells queries whole plans made is tell joins = record {
     at = λ live docs doc are among.
-        or_false (ids_of held made doc.id)
+        sym (or-false (ids_of held made doc.id))
         ∙ joins.set held doc.id
         ∙ sym (any_map (λ b. b) (λ planned. ids_of held planned doc.id) plans)
         ∙ ap (list_any (λ b. b)) (tell.at live docs doc are among)
@@ -182,10 +168,6 @@ module _ (def : IndexDef) (lists : AllLists) (held : Held) where
         ∙ sym (holds-Or (has_of def doc) queries)
         ∙ ap (λ q. holds q def doc) (sym is);
   }
-    where
-      or_false : (b : Bool) → b ≡ (b || false)
-      or_false true = refl
-      or_false false = refl
 
   pub some_ready : (plans : List Planned) (made : Planned) (from : ℕ) → Joins plans (made ∷ []) → AllReady held plans from → Ready held made.iter from
   some_ready plans made from joins all = (joins.ready held from all).0
@@ -193,20 +175,19 @@ module _ (def : IndexDef) (lists : AllLists) (held : Held) where
   pub none_tells : (whole : Query) (ids : ℕ → Bool) → whole ≡ query.Empty → ids ≡ (λ id. false) → Tells def lists held (λ doc. holds whole def doc) ids
   none_tells whole ids is same = record {
     at = λ live docs doc are among.
-        ap (λ (set : ℕ → Bool). set doc.id) same ∙ sym (ap (λ q. holds q def doc) (is ∙ sym query.rolls-Empty) ∙ fold-roll-Query Bool (holds_step (has_of def doc)) layer.Empty);
+        ap (λ (set : ℕ → Bool). set doc.id) same ∙ sym (ap (λ q. holds q def doc) is ∙ holds-Empty (has_of def doc));
   }
 
   pub all_tell : (whole : Query) (ids : ℕ → Bool) → whole ≡ query.All → ids ≡ (λ id. true) → Tells def lists held (λ doc. holds whole def doc) ids
   all_tell whole ids is same = record {
     at = λ live docs doc are among.
-        ap (λ (set : ℕ → Bool). set doc.id) same ∙ sym (ap (λ q. holds q def doc) (is ∙ sym query.rolls-All) ∙ fold-roll-Query Bool (holds_step (has_of def doc)) layer.All);
+        ap (λ (set : ℕ → Bool). set doc.id) same ∙ sym (ap (λ q. holds q def doc) is ∙ holds-All (has_of def doc));
   }
 
   pub optional_tells : (part whole : Query) (ids : ℕ → Bool) → whole ≡ query.Optional part → ids ≡ (λ id. true) → Tells def lists held (λ doc. holds whole def doc) ids
   optional_tells part whole ids is same = record {
     at = λ live docs doc are among.
-        ap (λ (set : ℕ → Bool). set doc.id) same
-        ∙ sym (ap (λ q. holds q def doc) (is ∙ sym (query.rolls-Optional part)) ∙ fold-roll-Query Bool (holds_step (has_of def doc)) (layer.Optional part));
+        ap (λ (set : ℕ → Bool). set doc.id) same ∙ sym (ap (λ q. holds q def doc) is ∙ holds-Optional (has_of def doc) part);
   }
 
   pub other_tells : (part whole : Query) (ids others : ℕ → Bool) → whole ≡ query.Not part → Tells def lists held (λ doc. holds part def doc) ids
@@ -214,7 +195,7 @@ module _ (def : IndexDef) (lists : AllLists) (held : Held) where
   other_tells part whole ids others is tells set = record {
     at = λ live docs doc are among.
         set doc.id ∙ ap not (tells.at live docs doc are among)
-        ∙ sym (ap (λ q. holds q def doc) (is ∙ sym (query.rolls-Not part)) ∙ fold-roll-Query Bool (holds_step (has_of def doc)) (layer.Not part));
+        ∙ sym (ap (λ q. holds q def doc) is ∙ holds-Not (has_of def doc) part);
   }
 
   -- ---- plans that are gathered

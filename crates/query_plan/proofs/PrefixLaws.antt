@@ -1,21 +1,17 @@
 -- Words that begin with a text: those of a document, and those that have lists.
-use Rattle.std.proofs.Common.{◌≡◌, ℕ, Bool, true, false, ◌&&◌, ◌||◌, List, [], ◌∷◌, filter, refl, sym, ap, ◌∙◌, subst, inl, inr}
+use Rattle.std.proofs.Common.{◌≡◌, ℕ, Bool, true, ◌&&◌, ◌||◌, List, [], ◌∷◌, filter, refl, sym, ap, ◌∙◌, subst, inl, inr}
 use Rattle.std.specs.Prelude.{is_some}
+use Rattle.std.specs.Cmp.{both_ways}
 use Rattle.std.specs.List.{flat_map, list_any}
 use Rattle.std.specs.Map.{keys_of, lookup}
 use Rattle.std.specs.Str.{bytes_eq}
 use Rattle.std.proofs.lemmas.Bool.{cases_Bool, false≢true, and_parts, and_from, or_left, or_right}
+use Rattle.std.proofs.lemmas.Cmp.{nat_list_eq_equiv}
 use Rattle.std.proofs.lemmas.List.Folds.{list_any-append}
 use Rattle.std.proofs.lemmas.Map.Made.{is_some-lookup}
 use Rattle.std.proofs.lemmas.Slice.Eq.{bytes_eq-Decides}
 use Rattle.ft_base.proofs.AnyLaws.{any_filter_and}
 use Rattle.ft_meaning.specs.Holds.{begins}
-
--- two tests that follow from one another are one
-pub both_ways : (a b : Bool) → (a ≡ true → b ≡ true) → (b ≡ true → a ≡ true) → a ≡ b
-both_ways true b to from = sym (to refl)
-both_ways false true to from = from refl
-both_ways false false to from = refl
 
 pub any_more : {X : Type 0} (f g : X → Bool) (xs : List X) → ((x : X) → f x ≡ true → g x ≡ true) → list_any f xs ≡ true → list_any g xs ≡ true
 any_more f g [] more some = absurd (false≢true some)
@@ -27,16 +23,13 @@ any_more f g (x ∷ xs) more some =
           or_right (g x) (list_any g xs) (any_more f g xs more rest)
     ]
 
-bytes_eq_itself : (word : List ℕ) → bytes_eq word word ≡ true
-bytes_eq_itself word = (bytes_eq-Decides word word).1 refl
-
 -- a word of some that passes
 pub some_word : {P : Type 0} (p : List ℕ → Bool) (words : List (List ℕ)) → list_any p words ≡ true
     → ((word : List ℕ) → list_any (bytes_eq word) words ≡ true → p word ≡ true → P) → P
 some_word p [] some next = absurd (false≢true some)
 some_word p (word ∷ words) some next =
     elim (cases_Bool (p word)) [
-      | inl y ↦ next word (or_left (bytes_eq word word) (list_any (bytes_eq word) words) (bytes_eq_itself word)) y
+      | inl y ↦ next word (or_left (bytes_eq word word) (list_any (bytes_eq word) words) (nat_list_eq_equiv.refl word)) y
       | inr n ↦
           let rest : list_any p words ≡ true = rw n at some in
           some_word p words rest (λ other among e. next other (or_right (bytes_eq other word) (list_any (bytes_eq other) words) among) e)

@@ -5,24 +5,24 @@ use Rattle.std.proofs.Common.{◌≡◌, ◌⊎◌, ℕ, ℤ, zero, suc, ◌<◌
 use Rattle.std.specs.Prelude.{nat_eq, int_le, int_lt, negsuc, pos}
 use Rattle.std.specs.List.{AllByRecursion, list_any, slice_get}
 use Rattle.std.proofs.lemmas.Bool.{cases_Bool, false≢true, le-leb, and_parts, and_from, and_right, or_from, or_left, or_right, false_from_ne_true}
+use Rattle.std.proofs.lemmas.Int.{ints}
 use Rattle.std.proofs.lemmas.Option.{slice_get_within, get_or_from_slice_get}
 use Rattle.ft_base.specs.Kinds.{is_numeric}
 use Rattle.ft_base.specs.declared.definition.Field.{Field}
-use Rattle.ft_base.specs.declared.definition.FieldKind.{FieldKind}
-use Rattle.ft_base.specs.declared.definition.FieldKind.TheVariants as kinds
 use Rattle.ft_base.specs.declared.doc.Doc.{Doc}
 use Rattle.ft_base.specs.Hash.{get_field}
 use Rattle.ft_base.proofs.AnyLaws.{any_filter_and}
-use Rattle.ft_meaning.specs.Holds.{field_number, has_number, is_between, value_number}
+use Rattle.ft_meaning.specs.Holds.{field_number, has_number, is_between}
+use Rattle.ft_meaning.proofs.HoldsLaws.{value_number-none}
 use Rattle.id_iters.specs.Entries.{lies_in, range_has, wanted}
 use Rattle.id_iters.specs.Held.{entries_of}
 use Rattle.index_lists.specs.Entries.{is_ranged, searched_number}
 use Rattle.inverted_list.specs.Listing.{Listing}
 use Rattle.numeric_ranges.specs.Ranges as ranges
-use Rattle.numeric_ranges.specs.Ranges.{AreParted, EntriesLie, IsPartition, LowsRise, Rows, is_below, list_at, low_of, meets}
+use Rattle.numeric_ranges.specs.Ranges.{AreParted, EntriesLie, IsPartition, Rows, is_below, list_at, low_of, meets}
 use Rattle.numeric_ranges.specs.Values.{Entries}
 use Rattle.numeric_ranges.proofs.ReachLaws.{list_here}
-use Rattle.numeric_ranges.proofs.ValueLaws.{le_from_not_lt, lt_from_le, le_trans}
+use Rattle.numeric_ranges.proofs.ValueLaws.{le_from_not_lt, le_trans}
 use Rattle.posting_block.specs.declared.hits.NumHit.{NumHit}
 use Rattle.query_plan.specs.Sought.{rows_from}
 use Rattle.query_plan.proofs.AnyLaws.{any_cong, any_none, any_or, or_and}
@@ -50,13 +50,8 @@ unranged low high doc (Some field) none =
       | inl y ↦ rw y refl
       | inr n ↦
           let other : is_numeric field.kind ≡ false = rw n at none in
-          rw n (ap (is_between low high) (no_number field.kind (get_field doc.hash field.name) other))
+          rw n (ap (is_between low high) (value_number-none field.kind (get_field doc.hash field.name) other))
     ]
-  where
-    no_number : (kind : FieldKind) (value : Option (List ℕ)) → is_numeric kind ≡ false → value_number kind value ≡ None
-    no_number kinds.Text value h = refl
-    no_number (kinds.Tag separator case) value h = refl
-    no_number kinds.Numeric value h = absurd (false≢true (sym h))
 
 -- ---- the ranges of an interval
 
@@ -93,16 +88,9 @@ any_there : {X : Type 0} (f g : X → Bool) (xs : List X) → ((k : ℕ) (x : X)
 any_there f g [] same = refl
 any_there f g (x ∷ xs) same = ap (λ b. b || list_any f xs) (same 0 x refl) ∙ ap (λ b. g x || b) (any_there f g xs (λ k y at. same (suc k) y at))
 
-le_lt_trans : (a b c : ℤ) → int_le a b ≡ true → int_lt b c ≡ true → int_lt a c ≡ true
-le_lt_trans a b c below less =
-    elim (cases_Bool (int_lt a c)) [
-      | inl y ↦ y
-      | inr n ↦ absurd (false≢true (sym (lt_from_le c b (le_trans c a b (le_from_not_lt a c n) below)) ∙ less))
-    ]
-
 below_trans : (next : Option ℤ) (a b : ℤ) → int_le a b ≡ true → is_below next b ≡ true → is_below next a ≡ true
 below_trans None a b le below = refl
-below_trans (Some bound) a b le below = le_lt_trans a b bound le below
+below_trans (Some bound) a b le below = grind (arith, ints)
 
 -- a row that a number lies in, or one behind it
 rows_lie : Rows → ℤ → Bool

@@ -1,8 +1,9 @@
 -- The tags that a query looks for, in a document.
-use Rattle.std.proofs.Common.{◌≡◌, ℕ, Bool, true, false, cond, ◌||◌, List, Option, Some, None, refl, ◌∙◌, inl, inr}
+use Rattle.std.proofs.Common.{◌≡◌, ℕ, Bool, true, cond, List, Option, Some, None, refl, ◌∙◌, inl, inr}
 use Rattle.std.specs.List.{list_any, slice_get}
 use Rattle.std.specs.Map.{keys_of}
 use Rattle.std.specs.Str.{bytes_eq}
+use Rattle.std.proofs.Math.Bool.{or-false}
 use Rattle.std.proofs.lemmas.Bool.{cases_Bool}
 use Rattle.ft_base.specs.declared.definition.Field.{Field}
 use Rattle.ft_base.specs.declared.definition.IndexDef.{IndexDef}
@@ -35,12 +36,8 @@ module _ (tags : Lists TagHit) (found : List (List ℕ)) (named : (tag : List �
   sought_here part =
       elim (cases_Bool part.prefix) [
         | inl y ↦ rw y (begins_among part.text (keys_of tags) found named)
-        | inr n ↦ rw n (or_false (list_any (bytes_eq part.text) found))
+        | inr n ↦ rw n (or-false (list_any (bytes_eq part.text) found))
       ]
-    where
-      or_false : (b : Bool) → (b || false) ≡ b
-      or_false true = refl
-      or_false false = refl
 
   -- One of the tags that are found is looked for where a tag that has a list and is looked for is one of them.
   pub sought_among : (parts : List TagPart) → list_any (λ tag. list_any (bytes_eq tag) found) (all_sought tags parts) ≡ list_any (is_sought parts) found

@@ -1,7 +1,10 @@
 -- Parts put together.
-use Rattle.std.proofs.Common.{◌≡◌, ℕ, zero, suc, Bool, true, false, ◌&&◌, ◌||◌, List, [], ◌∷◌, ◌++◌, map, length, refl, sym, ap, ◌∙◌, subst, arith}
+use Rattle.std.proofs.Common.{◌≡◌, ℕ, Bool, true, false, ◌&&◌, ◌||◌, List, [], ◌∷◌, ◌++◌, map, length, refl, sym, ap, ◌∙◌, subst, arith}
+use Rattle.std.specs.Cmp.{both_ways}
 use Rattle.std.specs.List.{All, AllByRecursion, list_all, list_any}
 use Rattle.std.specs.List.Sorted.{IsPermutation}
+use Rattle.std.proofs.Math.Bool.{or-false}
+use Rattle.std.proofs.lemmas.List.Elements.{All-from_recursion, recursion_from_All}
 use Rattle.std.proofs.lemmas.List.Folds.{list_any-append}
 use Rattle.std.proofs.lemmas.List.Sorted.{All-permutation, IsPermutation-sym}
 use Rattle.std.proofs.lemmas.List.Sums.{AllPass-from_list_all, list_all-from_AllPass}
@@ -13,18 +16,8 @@ use Rattle.id_iters.specs.declared.iter.Ahead.{Ahead}
 use Rattle.id_iters.specs.declared.iter.Iter.{Iter}
 use Rattle.query_plan.specs.Plans.{AllReady, Joins, ids_of}
 use Rattle.query_plan.specs.declared.size.Planned.{Planned}
-use Rattle.query_plan.proofs.PrefixLaws.{both_ways}
 
 -- ---- a fact of each item
-
-pub all_index : {X : Type 0} (P : X → Type 0) (xs : List X) → AllByRecursion P xs → All P xs
-all_index P [] all k d less = absurd (omega (arith, less))
-all_index P (x ∷ xs) all zero d less = all.0
-all_index P (x ∷ xs) all (suc k) d less = all_index P xs all.1 k d (omega (arith, less))
-
-pub all_parts : {X : Type 0} (P : X → Type 0) (xs : List X) → All P xs → AllByRecursion P xs
-all_parts P [] all = tt
-all_parts P (x ∷ xs) all = (all 0 x (omega arith), all_parts P xs (λ k d less. all (suc k) d (omega (arith, less))))
 
 all_joined : {X : Type 0} (P : X → Type 0) (xs ys : List X) → AllByRecursion P xs → AllByRecursion P ys → AllByRecursion P (xs ++ ys)
 all_joined P [] ys one other = other
@@ -65,7 +58,7 @@ joins_none made set ready = record {
 }
 
 all_two : {X : Type 0} (P : X → Type 0) (a b : X) → P a → P b → All P (a ∷ b ∷ [])
-all_two P a b one other = all_index P (a ∷ b ∷ []) (one, (other, tt))
+all_two P a b one other = All-from_recursion P (a ∷ b ∷ []) (one, (other, tt))
 
 -- two parts are one that has the ids of both
 pub joins_two : (one other made : Planned) (a b : Ahead) (parts : List Ahead) → parts ≡ a ∷ b ∷ []
@@ -81,17 +74,13 @@ joins_two one other made a b parts are first second set ready_a ready_b ready = 
       (set held ∙ ap (λ (ps : List Ahead). any_has (map (about_ahead held) ps)) are
       ∙ ap (λ (x : About). any_has (x ∷ about_ahead held b ∷ [])) (first held)
       ∙ ap (λ (y : About). any_has (about held one.iter ∷ y ∷ [])) (second held))
-      ∙ or_false (ids_of held one id || (ids_of held other id || false));
+      ∙ or-false (ids_of held one id || (ids_of held other id || false));
   ready = λ held from all. (
     ready held from (subst (All (λ (part : Ahead). AheadReady held part from)) (sym are)
         (all_two (λ (part : Ahead). AheadReady held part from) a b (ready_a held from all.0) (ready_b held from all.1.0))),
     tt,
   );
 }
-  where
-    or_false : (b : Bool) → (b || false) ≡ b
-    or_false true = refl
-    or_false false = refl
 
 -- ---- parts that are left, and pairs of those that are not
 
@@ -171,10 +160,10 @@ module _ (plans ordered : List Planned) (moved : IsPermutation plans ordered) (p
   pub every_ready : (held : Held) (from : ℕ) → AllReady held plans from → All (λ part. Ready held part from) parts
   every_ready held from all =
       subst (All (λ (part : Iter). Ready held part from)) (sym are)
-      (all_index (λ (part : Iter). Ready held part from) _ (over ordered
-      (all_parts (λ (planned : Planned). Ready held planned.iter from) ordered
+      (All-from_recursion (λ (part : Iter). Ready held part from) _ (over ordered
+      (recursion_from_All (λ (planned : Planned). Ready held planned.iter from) ordered
       (All-permutation (λ (planned : Planned). Ready held planned.iter from) plans ordered moved
-      (all_index (λ (planned : Planned). Ready held planned.iter from) plans all)))))
+      (All-from_recursion (λ (planned : Planned). Ready held planned.iter from) plans all)))))
     where
       over : (ps : List Planned) → AllReady held ps from → AllByRecursion (λ (part : Iter). Ready held part from) (map (λ (planned : Planned). planned.iter) ps)
       over [] h = tt
@@ -185,13 +174,9 @@ pub lists_set : {X : Type 0} (held : Held) (has : X → ℕ → Bool) (names : L
     → map (λ planned. ids_of held planned) plans ≡ map has names → ids_of held made ≡ (λ id. list_any (λ name. has name id) names)
 lists_set {X = X} held has names plans made joins same = λ i id. at id i
   where
-    or_false : (b : Bool) → b ≡ (b || false)
-    or_false true = refl
-    or_false false = refl
-
     at : (id : ℕ) → ids_of held made id ≡ list_any (λ name. has name id) names
     at id =
-        or_false (ids_of held made id)
+        sym (or-false (ids_of held made id))
         ∙ joins.set held id
         ∙ sym (any_map (λ (set : ℕ → Bool). set id) (λ planned. ids_of held planned) plans)
         ∙ ap (list_any (λ (set : ℕ → Bool). set id)) same

@@ -13,7 +13,7 @@ pub fn put_made(made: Result<Reply, NoMemory>, out: &mut Vec<u8>)
     requires empty { out.old.items ≡ [] }
     requires room { SHORT_REPLY ≤ vec_capacity out.old }
     ensures told { Told made out.new.items }
-    ensures room { SHORT_REPLY ≤ vec_capacity out.new }
+    ensures room { vec_capacity out.old ≤ vec_capacity out.new }
 {
     match made {
         Ok(reply) => put_tree(&reply, out),
@@ -26,7 +26,7 @@ fn put_tree(reply: &Reply, out: &mut Vec<u8>)
     requires empty { out.old.items ≡ [] }
     requires room { SHORT_REPLY ≤ vec_capacity out.old }
     ensures told { (out.new.items ≡ spelling reply.now) ⊎ (out.new.items ≡ spelling out_of_memory) }
-    ensures room { SHORT_REPLY ≤ vec_capacity out.new }
+    ensures room { vec_capacity out.old ≤ vec_capacity out.new }
 {
     match put_reply(out, reply) {
         Ok(()) => {}

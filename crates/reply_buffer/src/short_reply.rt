@@ -49,7 +49,7 @@ pub fn put_number(number: usize, out: &mut Vec<u8>)
     requires empty { out.old.items ≡ [] }
     requires room { SHORT_REPLY ≤ vec_capacity out.old }
     ensures number { out.new.items ≡ spelling (Number (pos number)) }
-    ensures room { SHORT_REPLY ≤ vec_capacity out.new }
+    ensures room { vec_capacity out.old ≤ vec_capacity out.new }
 {
     let mut buffer = Buffer::new();
     put_short(out, b":");
@@ -62,7 +62,7 @@ pub fn put_signed(number: i64, out: &mut Vec<u8>)
     requires empty { out.old.items ≡ [] }
     requires room { SHORT_REPLY ≤ vec_capacity out.old }
     ensures number { out.new.items ≡ spelling (Number number) }
-    ensures room { SHORT_REPLY ≤ vec_capacity out.new }
+    ensures room { vec_capacity out.old ≤ vec_capacity out.new }
 {
     let mut buffer = Buffer::new();
     put_short(out, b":");
@@ -75,7 +75,7 @@ pub fn put_flag(so: bool, out: &mut Vec<u8>)
     requires empty { out.old.items ≡ [] }
     requires room { SHORT_REPLY ≤ vec_capacity out.old }
     ensures flag { out.new.items ≡ spelling (one_if so) }
-    ensures room { SHORT_REPLY ≤ vec_capacity out.new }
+    ensures room { vec_capacity out.old ≤ vec_capacity out.new }
 {
     put_number(usize::from(so), out);
 }
@@ -85,7 +85,7 @@ pub fn put_kind(there: bool, out: &mut Vec<u8>)
     requires empty { out.old.items ≡ [] }
     requires room { SHORT_REPLY ≤ vec_capacity out.old }
     ensures kind { (doc : Option Doc) → there ≡ is_some doc → out.new.items ≡ spelling (Line (kind_of doc)) }
-    ensures room { SHORT_REPLY ≤ vec_capacity out.new }
+    ensures room { vec_capacity out.old ≤ vec_capacity out.new }
 {
     if there {
         put_short(out, b"+hash\r\n");

@@ -1,6 +1,7 @@
 -- What is due: the commands up to the first QUIT.
 use Rattle.std.proofs.Common.{◌≡◌, Bool, true, false, cond, List, [], ◌∷◌, ◌++◌, refl, ap, ◌∙◌}
 use Rattle.std.specs.Prelude.{◌||◌}
+use Rattle.std.proofs.lemmas.Bool.{or_parts}
 use Rattle.std.proofs.lemmas.List.Folds.{list_any-append}
 use Rattle.ft_base.specs.Words.{is_quit}
 use Rattle.resp_wire.specs.Stream.{Command, until_quit}
@@ -11,15 +12,11 @@ use Rattle.rsearch.specs.Session.{quits}
 pub quits_behind : (first others : List Command) → quits first ≡ false → quits (first ++ others) ≡ quits others
 quits_behind first others h = list_any-append is_quit first others ∙ ap (λ b. b || quits others) h
 
-neither : (a b : Bool) → (a || b) ≡ false → (a ≡ false) × (b ≡ false)
-neither true b e = absurd cc
-neither false b e = (refl, e)
-
 -- commands without QUIT are due, and so are the others up to their QUIT
 pub due_behind : (first others : List Command) → quits first ≡ false → until_quit (first ++ others) ≡ first ++ until_quit others
 due_behind [] others h = refl
 due_behind (command ∷ first) others h =
-    let p = neither (is_quit command) (quits first) h in
+    let p = or_parts (is_quit command) (quits first) h in
     ap (λ b. cond b (command ∷ []) (command ∷ until_quit (first ++ others))) p.0 ∙ ap (λ (cs : List Command). command ∷ cs) (due_behind first others p.1)
 
 -- a QUIT is the last that is due

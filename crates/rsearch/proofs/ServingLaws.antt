@@ -9,7 +9,6 @@ use Rattle.std.proofs.KnownBytes.{Appends-trans, Appends-nil, Appends-kept, Cons
 use Rattle.ft_base.specs.Words.{KeepsLimits, is_quit}
 use Rattle.fs_ports.specs.Moments.{Gives}
 use Rattle.ft_machine.specs.History.{Entry, Exec, IsLegal, replies_of, words_of, moment_of, caller_of}
-use Rattle.ft_machine.specs.Machine.{empty_state}
 use Rattle.ft_engine.specs.Stands.{Stands, opened}
 use Rattle.resp_wire.specs.Decoding.{Decoding, fed}
 use Rattle.resp_wire.specs.declared.fault.Stop.TheVariants.{More}

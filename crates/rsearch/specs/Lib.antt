@@ -1,6 +1,7 @@
 pub mod Answer
 pub mod Ends
 pub mod FaultText
+pub mod Limits
 pub mod Reading
 pub mod Script
 pub mod Session

@@ -1,6 +1,7 @@
 //! All that the program does, over a link and a clock of any kind.
 ghost use Rattle.std.specs.Prelude.{◌≡◌, ◌↔◌};
 ghost use Rattle.rsearch.specs.Ends.{Ended};
+ghost use Rattle.rsearch.specs.Limits.{HaveNumbers};
 ghost use Rattle.rsearch.specs.Script.{IsScript};
 ghost use Rattle.rsearch.specs.Session.{AllAnswered, told};
 
@@ -20,6 +21,8 @@ pub fn run<L: Link, C: Clock>(alloc: Global, words: &[String], link: &mut L, clo
     ensures ends { Ended result
         (told L.Link C.Clock link.old clock.old) (told L.Link C.Clock link.new clock.new) }
     ensures usage { (result ≡ Exit.Usage) ↔ (IsScript words.now → ⊥) }
+    // What the limits of a command are, by which its definition goes.
+    ensures limits { HaveNumbers }
 {
     match read_words(words) {
         Ok(Form::Script) => Exit::at(serve_connection(alloc, link, clock)),

@@ -13,7 +13,8 @@ use Rattle.id_iters.specs.Held.{Held}
 use Rattle.id_iters.specs.Least.{IsLeast, IsLeastAt, NoneFrom}
 use Rattle.id_iters.specs.Sets.{About, about, in_set, living}
 use Rattle.id_iters.specs.declared.iter.Iter.{Iter}
-use Rattle.search_exec.specs.Ids.{doc_at, docs_in, reads_after, reads_for}
+use Rattle.hash_store.specs.Store.{reads_after}
+use Rattle.search_exec.specs.Ids.{doc_at, docs_in, reads_for}
 use Rattle.search_exec.specs.Pages.{Shows}
 use Rattle.search_exec.specs.declared.page.Page.{Page}
 

@@ -1,5 +1,5 @@
 -- What the ids of a set find among documents, and what has to be known of these.
-use Rattle.std.specs.Prelude.{◌≡◌, ℕ, ◌+◌, ◌-◌, ◌^◌, min, nat_eq, Bool, true, false, List, filter, find, Option, IsSome}
+use Rattle.std.specs.Prelude.{◌≡◌, ℕ, min, nat_eq, Bool, true, false, List, filter, find, Option, IsSome}
 use Rattle.std.specs.Option.{option_map}
 use Rattle.std.specs.Map.{lookup}
 use Rattle.ft_base.specs.declared.doc.Doc.{Doc}
@@ -22,7 +22,3 @@ pub record AreKnown (has : ℕ → Bool) (rows : List (ℕ × List ℕ)) (docs :
 abbrev pub reads_for : Bool → ℕ → ℕ
 reads_for true count = 0
 reads_for false count = min count window
-
--- a count of reads after so many more; at 2^64 - 1 it stays
-abbrev pub reads_after : ℕ → ℕ → ℕ
-reads_after reads more = min (reads + more) (2 ^ 64 - 1)

@@ -7,7 +7,8 @@ ghost use Rattle.ft_base.specs.declared.doc.Doc.{Doc};
 ghost use Rattle.id_iters.specs.Held.{AreLists};
 ghost use Rattle.id_iters.specs.Ready.{Ready};
 ghost use Rattle.id_iters.specs.Sets.{in_set};
-ghost use Rattle.search_exec.specs.Ids.{AreKnown, doc_at, docs_in, reads_after, reads_for};
+ghost use Rattle.hash_store.specs.Store.{reads_after};
+ghost use Rattle.search_exec.specs.Ids.{AreKnown, doc_at, docs_in, reads_for};
 ghost use Rattle.search_exec.specs.Pages.{Shows};
 ghost use Rattle.search_exec.specs.Replies.{found_reply};
 

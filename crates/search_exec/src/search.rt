@@ -1,5 +1,5 @@
 //! The walk over the documents of a store, which notes those that the query finds.
-ghost use Rattle.std.specs.Prelude.{◌≡◌, ◌<◌, ◌^◌, ◌∷◌, ◌++◌, ◌&&◌, [], List, length, map, IfNone, IfOk, IfSome, IsTrue, OnOk, unwrap_or};
+ghost use Rattle.std.specs.Prelude.{◌≡◌, ◌<◌, ◌≤◌, ◌^◌, ◌∷◌, ◌++◌, ◌&&◌, [], List, length, map, IfNone, IfOk, IfSome, IsTrue, OnOk, unwrap_or};
 ghost use Rattle.std.specs.List.{All};
 ghost use Rattle.std.specs.List.Sorted.{IsStrictlyIncreasing};
 ghost use Rattle.ft_base.specs.Reply.{fits_wire};
@@ -7,6 +7,7 @@ ghost use Rattle.ft_base.specs.declared.doc.Doc.{Doc};
 ghost use Rattle.ft_meaning.specs.Holds.{found_of, holds};
 ghost use Rattle.ft_meaning.specs.Meaning.{ValuesFit};
 ghost use Rattle.ft_meaning.specs.Member.{member};
+ghost use Rattle.hash_store.specs.Store.{reads_after};
 ghost use Rattle.search_exec.specs.Pages.{IsOnTheWay, Shows};
 ghost use Rattle.search_exec.specs.Replies.{found_reply};
 ghost use Rattle.hash_store.specs.Ahead.{ahead};
@@ -33,6 +34,12 @@ pub fn search_store(
     ensures reply { IfOk result (λ reply. reply
         ≡ found_reply no_content (found_of query.now def.now store.old.space)) }
     ensures fits { IfOk result (λ reply. IsTrue (fits_wire reply)) }
+
+    // What is read.
+    ensures reads { OnOk result (store.new.reads ≡ reads_after store.old.reads (length store.old.space)) }
+    ensures most { store.new.reads ≤ reads_after store.old.reads (length store.old.space) }
+    ensures rises { store.old.reads ≤ store.new.reads }
+
     ensures space { store.new.space ≡ store.old.space }
     ensures ready { store.new.ready ≡ store.old.ready }
     ensures last { store.new.last ≡ store.old.last }
@@ -66,10 +73,20 @@ fn note_next(
     ensures fewer { IfOk result (λ id. IfSome id (λ id.
         length (ahead id store.old.space) < length (ahead after store.old.space))) }
     ensures kind { page.new.no_content ≡ page.old.no_content }
+
+    ensures reads { IfOk result (λ id.
+        reads_after store.new.reads (length (ahead (unwrap_or id after) store.old.space))
+        ≡ reads_after store.old.reads (length (ahead after store.old.space))) }
+    ensures most { store.new.reads ≤ reads_after store.old.reads (length (ahead after store.old.space)) }
+    ensures rises { store.old.reads ≤ store.new.reads }
+    ensures bits { store.new.reads < 2 ^ 64 }
+
     ensures space { store.new.space ≡ store.old.space }
     ensures ready { store.new.ready ≡ store.old.ready }
     ensures last { store.new.last ≡ store.old.last }
 {
+    // Tells that the count of reads has 64 bits.
+    let _reads = store.reads();
     let Some(doc) = store.by_id_after(after) else {
         return Ok(None);
     };

@@ -30,7 +30,7 @@ tags_found field rows found h = ap (λ o. unwrap_or o []) (sym (lookup-at field 
 -- A field has this dictionary now, and each other field has what it had.
 pub record Puts (field : ℕ) (tags : Lists TagHit) (old new : FieldTags) : Type 0 where
   pub here : tags_of new field ≡ tags
-  pub others : (other : ℕ) → ¬ (other ≡ field) → tags_of new other ≡ tags_of old other
+  pub others : (other : ℕ) → ¬ (other ≡ field) → lookup (nat_eq other) new ≡ lookup (nat_eq other) old
 
 other_no : (field other : ℕ) → ¬ (other ≡ field) → is_at (nat_cmp field) other ≡ false
 other_no field other apart = elim (cases_Bool (nat_eq field other)) [
@@ -44,7 +44,7 @@ pub puts_rows : (field : ℕ) (tags : Lists TagHit) (old new : FieldTags) → lo
     → Puts field tags old new
 puts_rows field tags old new here others = record {
   here = tags_found field new (Some tags) (sym here);
-  others = λ other apart. ap (λ o. unwrap_or o []) (sym (lookup-at other new) ∙ (others other (other_no field other apart) ∙ lookup-at other old));
+  others = λ other apart. sym (lookup-at other new) ∙ (others other (other_no field other apart) ∙ lookup-at other old);
 }
 
 -- where the dictionary that was put changes one tag of the one before, the field's tag changes

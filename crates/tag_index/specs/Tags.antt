@@ -37,7 +37,7 @@ pub record TagsRise (tags : Lists TagHit) : Type 0 where
   pub words : WordsRise tags
   pub ids : IdsRise tags
 
--- A field's tag has this list now, or none. Each other tag and each other field has what it had.
+-- A field's tag has this list now, or none. Each other tag has what it had, and so has each other field: one without tags stays so.
 pub record SetsTag (field : ℕ) (tag : List ℕ) (list : Option (Listing TagHit)) (old new : FieldTags) : Type 0 where
   pub here : Sets tag list (tags_of old field) (tags_of new field)
-  pub others : (other : ℕ) → ¬ (other ≡ field) → tags_of new other ≡ tags_of old other
+  pub others : (other : ℕ) → ¬ (other ≡ field) → lookup (nat_eq other) new ≡ lookup (nat_eq other) old

@@ -1,5 +1,5 @@
 //! The walk over the documents of a store, which gathers the tags of their values.
-ghost use Rattle.std.specs.Prelude.{◌≡◌, ◌<◌, [], length, map, IfOk, IfNone, IfSome, OnOk, unwrap_or, if◌then◌else◌};
+ghost use Rattle.std.specs.Prelude.{◌≡◌, ◌<◌, ◌≤◌, ◌^◌, [], length, map, IfOk, IfNone, IfSome, OnOk, unwrap_or, if◌then◌else◌};
 ghost use Rattle.std.specs.List.{All};
 ghost use Rattle.std.specs.List.Sorted.{IsStrictlyIncreasing};
 ghost use Rattle.ft_base.specs.declared.reply.Reply.TheVariants.{Bulk};
@@ -7,6 +7,7 @@ ghost use Rattle.ft_meaning.specs.Holds.{field_tags};
 ghost use Rattle.ft_meaning.specs.Member.{member};
 ghost use Rattle.hash_store.specs.Ahead.{ahead};
 ghost use Rattle.tag_values.specs.Gathered.{seen, with_tags_of};
+ghost use Rattle.hash_store.specs.Store.{reads_after};
 ghost use Rattle.tag_values.specs.Values.{tag_values, with_tags};
 
 use field_text::tags;
@@ -27,6 +28,12 @@ pub fn tag_values(
     requires { All (λ doc. 0 < doc.id) store.old.space }
     ensures values { IfOk result
         (λ replies. replies ≡ map Bulk (tag_values def.now field.now store.old.space)) }
+
+    // What is read.
+    ensures reads { OnOk result (store.new.reads ≡ reads_after store.old.reads (length store.old.space)) }
+    ensures most { store.new.reads ≤ reads_after store.old.reads (length store.old.space) }
+    ensures rises { store.old.reads ≤ store.new.reads }
+
     ensures space { store.new.space ≡ store.old.space }
     ensures ready { store.new.ready ≡ store.old.ready }
     ensures last { store.new.last ≡ store.old.last }
@@ -58,10 +65,20 @@ fn add_next(
     ensures end { IfOk result (λ id. IfNone id (ahead after store.old.space ≡ [])) }
     ensures fewer { IfOk result (λ id. IfSome id (λ id.
         length (ahead id store.old.space) < length (ahead after store.old.space))) }
+
+    ensures reads { IfOk result (λ id.
+        reads_after store.new.reads (length (ahead (unwrap_or id after) store.old.space))
+        ≡ reads_after store.old.reads (length (ahead after store.old.space))) }
+    ensures most { store.new.reads ≤ reads_after store.old.reads (length (ahead after store.old.space)) }
+    ensures rises { store.old.reads ≤ store.new.reads }
+    ensures bits { store.new.reads < 2 ^ 64 }
+
     ensures space { store.new.space ≡ store.old.space }
     ensures ready { store.new.ready ≡ store.old.ready }
     ensures last { store.new.last ≡ store.old.last }
 {
+    // Tells that the count of reads has 64 bits.
+    let _reads = store.reads();
     let Some(doc) = store.by_id_after(after) else {
         return Ok(None);
     };

@@ -4,7 +4,8 @@ use Rattle.ft_base.specs.declared.doc.Doc.{Doc}
 use Rattle.ft_meaning.specs.Holds.{found_of}
 use Rattle.id_iters.specs.Sets.{in_set}
 use Rattle.index_lists.specs.Lists.{held_of}
-use Rattle.search_exec.specs.Ids.{AreKnown, docs_in, reads_after, reads_for}
+use Rattle.hash_store.specs.Store.{reads_after}
+use Rattle.search_exec.specs.Ids.{AreKnown, docs_in, reads_for}
 use Rattle.search_exec.specs.Replies.{found_reply}
 use Rattle.search_exec.proofs.FoundLaws.{docs-found, members-known}
 use Rattle.index_commands.proofs.SearchLaws.{index-kept}

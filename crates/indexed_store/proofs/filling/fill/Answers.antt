@@ -1,4 +1,4 @@
-use Rattle.std.specs.Prelude.{List, refl}
+use Rattle.std.specs.Prelude.{List, length, refl}
 use Rattle.std.proofs.Common.{ap, sym, subst, arith, rules}
 use Rattle.ft_base.specs.declared.doc.Doc.{Doc}
 use Rattle.ft_index.specs.Index.{Indexes}
@@ -19,6 +19,8 @@ filling-init c = record {
   def = refl;
   space = refl;
   last = refl;
+  ready = refl;
+  reads = omega (arith, ap length (upto-none 0 0 c.args.store.now.space c.requires.documents.rise (omega arith)), c.reads-reads.ensures);
   event = refl;
 }
 

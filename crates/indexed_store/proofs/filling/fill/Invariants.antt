@@ -1,5 +1,6 @@
 use Rattle.std.specs.Prelude.{◌≡◌, ◌<◌, ◌≤◌, length}
 use Rattle.indexed_store.specs.Definitions.{failures_over}
+use Rattle.hash_store.specs.Store.{reads_after}
 use Rattle.indexed_store.specs.Filling.{beyond, upto}
 use Rattle.index_lists.specs.Markers.{AreBefore}
 use Rattle.ft_index.specs.Index.{Indexes, IsIndex}
@@ -19,6 +20,8 @@ invariant-filling l = record {
   def : l.index.def ≡ l.fn.index.def;
   space : l.store.space ≡ l.fn.store.space;
   last : l.store.last ≡ l.fn.store.last;
+  ready : l.store.ready ≡ l.fn.store.ready;
+  reads : l.store.reads ≡ reads_after l.fn.store.reads (length (upto l.after l.fn.store.space));
   event : l.markers.event ≡ l.fn.markers.event;
 }
 

@@ -1,4 +1,4 @@
-use Rattle.std.specs.Prelude.{◌≡◌, ◌∷◌, ℕ, List, [], Some, length}
+use Rattle.std.specs.Prelude.{◌≡◌, ◌∷◌, ℕ, List, [], Option, Some, length}
 use Rattle.std.proofs.lemmas.List.Sums.{fold-append}
 use Rattle.ft_base.specs.declared.definition.IndexDef.{IndexDef}
 use Rattle.ft_index.specs.Fits.{fit_of}
@@ -7,6 +7,7 @@ use Rattle.indexed_store.specs.Definitions.{Defined, failures_over}
 use Rattle.indexed_store.proofs.StepLaws.{defined-committed, lists-committed}
 use Rattle.std.proofs.Common.{◌∙◌, ap, sym, subst, inl, inr, arith}
 use Rattle.index_lists.specs.Lists.{AllLists}
+use Rattle.hash_store.specs.Store.{Store, read_count}
 use Rattle.index_lists.specs.Markers.{HasMarker}
 use Rattle.ft_base.specs.declared.doc.Doc.{Doc}
 use Rattle.indexed_store.specs.Filling.{beyond, upto}
@@ -14,7 +15,7 @@ use Rattle.ft_index.specs.Index.{Index, Indexes, IsIndex, committed}
 use Rattle.ft_index.proofs.MemberLaws.{index-committed}
 use Rattle.ft_index.specs.declared.ready.Ready.{Ready}
 use Rattle.ft_meaning.specs.Meaning.{ValuesFit}
-use Rattle.indexed_store.proofs.FillingLaws.{found-value, next-found, none-next}
+use Rattle.indexed_store.proofs.FillingLaws.{found-value, next-found, none-next, reads-next}
 use Rattle.indexed_store.proofs.filling.put_next.Goals as goal
 
 pub prepare-requires-clause-id : goal.prepare-requires-clause-id
@@ -71,3 +72,11 @@ pub returns-clause-given : goal.returns-clause-given
 returns-clause-given c marker has =
     let same : c.commit.new.self.lists ≡ c.prepare.new.self.lists = ap (λ (index : Index). index.lists) c.commit.ensures ∙ lists-committed c.prepare.new.self.waits c.prepare.new.self in
     elim (c.prepare.ensures.gains marker (subst (λ (lists : AllLists). HasMarker lists marker) same has)) [ inl old ↦ c.requires.given marker old | inr given ↦ given.event ]
+
+pub returns-clause-reads : goal.returns-clause-reads
+returns-clause-reads c first before =
+    let next = next-found c.args.after c.args.store.now.space c.in-Some.doc.now c.requires.documents.rise (sym c.in-Some.ensures.found) in
+    let docs = c.args.store.now.space in
+    let same = ap (λ (r : Ready). upto r.id docs) c.in_ok-ready.ensures.ready ∙ next.first in
+    let read = ap (λ (s : Store). s.reads) c.by_id_after.follows.holds-at-none ∙ ap (λ (found : Option Doc). read_count found c.args.store.now.reads) (sym c.in-Some.ensures.found) in
+    reads-next first c.args.store.now.reads _ (upto c.args.after docs) (upto c.in_ok-ready.ready.id docs) c.in-Some.doc.now same before read

@@ -2,9 +2,10 @@ use Rattle.std.proofs.Common.{sym, subst, ap, ◌∙◌}
 use Rattle.std.specs.Prelude.{List}
 use Rattle.ft_index.specs.Index.{Index}
 use Rattle.hash_store.specs.Store.{Store}
+use Rattle.ft_base.specs.Space.{erase}
 use Rattle.indexed_store.specs.Standing.{InStep}
 use Rattle.indexed_store.specs.DefinitionsOf.{definitions_of}
-use Rattle.indexed_store.proofs.StepLaws.{definitions-killed, in_step-absent, in_step-erased}
+use Rattle.indexed_store.proofs.StepLaws.{definitions-killed, in_step-absent, in_step-erased, rest-same}
 use Rattle.indexed_store.proofs.removals.remove.Goals as goal
 
 pub returns-in-Some-clause-kept : goal.returns-in-Some-clause-kept
@@ -20,3 +21,9 @@ returns-in_default-clause-kept c next step =
 
 pub returns-in-Some-clause-definitions : goal.returns-in-Some-clause-definitions
 returns-in-Some-clause-definitions c = ap definitions_of c.kill_all.ensures ∙ definitions-killed c.in-Some.id c.args.indexes.now
+
+pub returns-in-Some-clause-rest : goal.returns-in-Some-clause-rest
+returns-in-Some-clause-rest c = rest-same c.args.store.now c.erase.new.self (erase c.args.store.now.space c.args.key.now) c.erase.ensures.gone
+
+pub returns-in_default-clause-rest : goal.returns-in_default-clause-rest
+returns-in_default-clause-rest c = rest-same c.args.store.now c.erase.new.self (erase c.args.store.now.space c.args.key.now) c.erase.ensures.gone

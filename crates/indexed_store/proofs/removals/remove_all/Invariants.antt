@@ -8,6 +8,7 @@ use Rattle.indexed_store.proofs.removals.remove_all.Given as goal
 abbrev pub invariant-loop-i : goal.invariant-loop-i
 invariant-loop-i l = record {
   left : without_keys l.store.space (drop l.i l.keys) ≡ without_keys l.initial.store.space l.keys;
+  rest : l.store ≡ record l.initial.store { space = l.store.space };
   kept : (next : ℕ) → InStep l.initial.store l.initial.indexes next → InStep l.store l.indexes next;
   definitions : definitions_of l.indexes ≡ definitions_of l.initial.indexes;
 }

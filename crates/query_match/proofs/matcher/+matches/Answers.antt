@@ -1,7 +1,7 @@
 use Rattle.std.proofs.Common.{sym, ap, ◌∙◌}
 use Rattle.std.specs.List.{list_all, list_any}
 use Rattle.ft_meaning.specs.Holds.{has_of, holds_by}
-use Rattle.query_match.proofs.QueryLemmas.{holds-And, holds-Or}
+use Rattle.ft_meaning.proofs.HoldsLaws.{holds-And, holds-Or}
 use Rattle.query_match.proofs.matcher.+matches.Goals as goal
 
 pub matches-returns-in_ok-matches_all-in-And : goal.matches-returns-in_ok-matches_all-in-And

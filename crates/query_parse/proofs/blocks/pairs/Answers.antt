@@ -5,7 +5,8 @@ use Rattle.query_grammar.specs.Reading.{names_of}
 use Rattle.query_grammar.specs.Form as form
 use Rattle.query_parse.specs.Seen.{pair_of, pairs_of}
 use Rattle.query_parse.proofs.Attributing.{begins, ended, goes_on}
-use Rattle.query_parse.proofs.PairLemmas.{names-more, pairs-of-more, pairs-of-one}
+use Rattle.query_grammar.proofs.Blocks.{named_last}
+use Rattle.query_parse.proofs.PairLemmas.{pairs-of-more, pairs-of-one}
 use Rattle.query_parse.specs.declared.blocks.Step.TheVariants.{More}
 use Rattle.query_parse.specs.declared.blocks.Step.TheVariants as steps
 use Rattle.query_grammar.specs.Reading as reading
@@ -31,7 +32,7 @@ reading-preserved c =
       named = λ name.
           c.in_ok-add_name-in-More.ensures name
           ∙ (ap (λ (any : Bool). bytes_eq name c.in-More.pair.name.now || any) (c.reading.invariant.named name)
-          ∙ (sym (names-more def params before pair name)
+          ∙ (sym (named_last before pair name)
           ∙ sym (ap (λ (all : List form.Pair). has_name (names_of def params all) name) more)));
       within = omega (arith, c.in-More.ensures.shorter, c.reading.invariant.within);
     }

@@ -3,7 +3,8 @@ use Rattle.std.specs.List.Sorted.{IsStrictlyIncreasing}
 use Rattle.ft_base.specs.declared.doc.Doc.{Doc}
 use Rattle.id_iters.specs.Ready.{Ready}
 use Rattle.id_iters.specs.Sets.{about, in_set}
-use Rattle.search_exec.specs.Ids.{reads_after, reads_for}
+use Rattle.hash_store.specs.Store.{reads_after}
+use Rattle.search_exec.specs.Ids.{reads_for}
 use Rattle.search_exec.proofs.AskLaws.{IsAsked}
 use Rattle.search_exec.proofs.index_search.search_index.Given as goal
 

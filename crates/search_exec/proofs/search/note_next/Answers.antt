@@ -3,6 +3,7 @@ use Rattle.std.proofs.Common.{ap, sym, arith}
 use Rattle.ft_base.specs.declared.doc.Doc.{Doc}
 use Rattle.ft_meaning.specs.Meaning.{ValuesFit}
 use Rattle.hash_store.proofs.AheadLaws.{next-found, none-next}
+use Rattle.hash_store.proofs.ReadsLaws.{read-few, read-next}
 use Rattle.search_exec.proofs.WalkLaws.{next-value, way-next}
 use Rattle.search_exec.proofs.search.note_next.Goals as goal
 
@@ -23,3 +24,18 @@ pub returns-clause-fewer : goal.returns-clause-fewer
 returns-clause-fewer c =
     let next = next-found c.args.after c.args.store.now.space c.in-Some.doc.now c.requires.rise (sym c.in-Some.ensures.found) in
     omega (arith, ap length next)
+
+pub returns-clause-reads : goal.returns-clause-reads
+returns-clause-reads c =
+    read-next c.args.store.now c.by_id_after.follows.lender-at-none _ c.in-Some.doc.now _ _ c.by_id_after.follows.holds-at-none c.in-Some.ensures.found
+    (next-found c.args.after c.args.store.now.space c.in-Some.doc.now c.requires.rise (sym c.in-Some.ensures.found))
+
+pub returns-in_err-note_found-clause-most : goal.returns-in_err-note_found-clause-most
+returns-in_err-note_found-clause-most c =
+    read-few c.args.store.now c.by_id_after.follows.lender-at-none _ c.in-Some.doc.now _ _ c.by_id_after.follows.holds-at-none c.in-Some.ensures.found
+    (next-found c.args.after c.args.store.now.space c.in-Some.doc.now c.requires.rise (sym c.in-Some.ensures.found))
+
+pub returns-clause-most : goal.returns-clause-most
+returns-clause-most c =
+    read-few c.args.store.now c.by_id_after.follows.lender-at-none _ c.in-Some.doc.now _ _ c.by_id_after.follows.holds-at-none c.in-Some.ensures.found
+    (next-found c.args.after c.args.store.now.space c.in-Some.doc.now c.requires.rise (sym c.in-Some.ensures.found))

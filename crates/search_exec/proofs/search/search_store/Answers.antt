@@ -1,9 +1,13 @@
-use Rattle.std.specs.Prelude.{◌^◌, refl}
-use Rattle.std.proofs.Common.{◌∙◌, arith}
+use Rattle.std.specs.Prelude.{◌^◌, List, length, refl}
+use Rattle.std.proofs.Common.{◌∙◌, ap, arith, rules}
+use Rattle.ft_base.specs.declared.doc.Doc.{Doc}
 use Rattle.ft_meaning.specs.Holds.{found_of}
 use Rattle.hash_replies.proofs.ReadsLaws.{made-fits}
+use Rattle.hash_store.proofs.AheadLaws.{ahead-all}
+use Rattle.hash_store.proofs.ReadsLaws.{all_read}
 use Rattle.search_exec.proofs.RepliesLaws.{found-fits}
 use Rattle.search_exec.proofs.WalkLaws.{found-few, made-found, way-begun, way-ended, way-few}
+use Rattle.hash_store.specs.Store.{reads_after}
 use Rattle.search_exec.proofs.search.search_store.Goals as goal
 
 pub walking-init : goal.walking-init
@@ -11,6 +15,8 @@ walking-init c = record {
   way = way-begun c.args.query.now c.args.def.now c.args.store.now.space c.new-page.result c.requires.ids c.new-page.ensures.none;
   kind = c.new-page.ensures.kind;
   rise = c.len-count.ensures.rises;
+  reads = ap (λ (docs : List Doc). reads_after c.args.store.now.reads (length docs)) (ahead-all c.args.store.now.space c.requires.ids);
+  rises = omega arith;
   space = refl;
   ready = refl;
   last = refl;
@@ -50,3 +56,9 @@ returns-clause-fits c =
     let shows = way-ended query def all docs c.walking.store.space c.in_ok-id.field-0 c.walking.after c.walking.page c.note_next.new.page c.in_default.is c.walking.invariant.space c.in_ok-id.ensures.end (c.in_ok-id.ensures.way all) c.walking.invariant.way in
     made-fits c.into_reply.result _ (found-fits c.args.no_content all)
     (made-found c.into_reply.result c.note_next.new.page c.args.no_content all c.into_reply.ensures.reply shows (c.in_ok-id.ensures.kind ∙ c.walking.invariant.kind))
+
+pub returns-clause-reads : goal.returns-clause-reads
+returns-clause-reads c =
+    let told = all_read c.args.store.now.space c.walking.store.space c.args.store.now.reads c.walking.store.reads c.note_next.new.store.reads c.walking.after c.in_ok-id.field-0
+    c.in_default.is c.walking.invariant.space c.in_ok-id.ensures.end c.in_ok-id.ensures.reads c.walking.invariant.reads c.note_next.ensures.bits in
+    search (rules, told)

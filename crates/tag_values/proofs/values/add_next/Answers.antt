@@ -5,6 +5,7 @@ use Rattle.tag_values.specs.Gathered.{seen, with_tags_of}
 use Rattle.tag_values.specs.Values.{with_tags}
 use Rattle.hash_store.proofs.AheadLaws.{next-found, none-next}
 use Rattle.tag_values.proofs.TagLaws.{first_added}
+use Rattle.hash_store.proofs.ReadsLaws.{read-few, read-next}
 use Rattle.tag_values.proofs.values.add_next.Goals as goal
 
 pub returns-in_default-clause-end : goal.returns-in_default-clause-end
@@ -26,3 +27,23 @@ pub returns-clause-fewer : goal.returns-clause-fewer
 returns-clause-fewer c =
     let next = next-found c.args.after c.args.store.now.space c.in-Some.doc.now c.requires (sym c.in-Some.ensures.found) in
     omega (arith, ap length next)
+
+pub returns-clause-reads : goal.returns-clause-reads
+returns-clause-reads c =
+    read-next c.args.store.now c.by_id_after.follows.lender-at-none _ c.in-Some.doc.now _ _ c.by_id_after.follows.holds-at-none c.in-Some.ensures.found
+    (next-found c.args.after c.args.store.now.space c.in-Some.doc.now c.requires (sym c.in-Some.ensures.found))
+
+pub returns-in_err-member_tags-clause-most : goal.returns-in_err-member_tags-clause-most
+returns-in_err-member_tags-clause-most c =
+    read-few c.args.store.now c.by_id_after.follows.lender-at-none _ c.in-Some.doc.now _ _ c.by_id_after.follows.holds-at-none c.in-Some.ensures.found
+    (next-found c.args.after c.args.store.now.space c.in-Some.doc.now c.requires (sym c.in-Some.ensures.found))
+
+pub returns-in_err-add_tags-clause-most : goal.returns-in_err-add_tags-clause-most
+returns-in_err-add_tags-clause-most c =
+    read-few c.args.store.now c.by_id_after.follows.lender-at-none _ c.in-Some.doc.now _ _ c.by_id_after.follows.holds-at-none c.in-Some.ensures.found
+    (next-found c.args.after c.args.store.now.space c.in-Some.doc.now c.requires (sym c.in-Some.ensures.found))
+
+pub returns-clause-most : goal.returns-clause-most
+returns-clause-most c =
+    read-few c.args.store.now c.by_id_after.follows.lender-at-none _ c.in-Some.doc.now _ _ c.by_id_after.follows.holds-at-none c.in-Some.ensures.found
+    (next-found c.args.after c.args.store.now.space c.in-Some.doc.now c.requires (sym c.in-Some.ensures.found))

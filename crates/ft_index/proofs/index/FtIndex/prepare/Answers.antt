@@ -32,6 +32,8 @@ returns-in-NoPrefix c =
           seen-other inside now ready c.args.doc.now docs refl refl refl refl c.fit_of-fit.ensures other (subst (λ (i : Index). Indexes i docs) (sym c.self.view_is) stands);
       last = omega (arith, c.requires.id, ap (λ (i : Index). i.table.last) c.self.view_is);
       sound = record { kept = c.self.invariant.0.kept; waits = λ is. absurd (no-member c.fit_of-fit.result c.in-NoPrefix.is is); counted = c.self.invariant.0.counted };
+      others = λ other. ap (λ (i : Index). record i { waits = Some ready }) c.self.view_is;
+      none = tt;
       before = subst (λ (i : Index). AreBefore c.args.markers.now i.lists) (sym c.self.view_is) c.requires.markers;
       gains = subst (λ (i : Index). GainsMarkers i.lists inside.lists c.args.markers.now c.args.markers.now) c.self.view_is (λ marker has. inl has);
       event = refl;

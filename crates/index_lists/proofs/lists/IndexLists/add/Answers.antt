@@ -1,5 +1,5 @@
 -- The lists of each kind take the document's entries in turn.
-use Rattle.std.proofs.Common.{◌≡◌, ℕ, List, Option, IfSome, sym, subst, ◌∙◌, arith}
+use Rattle.std.proofs.Common.{◌≡◌, ℕ, List, Option, IfSome, sym, subst, ◌∙◌, arith, rules}
 use Rattle.std.proofs.lemmas.List.{with_items_is}
 use Rattle.std.proofs.lemmas.Result.{on_ok_weaker}
 use Rattle.std.specs.Vec.{with_items}
@@ -10,7 +10,7 @@ use Rattle.index_lists.specs.Has.{Has}
 use Rattle.index_lists.specs.Lists.{AllLists, rows_of}
 use Rattle.index_lists.specs.Markers.{AreBefore, GainsMarkers, MarkersDiffer, marker_at, range_marker}
 use Rattle.index_lists.specs.Taking.{AllBefore, TakesMarkers}
-use Rattle.index_lists.specs.UpTo.{AreUpTo}
+use Rattle.index_lists.specs.UpTo.{AreUpTo, RangesUpTo}
 use Rattle.index_lists.specs.contracts.lists.IndexLists.{the_view}
 use Rattle.index_lists.proofs.ListsLaws.{all-seen, all-unseen, differ-taken, gains-taken, ranges-below, takes-three, takes-two, takes-words, up_to-higher}
 use Rattle.index_lists.proofs.TakingLaws.{before-taken}
@@ -28,28 +28,27 @@ add_words-requires-clause-before c =
     let before : AreBefore c.args.markers.now old = subst (AreBefore c.args.markers.now) (sym c.self.view_is) c.requires.before in
     (λ word. before (names.Word word))
 
-pub returns-in_err-add_words-clause-up_to : goal.returns-in_err-add_words-clause-up_to
-returns-in_err-add_words-clause-up_to c =
+pub returns-in_err-add_words : goal.returns-in_err-add_words
+returns-in_err-add_words c =
+    let def = c.args.def.now in
+    let doc = c.args.doc.now in
     let old : AllLists = the_view c.self.inside in
     let up_to : AreUpTo c.args.doc.now.id old = up_to-higher c.requires.later.0 c.args.doc.now.id old (omega (arith, c.requires.later.1)) (subst (AreUpTo c.requires.later.0) (sym c.self.view_is) c.requires.later.2) in
-    record { words = c.add_words.ensures.up_to; tags = up_to.tags; ranges = up_to.ranges }
-
-pub returns-in_err-add_words-clause-differ : goal.returns-in_err-add_words-clause-differ
-returns-in_err-add_words-clause-differ c =
-    let old : AllLists = the_view c.self.inside in
     let before : AreBefore c.args.markers.now old = subst (AreBefore c.args.markers.now) (sym c.self.view_is) c.requires.before in
     let differ : MarkersDiffer old = subst MarkersDiffer (sym c.self.view_is) c.requires.differ in
     let new : AllLists = record old { words = c.add_words.new.terms } in
     let takes : TakesMarkers c.args.markers.now c.add_words.new.markers (marker_at old) (marker_at new) = takes-words c.args.markers.now c.add_words.new.markers old c.add_words.new.terms before c.add_words.ensures.takes in
-    differ-taken c.args.markers.now c.add_words.new.markers old new differ takes
-
-pub returns-in_err-add_words-clause-before : goal.returns-in_err-add_words-clause-before
-returns-in_err-add_words-clause-before c =
-    let old : AllLists = the_view c.self.inside in
-    let before : AreBefore c.args.markers.now old = subst (AreBefore c.args.markers.now) (sym c.self.view_is) c.requires.before in
-    let new : AllLists = record old { words = c.add_words.new.terms } in
-    let takes : TakesMarkers c.args.markers.now c.add_words.new.markers (marker_at old) (marker_at new) = takes-words c.args.markers.now c.add_words.new.markers old c.add_words.new.terms before c.add_words.ensures.takes in
-    before-taken c.args.markers.now c.add_words.new.markers (marker_at old) (marker_at new) before takes
+    record {
+      unseen = subst (λ (lists : AllLists). IsUnseen doc.id (λ live docs. Has def live lists docs) (λ live docs. Has def live new docs)) c.self.view_is
+          (all-unseen def doc.id old new c.add_words.ensures.unseen (λ live docs dead has. has) (λ live docs dead has. has));
+      seen = search rules;
+      up_to = record { words = c.add_words.ensures.up_to; tags = up_to.tags; ranges = up_to.ranges };
+      differ = differ-taken c.args.markers.now c.add_words.new.markers old new differ takes;
+      before = before-taken c.args.markers.now c.add_words.new.markers (marker_at old) (marker_at new) before takes;
+      gains = subst (λ (lists : AllLists). GainsMarkers lists new c.args.markers.now c.add_words.new.markers) c.self.view_is (gains-taken c.args.markers.now c.add_words.new.markers old new takes);
+      event = takes.event;
+      next = takes.next;
+    }
 
 pub add_tags-requires-clause-later : goal.add_tags-requires-clause-later
 add_tags-requires-clause-later c =
@@ -65,39 +64,28 @@ add_tags-requires-clause-before c =
     let takes : TakesMarkers c.args.markers.now c.add_words.new.markers (marker_at old) (marker_at new) = takes-words c.args.markers.now c.add_words.new.markers old c.add_words.new.terms before c.add_words.ensures.takes in
     (λ name. before-taken c.args.markers.now c.add_words.new.markers (marker_at old) (marker_at new) before takes (names.Tag name.0 name.1))
 
-pub returns-in_err-add_tags-clause-up_to : goal.returns-in_err-add_tags-clause-up_to
-returns-in_err-add_tags-clause-up_to c =
+pub returns-in_err-add_tags : goal.returns-in_err-add_tags
+returns-in_err-add_tags c =
+    let def = c.args.def.now in
+    let doc = c.args.doc.now in
     let old : AllLists = the_view c.self.inside in
     let up_to : AreUpTo c.args.doc.now.id old = up_to-higher c.requires.later.0 c.args.doc.now.id old (omega (arith, c.requires.later.1)) (subst (AreUpTo c.requires.later.0) (sym c.self.view_is) c.requires.later.2) in
-    record { words = c.add_words.ensures.up_to; tags = c.add_tags.ensures.up_to; ranges = up_to.ranges }
-
-pub returns-in_err-add_tags-clause-differ : goal.returns-in_err-add_tags-clause-differ
-returns-in_err-add_tags-clause-differ c =
-    let old : AllLists = the_view c.self.inside in
     let before : AreBefore c.args.markers.now old = subst (AreBefore c.args.markers.now) (sym c.self.view_is) c.requires.before in
     let differ : MarkersDiffer old = subst MarkersDiffer (sym c.self.view_is) c.requires.differ in
     let new : AllLists = record old { words = c.add_words.new.terms; tags = c.add_tags.new.lists } in
     let takes : TakesMarkers c.args.markers.now c.add_tags.new.markers (marker_at old) (marker_at new) =
     takes-two c.args.markers.now c.add_words.new.markers c.add_tags.new.markers old c.add_words.new.terms c.add_tags.new.lists before c.add_words.ensures.takes c.add_tags.ensures.takes in
-    differ-taken c.args.markers.now c.add_tags.new.markers old new differ takes
-
-pub returns-in_err-add_tags-clause-before : goal.returns-in_err-add_tags-clause-before
-returns-in_err-add_tags-clause-before c =
-    let old : AllLists = the_view c.self.inside in
-    let before : AreBefore c.args.markers.now old = subst (AreBefore c.args.markers.now) (sym c.self.view_is) c.requires.before in
-    let new : AllLists = record old { words = c.add_words.new.terms; tags = c.add_tags.new.lists } in
-    let takes : TakesMarkers c.args.markers.now c.add_tags.new.markers (marker_at old) (marker_at new) =
-    takes-two c.args.markers.now c.add_words.new.markers c.add_tags.new.markers old c.add_words.new.terms c.add_tags.new.lists before c.add_words.ensures.takes c.add_tags.ensures.takes in
-    before-taken c.args.markers.now c.add_tags.new.markers (marker_at old) (marker_at new) before takes
-
-pub returns-in_err-add_tags-clause-gains : goal.returns-in_err-add_tags-clause-gains
-returns-in_err-add_tags-clause-gains c =
-    let old : AllLists = the_view c.self.inside in
-    let before : AreBefore c.args.markers.now old = subst (AreBefore c.args.markers.now) (sym c.self.view_is) c.requires.before in
-    let new : AllLists = record old { words = c.add_words.new.terms; tags = c.add_tags.new.lists } in
-    let takes : TakesMarkers c.args.markers.now c.add_tags.new.markers (marker_at old) (marker_at new) =
-    takes-two c.args.markers.now c.add_words.new.markers c.add_tags.new.markers old c.add_words.new.terms c.add_tags.new.lists before c.add_words.ensures.takes c.add_tags.ensures.takes in
-    subst (λ (lists : AllLists). GainsMarkers lists new c.args.markers.now c.add_tags.new.markers) c.self.view_is (gains-taken c.args.markers.now c.add_tags.new.markers old new takes)
+    record {
+      unseen = subst (λ (lists : AllLists). IsUnseen doc.id (λ live docs. Has def live lists docs) (λ live docs. Has def live new docs)) c.self.view_is
+          (all-unseen def doc.id old new c.add_words.ensures.unseen c.add_tags.ensures.unseen (λ live docs dead has. has));
+      seen = search rules;
+      up_to = record { words = c.add_words.ensures.up_to; tags = c.add_tags.ensures.up_to; ranges = up_to.ranges };
+      differ = differ-taken c.args.markers.now c.add_tags.new.markers old new differ takes;
+      before = before-taken c.args.markers.now c.add_tags.new.markers (marker_at old) (marker_at new) before takes;
+      gains = subst (λ (lists : AllLists). GainsMarkers lists new c.args.markers.now c.add_tags.new.markers) c.self.view_is (gains-taken c.args.markers.now c.add_tags.new.markers old new takes);
+      event = takes.event;
+      next = takes.next;
+    }
 
 pub add_numbers-requires-clause-later : goal.add_numbers-requires-clause-later
 add_numbers-requires-clause-later c =
@@ -116,8 +104,14 @@ add_numbers-requires-clause-before c =
     subst (λ (ranges : List (Option Rows)). AllBefore c.add_tags.new.markers (range_marker ranges)) (sym c.as_mut_slice.ensures.value)
     (λ name. before-taken c.args.markers.now c.add_tags.new.markers (marker_at old) (marker_at new) before takes (names.Range name.0 name.1))
 
-pub returns-clause-differ : goal.returns-clause-differ
-returns-clause-differ c =
+-- what holds of the ranges that were lent, and of those that came back, holds of the ranges of the lists
+lent : (P : List (Option Rows) → List (Option Rows) → Type 0) (given old made written : List (Option Rows)) → given ≡ old → written ≡ made → P given made → P old written
+lent P given old made written same back h = subst (λ (rs : List (Option Rows)). P rs written) same (subst (λ (rs : List (Option Rows)). P given rs) (sym back) h)
+
+pub returns : goal.returns
+returns c =
+    let def = c.args.def.now in
+    let doc = c.args.doc.now in
     let old : AllLists = the_view c.self.inside in
     let ranges : List (Option Rows) = (with_items c.self.inside.ranges c.add_numbers.new.ranges).items in
     let written : ranges ≡ c.add_numbers.new.ranges = with_items_is c.self.inside.ranges c.add_numbers.new.ranges (c.add_numbers.auto.ranges ∙ c.as_mut_slice.ensures.len) in
@@ -125,61 +119,22 @@ returns-clause-differ c =
     let differ : MarkersDiffer old = subst MarkersDiffer (sym c.self.view_is) c.requires.differ in
     let new : AllLists = record { words = c.add_words.new.terms; tags = c.add_tags.new.lists; ranges = ranges } in
     let numbers : TakesMarkers c.add_tags.new.markers c.add_numbers.new.markers (range_marker old.ranges) (range_marker ranges) =
-    subst (λ (rs : List (Option Rows)). TakesMarkers c.add_tags.new.markers c.add_numbers.new.markers (range_marker old.ranges) (range_marker rs)) (sym written)
-    (subst (λ (rs : List (Option Rows)). TakesMarkers c.add_tags.new.markers c.add_numbers.new.markers (range_marker rs) (range_marker c.add_numbers.new.ranges)) c.as_mut_slice.ensures.value c.add_numbers.ensures.takes) in
+    lent (λ was now. TakesMarkers c.add_tags.new.markers c.add_numbers.new.markers (range_marker was) (range_marker now)) _ _ _ _ c.as_mut_slice.ensures.value written c.add_numbers.ensures.takes in
     let takes : TakesMarkers c.args.markers.now c.add_numbers.new.markers (marker_at old) (marker_at new) =
     takes-three c.args.markers.now c.add_words.new.markers c.add_tags.new.markers c.add_numbers.new.markers old c.add_words.new.terms c.add_tags.new.lists ranges before c.add_words.ensures.takes c.add_tags.ensures.takes numbers in
-    differ-taken c.args.markers.now c.add_numbers.new.markers old new differ takes
-
-pub returns-clause-before : goal.returns-clause-before
-returns-clause-before c =
-    let old : AllLists = the_view c.self.inside in
-    let ranges : List (Option Rows) = (with_items c.self.inside.ranges c.add_numbers.new.ranges).items in
-    let written : ranges ≡ c.add_numbers.new.ranges = with_items_is c.self.inside.ranges c.add_numbers.new.ranges (c.add_numbers.auto.ranges ∙ c.as_mut_slice.ensures.len) in
-    let before : AreBefore c.args.markers.now old = subst (AreBefore c.args.markers.now) (sym c.self.view_is) c.requires.before in
-    let new : AllLists = record { words = c.add_words.new.terms; tags = c.add_tags.new.lists; ranges = ranges } in
-    let numbers : TakesMarkers c.add_tags.new.markers c.add_numbers.new.markers (range_marker old.ranges) (range_marker ranges) =
-    subst (λ (rs : List (Option Rows)). TakesMarkers c.add_tags.new.markers c.add_numbers.new.markers (range_marker old.ranges) (range_marker rs)) (sym written)
-    (subst (λ (rs : List (Option Rows)). TakesMarkers c.add_tags.new.markers c.add_numbers.new.markers (range_marker rs) (range_marker c.add_numbers.new.ranges)) c.as_mut_slice.ensures.value c.add_numbers.ensures.takes) in
-    let takes : TakesMarkers c.args.markers.now c.add_numbers.new.markers (marker_at old) (marker_at new) =
-    takes-three c.args.markers.now c.add_words.new.markers c.add_tags.new.markers c.add_numbers.new.markers old c.add_words.new.terms c.add_tags.new.lists ranges before c.add_words.ensures.takes c.add_tags.ensures.takes numbers in
-    before-taken c.args.markers.now c.add_numbers.new.markers (marker_at old) (marker_at new) before takes
-
-pub returns-clause-gains : goal.returns-clause-gains
-returns-clause-gains c =
-    let old : AllLists = the_view c.self.inside in
-    let ranges : List (Option Rows) = (with_items c.self.inside.ranges c.add_numbers.new.ranges).items in
-    let written : ranges ≡ c.add_numbers.new.ranges = with_items_is c.self.inside.ranges c.add_numbers.new.ranges (c.add_numbers.auto.ranges ∙ c.as_mut_slice.ensures.len) in
-    let before : AreBefore c.args.markers.now old = subst (AreBefore c.args.markers.now) (sym c.self.view_is) c.requires.before in
-    let new : AllLists = record { words = c.add_words.new.terms; tags = c.add_tags.new.lists; ranges = ranges } in
-    let numbers : TakesMarkers c.add_tags.new.markers c.add_numbers.new.markers (range_marker old.ranges) (range_marker ranges) =
-    subst (λ (rs : List (Option Rows)). TakesMarkers c.add_tags.new.markers c.add_numbers.new.markers (range_marker old.ranges) (range_marker rs)) (sym written)
-    (subst (λ (rs : List (Option Rows)). TakesMarkers c.add_tags.new.markers c.add_numbers.new.markers (range_marker rs) (range_marker c.add_numbers.new.ranges)) c.as_mut_slice.ensures.value c.add_numbers.ensures.takes) in
-    let takes : TakesMarkers c.args.markers.now c.add_numbers.new.markers (marker_at old) (marker_at new) =
-    takes-three c.args.markers.now c.add_words.new.markers c.add_tags.new.markers c.add_numbers.new.markers old c.add_words.new.terms c.add_tags.new.lists ranges before c.add_words.ensures.takes c.add_tags.ensures.takes numbers in
-    subst (λ (lists : AllLists). GainsMarkers lists new c.args.markers.now c.add_numbers.new.markers) c.self.view_is (gains-taken c.args.markers.now c.add_numbers.new.markers old new takes)
-
-pub returns-clause-unseen : goal.returns-clause-unseen
-returns-clause-unseen c =
-    let old : AllLists = the_view c.self.inside in
-    let ranges : List (Option Rows) = (with_items c.self.inside.ranges c.add_numbers.new.ranges).items in
-    let written : ranges ≡ c.add_numbers.new.ranges = with_items_is c.self.inside.ranges c.add_numbers.new.ranges (c.add_numbers.auto.ranges ∙ c.as_mut_slice.ensures.len) in
-    let new : AllLists = record { words = c.add_words.new.terms; tags = c.add_tags.new.lists; ranges = ranges } in
-    let numbers : IsUnseen c.args.doc.now.id (RangesHaveAll c.args.def.now old.ranges) (RangesHaveAll c.args.def.now ranges) =
-    subst (λ (rs : List (Option Rows)). IsUnseen c.args.doc.now.id (RangesHaveAll c.args.def.now old.ranges) (RangesHaveAll c.args.def.now rs)) (sym written)
-    (subst (λ (rs : List (Option Rows)). IsUnseen c.args.doc.now.id (RangesHaveAll c.args.def.now rs) (RangesHaveAll c.args.def.now c.add_numbers.new.ranges)) c.as_mut_slice.ensures.value c.add_numbers.ensures.unseen) in
-    subst (λ (lists : AllLists). IsUnseen c.args.doc.now.id (λ live docs. Has c.args.def.now live lists docs) (λ live docs. Has c.args.def.now live new docs)) c.self.view_is
-    (all-unseen c.args.def.now c.args.doc.now.id old new c.add_words.ensures.unseen c.add_tags.ensures.unseen numbers)
-
-pub returns-clause-seen : goal.returns-clause-seen
-returns-clause-seen c =
-    let old : AllLists = the_view c.self.inside in
-    let ranges : List (Option Rows) = (with_items c.self.inside.ranges c.add_numbers.new.ranges).items in
-    let written : ranges ≡ c.add_numbers.new.ranges = with_items_is c.self.inside.ranges c.add_numbers.new.ranges (c.add_numbers.auto.ranges ∙ c.as_mut_slice.ensures.len) in
-    let new : AllLists = record { words = c.add_words.new.terms; tags = c.add_tags.new.lists; ranges = ranges } in
-    on_ok_weaker c.add_numbers.result (λ seen.
-    subst (λ (lists : AllLists). IsSeen c.args.doc.now (λ live docs. Has c.args.def.now live lists docs) (λ live docs. Has c.args.def.now live new docs)) c.self.view_is
-    (all-seen c.args.def.now c.args.doc.now old new c.in_ok-add_words.ensures.seen c.in_ok-add_tags.ensures.seen
-    (subst (λ (rs : List (Option Rows)). IsSeen c.args.doc.now (RangesHaveAll c.args.def.now old.ranges) (RangesHaveAll c.args.def.now rs)) (sym written)
-    (subst (λ (rs : List (Option Rows)). IsSeen c.args.doc.now (RangesHaveAll c.args.def.now rs) (RangesHaveAll c.args.def.now c.add_numbers.new.ranges)) c.as_mut_slice.ensures.value seen))))
-    c.add_numbers.ensures.seen
+    record {
+      unseen = subst (λ (lists : AllLists). IsUnseen doc.id (λ live docs. Has def live lists docs) (λ live docs. Has def live new docs)) c.self.view_is
+          (all-unseen def doc.id old new c.add_words.ensures.unseen c.add_tags.ensures.unseen
+          (lent (λ was now. IsUnseen doc.id (RangesHaveAll def was) (RangesHaveAll def now)) _ _ _ _ c.as_mut_slice.ensures.value written c.add_numbers.ensures.unseen));
+      seen = on_ok_weaker c.add_numbers.result (λ seen.
+          subst (λ (lists : AllLists). IsSeen doc (λ live docs. Has def live lists docs) (λ live docs. Has def live new docs)) c.self.view_is
+          (all-seen def doc old new c.in_ok-add_words.ensures.seen c.in_ok-add_tags.ensures.seen
+          (lent (λ was now. IsSeen doc (RangesHaveAll def was) (RangesHaveAll def now)) _ _ _ _ c.as_mut_slice.ensures.value written seen)))
+          c.add_numbers.ensures.seen;
+      up_to = record { words = c.add_words.ensures.up_to; tags = c.add_tags.ensures.up_to; ranges = subst (RangesUpTo doc.id) (sym written) c.add_numbers.ensures.up_to };
+      differ = differ-taken c.args.markers.now c.add_numbers.new.markers old new differ takes;
+      before = before-taken c.args.markers.now c.add_numbers.new.markers (marker_at old) (marker_at new) before takes;
+      gains = subst (λ (lists : AllLists). GainsMarkers lists new c.args.markers.now c.add_numbers.new.markers) c.self.view_is (gains-taken c.args.markers.now c.add_numbers.new.markers old new takes);
+      event = takes.event;
+      next = takes.next;
+    }
