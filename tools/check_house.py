@@ -1,17 +1,25 @@
 #!/usr/bin/env python3
 """The house rules that the prover does not know. Run at the top of the repository; exits 1 where one is broken.
 
-Of each crate of crates.txt: a README, a `//!` head in its root file, a row of docs/ARCHITECTURE.md with the same first
-sentence, and its must-fail edits in docs/WRONG_BODIES.md. Of each clause that a README or docs/PROMISES.md names: that
-the named source has it. Of docs/DEFINITIONS.md: that it says to believe just the definitions that the program's clause
-reaches. Of each source: at most 800 lines.
+Of each crate of crates.txt: it stands behind those that it names, and has a README, a `//!` head in its root file, and a
+row of docs/ARCHITECTURE.md with the same first sentence. Of each clause that a README or docs/PROMISES.md names: that the
+named source has it. Of docs/DEFINITIONS.md: that it says to believe just the definitions that the program's clause
+reaches. Of docs/WRONG_BODIES.md: that it is what tools/wrong_bodies.py writes. Of the gate: that it keeps within its
+budget of wrong bodies and proved tests, since each costs it 10 to 40 seconds. Of the sources: the lengths of files and
+functions. Prints the figures, then each fault.
 """
 import pathlib
 import re
 import subprocess
 import sys
 
+# What the gate may cost, in what it is made of.
+MOST_EDITS = 140
+MOST_EDITS_EACH = 6
+MOST_TESTS = 60
+
 MOST_LINES = 800
+MOST_FUNCTION_LINES = 40
 HANDLES = "Handles allowed: Threads, Wait, Net.\n"
 
 # Clauses are named behind their calls, as "`crate::Type::call`: `clause`, `clause`"; several calls may share them. In a
@@ -88,7 +96,7 @@ def check_named_clauses(path, crate_of, faults):
                         faults.append(f"{path}:{number}: `{call}` has no clause `{clause}`")
 
 
-def check_crate(crate, architecture, wrong_bodies, faults):
+def check_crate(crate, architecture, faults):
     folder = pathlib.Path("crates", crate)
     root = root_of(crate)
     readme = folder / "README.md"
@@ -106,12 +114,6 @@ def check_crate(crate, architecture, wrong_bodies, faults):
         check_named_clauses(readme, lambda call: (crate, call), faults)
     if not any(f"`{crate}`" in row and head and head in row for row in architecture.splitlines()):
         faults.append(f"docs/ARCHITECTURE.md: no row of `{crate}` with its first sentence")
-    edits = sorted(folder.glob("must-fail/*.edit"))
-    if not edits:
-        faults.append(f"{crate}: no must-fail edit")
-    for edit in edits:
-        if not any(f"`{edit.stem}`" in row and f"`{crate}`" in row for row in wrong_bodies.splitlines()):
-            faults.append(f"docs/WRONG_BODIES.md: no row of `{crate}` and `{edit.stem}`")
 
 
 # The definitions that the clauses of the program's `run` cite.
@@ -122,7 +124,7 @@ LISTED = re.compile(r"`(?:crates/(\w+)/specs/)?(\w+)\.antt`")
 
 def reached():
     """The files of definitions that the program's clause reaches, through whatever they use."""
-    left = [pathlib.Path("crates", "rsearch", "specs", f"{name}.antt") for name in CITED]
+    left = [pathlib.Path("crates", "ft_server", "specs", f"{name}.antt") for name in CITED]
     found = set()
     while left:
         path = left.pop()
@@ -151,24 +153,83 @@ def tracked():
     return [pathlib.Path(name) for name in listed.stdout.splitlines() if pathlib.Path(name).is_file()]
 
 
+def check_order(faults):
+    """Each crate stands in crates.txt behind those that it names."""
+    lines = [line for line in pathlib.Path("crates.txt").read_text().splitlines() if ":" in line and not line.startswith("#")]
+    ours, seen = {line.split(":")[0].split()[0] for line in lines}, set()
+    for line in lines:
+        name, others = line.split(":", 1)
+        for other in others.split():
+            if other in ours - seen:
+                faults.append(f"crates.txt: {name.split()[0]} stands before {other}, which it names")
+        seen.add(name.split()[0])
+
+
+def check_budget(sources, faults):
+    """What the gate is made of, and that it is no more than it may be."""
+    edits = {crate: len(list(pathlib.Path("crates", crate).glob("must-fail/*.edit"))) for crate in crates()}
+    tests = sum(path.read_text().count("#[test]") for path in sources)
+    for crate, count in edits.items():
+        if count > MOST_EDITS_EACH:
+            faults.append(f"{crate}: {count} wrong bodies in the gate, where {MOST_EDITS_EACH} are the most")
+    if sum(edits.values()) > MOST_EDITS:
+        faults.append(f"{sum(edits.values())} wrong bodies in the gate, where {MOST_EDITS} are the most")
+    if tests > MOST_TESTS:
+        faults.append(f"{tests} proved tests, where {MOST_TESTS} are the most")
+    return sum(edits.values()), tests
+
+
+STARTS = re.compile(r"^(\s*)(?:pub(?:\([a-z]+\))? )?(?:final |const )*fn (\w+)")
+
+
+def functions(text):
+    """Each function of a source that rt fmt laid out, with the lines of its body."""
+    lines = text.split("\n")
+    for at, line in enumerate(lines):
+        found = STARTS.match(line)
+        if not found:
+            continue
+        margin, opened = found[1], at
+        while opened < len(lines) and not re.match(rf"{margin}(?:\S.*)?[{{;]$|{margin}.*\{{\}}$", lines[opened]):
+            opened += 1
+        if opened < len(lines) and lines[opened].endswith("{"):
+            ends = (end for end in range(opened, len(lines)) if lines[end] == margin + "}")
+            yield found[2], next(ends, opened) - opened - 1
+
+
+def check_lengths(sources, faults):
+    longest = ("", 0)
+    for path in sources:
+        text = path.read_text()
+        lines = text.count("\n")
+        if lines > MOST_LINES:
+            faults.append(f"{path}: {lines} lines, where {MOST_LINES} are the most")
+        if path.suffix != ".rt":
+            continue
+        for name, length in functions(text):
+            longest = max(longest, (f"{path}: {name}", length), key=lambda pair: pair[1])
+            if length > MOST_FUNCTION_LINES:
+                faults.append(f"{path}: the body of {name} has {length} lines, where {MOST_FUNCTION_LINES} are the most")
+    return longest
+
+
 def main():
     faults = []
     if not pathlib.Path("HANDLES").is_file() or pathlib.Path("HANDLES").read_text() != HANDLES:
         faults.append("HANDLES is not the one line that it has to be")
     architecture = pathlib.Path("docs/ARCHITECTURE.md").read_text()
-    wrong_bodies = pathlib.Path("docs/WRONG_BODIES.md").read_text()
     for crate in crates():
-        check_crate(crate, architecture, wrong_bodies, faults)
+        check_crate(crate, architecture, faults)
+    check_order(faults)
     check_named_clauses(pathlib.Path("docs/PROMISES.md"), lambda call: call.split("::", 1), faults)
-    for row in re.findall(r"^\| `([a-z_]+)` \| `([a-z_]+)` \|", wrong_bodies, re.M):
-        if not pathlib.Path("crates", row[0], "must-fail", f"{row[1]}.edit").is_file():
-            faults.append(f"docs/WRONG_BODIES.md: there is no edit `{row[1]}` of `{row[0]}`")
     check_definitions(faults)
-    for path in tracked():
-        if path.suffix in (".rt", ".antt", ".py", ".sh"):
-            lines = len(path.read_text().splitlines())
-            if lines > MOST_LINES:
-                faults.append(f"{path}: {lines} lines, where {MOST_LINES} are the most")
+    told = subprocess.run([sys.executable, "tools/wrong_bodies.py", "--check"], capture_output=True, text=True)
+    faults += told.stdout.splitlines()
+    sources = [path for path in tracked() if path.suffix in (".rt", ".antt", ".py", ".sh")]
+    edits, tests = check_budget([path for path in sources if path.suffix == ".rt"], faults)
+    longest = check_lengths(sources, faults)
+    print(f"house: {len(crates())} crates, {edits} wrong bodies in the gate, {tests} proved tests, "
+          f"longest function {longest[1]} lines ({longest[0]})")
     for fault in faults:
         print(fault)
     print(f"house: {len(faults)} faults")

@@ -5,6 +5,8 @@ ghost use Rattle.cmd_parse.specs.declared.command.CmdFault.TheVariants as fault;
 use crate::search::SearchSpec;
 use ft_base::{Boxed, Field, IndexDef, ListOf, NoMemory, Words};
 use ft_schema::SchemaFault;
+use std::fmt;
+use std::fmt::{Display, Formatter, Write};
 use thiserror::Error;
 
 /// A command of the connection, of hashes, of keys or of indexes. `TypeOf` is TYPE; the last three are
@@ -63,24 +65,37 @@ pub enum Command<'a> {
 /// Why the words ask nothing.
 #[derive(Clone, Copy, Debug, PartialEq, Eq, Error)]
 pub enum CmdFault {
-    #[error("no command has this name")]
     Unknown,
-    #[error("the command does not have this number of words")]
     Arity,
     /// A word's number, the command's name being 0.
-    #[error("word {at} fits no form of the command")]
     Syntax { at: u32 },
-    #[error("the number of SELECT or the increment of HINCRBY is not a whole number of 64 bits")]
     NotInteger,
-    #[error("the only data base is 0")]
     BadDb,
-    #[error("this form of the command is not built")]
     NotBuilt,
     /// The words of a schema have a fault.
-    #[error("{0}")]
     Schema(SchemaFault),
-    #[error("out of memory")]
     NoMemory,
+}
+
+impl Display for CmdFault {
+    fn fmt<W: Write>(&self, f: &mut Formatter<W>) -> fmt::Result {
+        match self {
+            Self::Unknown => f.write_str("no command has this name"),
+            Self::Arity => f.write_str("the command does not have this number of words"),
+            Self::Syntax { at } => misfit(f, *at),
+            Self::NotInteger => f.write_str(
+                "the number of SELECT or the increment of HINCRBY is not a whole number of 64 bits",
+            ),
+            Self::BadDb => f.write_str("the only data base is 0"),
+            Self::NotBuilt => f.write_str("this form of the command is not built"),
+            Self::Schema(fault) => fault.fmt(f),
+            Self::NoMemory => f.write_str("out of memory"),
+        }
+    }
+}
+
+fn misfit<W: Write>(f: &mut Formatter<W>, at: u32) -> fmt::Result {
+    write!(f, "word {at} fits no form of the command")
 }
 
 impl From<NoMemory> for CmdFault {

@@ -10,8 +10,6 @@ mod command;
 mod read;
 mod search;
 mod table;
-#[cfg(test)]
-mod tests;
 
 /// What a command asks, and why it asks nothing.
 pub use command::{CmdFault, Command, Verb};

@@ -1,8 +1,9 @@
 //! A command from its words, in the order of refusals: an unknown name, a command that is not built,
 //! a wrong number of words, a form that is not built, and the first fault of the words from the left.
-ghost use Rattle.std.specs.Prelude.{◌≡◌, ◌≢◌, ◌<◌, ◌≤◌, ◌+◌, [], length, drop, slice_index_or, Err, Ok, IfOk, IsTrue, MatchResult};
+ghost use Rattle.std.specs.Prelude.{◌≡◌, ◌≢◌, ◌<◌, ◌≤◌, ◌+◌, [], length, drop, slice_index_or, Err, Ok, Some, IfOk, IsTrue, MatchResult};
 ghost use Rattle.cmd_parse.specs.Asking.{AreWords, IsAsked};
-ghost use Rattle.cmd_parse.specs.Lawful.{HasSerial, IsLawful, LawfulNumber};
+ghost use Rattle.cmd_parse.specs.Commands.{form_of};
+ghost use Rattle.cmd_parse.specs.Lawful.{HasSerial, IsLawful, IsLawfulForm, LawfulNumber};
 ghost use Rattle.cmd_parse.specs.Read.{IsReading, altered, asked_of, command_of, created, first_fault, is_flush_word, plain, search, select_fault};
 ghost use Rattle.cmd_parse.specs.Search.{has_params};
 ghost use Rattle.cmd_parse.specs.declared.command.CmdFault.TheVariants.{NoMemory};
@@ -34,14 +35,33 @@ pub fn read_command<'a>(
     let Some(form) = form_of(words.word(0)) else {
         return Err(CmdFault::Unknown);
     };
+    read_as(alloc, form, &words, serial)
+}
+
+/// A command of this form.
+fn read_as<'a>(
+    alloc: Global,
+    form: Form,
+    words: &Words<'a>,
+    serial: u64,
+) -> Result<Command<'a>, CmdFault>
+    requires some { 0 < length words.now }
+    requires limit { length words.now ≤ MAX_WORDS }
+    requires named { form_of (slice_index_or words.now 0 []) ≡ Some form }
+    requires form { IsLawfulForm form }
+    ensures exact { IsReading serial words.now result }
+    ensures lawful { IfOk result (λ command. IsLawful words.now (command_of command)) }
+    ensures serial { IfOk result (λ command. HasSerial serial (command_of command)) }
+    ensures asked { AreWords words.now → IfOk result (λ command. IsAsked (command_of command)) }
+{
     let count = words.len();
     match form {
-        Form::Between(verb, least, most) if least <= count && count <= most => plain(verb, &words),
-        Form::AtLeast(verb, least) if least <= count => plain(verb, &words),
-        Form::InPairs(verb, least) if least <= count && count % 2 == 0 => plain(verb, &words),
-        Form::Create if 5 <= count => create(alloc, &words, serial),
-        Form::Alter if 6 <= count => alter(alloc, &words),
-        Form::Search if 3 <= count => search(alloc, &words),
+        Form::Between(verb, least, most) if least <= count && count <= most => plain(verb, words),
+        Form::AtLeast(verb, least) if least <= count => plain(verb, words),
+        Form::InPairs(verb, least) if least <= count && count % 2 == 0 => plain(verb, words),
+        Form::Create if 5 <= count => create(alloc, words, serial),
+        Form::Alter if 6 <= count => alter(alloc, words),
+        Form::Search if 3 <= count => search(alloc, words),
         Form::Info if count == 2 => Ok(Command::Info {
             index: words.word(1),
         }),

@@ -1,7 +1,7 @@
 //! What FT.SEARCH asks: an index, a query, and how its answer is shown.
 ghost use Rattle.std.specs.Prelude.{◌≡◌, ◌≢◌, ◌<◌, ◌≤◌, ◌+◌, ◌%◌, [], length, drop, Err, Ok, IfOk, IfSome, IsTrue, MatchResult};
 ghost use Rattle.cmd_parse.specs.Read.{search, search_of};
-ghost use Rattle.cmd_parse.specs.Search.{counts_pairs, first_repeat, gives_params, has_params, is_no_content, params_at, params_behind, params_of};
+ghost use Rattle.cmd_parse.specs.Search.{counts_pairs, first_repeat, gives_params, has_params, is_no_content, params_at, params_behind, params_of, unless_repeated};
 ghost use Rattle.cmd_parse.specs.declared.command.CmdFault.TheVariants as faults;
 ghost use Rattle.ft_base.specs.Number.{int_of};
 ghost use Rattle.ft_base.specs.declared.limits.TheConstants.{MAX_WORDS};
@@ -80,10 +80,22 @@ fn params_at(alloc: Global, words: &Words<'_>, at: usize) -> Result<ListOf<Param
     if !counts_pairs(words.word(1), given.len()) {
         return Err(CmdFault::NotBuilt);
     }
-    if let Some(at) = first_repeat(alloc, &given, at + 2)? {
+    unless_repeated(alloc, &given, at + 2)
+}
+
+/// The parameters that words give, of which the first is word `at`, where no word repeats a name.
+fn unless_repeated(alloc: Global, given: &Words<'_>, at: usize) -> Result<ListOf<Param>, CmdFault>
+    requires limit { at + length given.now ≤ MAX_WORDS }
+    requires pairs { length given.now % 2 ≡ 0 }
+    ensures { MatchResult result
+        (λ params. unless_repeated (first_repeat at [] (params_of given.now)) (params_of given.now) ≡ Ok params)
+        (λ fault. fault ≢ faults.NoMemory
+        → unless_repeated (first_repeat at [] (params_of given.now)) (params_of given.now) ≡ Err fault) }
+{
+    if let Some(at) = first_repeat(alloc, given, at)? {
         return Err(CmdFault::Syntax { at: at as u32 });
     }
-    Ok(params_of(alloc, &given)?)
+    Ok(params_of(alloc, given)?)
 }
 
 /// Whether a word spells the number of the words behind it, which are names and values in turn.
@@ -119,10 +131,17 @@ fn params_of(alloc: Global, words: &Words<'_>) -> Result<ListOf<Param>, NoMemory
 {
     let mut copies = Vec::with_capacity(alloc, words.len() / 2)?;
     for place in 0..words.len() / 2 {
-        copies.push(Param {
-            name: Bytes::from_slice(alloc, words.word(2 * place))?,
-            value: Bytes::from_slice(alloc, words.word(2 * place + 1))?,
-        })?;
+        let (name, value) = (words.word(2 * place), words.word(2 * place + 1));
+        copies.push(param(alloc, name, value)?)?;
     }
     Ok(ListOf::from_vec(copies))
+}
+
+fn param(alloc: Global, name: &[u8], value: &[u8]) -> Result<Param, NoMemory>
+    ensures { IfOk result (λ param. param ≡ record { name = name.now; value = value.now }) }
+{
+    Ok(Param {
+        name: Bytes::from_slice(alloc, name)?,
+        value: Bytes::from_slice(alloc, value)?,
+    })
 }

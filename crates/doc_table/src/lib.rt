@@ -5,8 +5,6 @@
 #![tactic(auto)]
 
 mod table;
-#[cfg(test)]
-mod tests;
 
 /// The documents of one index, and a list of their ids.
 pub use table::{DocTable, IdList};

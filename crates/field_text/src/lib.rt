@@ -5,8 +5,6 @@
 
 mod numbers;
 mod tag_list;
-#[cfg(test)]
-mod tests;
 
 /// The whole number that a value spells.
 pub use numbers::number;

@@ -17,9 +17,8 @@ mod names;
 mod number;
 mod query;
 mod reply;
+mod row;
 mod steps;
-#[cfg(test)]
-mod tests;
 mod weight;
 mod words;
 
@@ -45,6 +44,8 @@ pub use number::{put_int, read_int};
 pub use query::{Fields, Param, Query, TagPart};
 /// What a command is answered, and how it is spelled on the wire.
 pub use reply::{Reply, put_reply};
+/// Rows of an aggregate, and their values.
+pub use row::{Cell, Row, Value, copy_values};
 /// A count of steps that only contracts see.
 pub use steps::Steps;
 /// Want of memory, the one answer that nothing else in a contract explains.

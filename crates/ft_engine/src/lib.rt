@@ -9,8 +9,6 @@ mod engine;
 mod plain;
 mod prepared;
 mod step;
-#[cfg(test)]
-mod tests;
 
 /// The state of the server, and its events.
 pub use engine::Engine;

@@ -11,8 +11,6 @@ mod entering;
 mod index;
 mod reading;
 mod ready;
-#[cfg(test)]
-mod tests;
 
 /// One index. It is what iterators of ids read.
 pub use index::FtIndex;

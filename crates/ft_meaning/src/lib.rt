@@ -6,8 +6,6 @@
 #![tactic(auto)]
 
 mod membership;
-#[cfg(test)]
-mod tests;
 mod words;
 
 /// Whether a document is in an index, and whether it fails to be.

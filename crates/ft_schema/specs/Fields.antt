@@ -87,6 +87,14 @@ abbrev pub is_at_unf : List Word → Bool
 is_at_unf [] = false
 is_at_unf (word ∷ words) = is_name word (codes "UNF")
 
+-- WEIGHT: a weight, without effect
+abbrev pub weighted_at : FieldOptions → List Word → Read FieldOptions
+weighted_at given words = weight_at words >>= λ rest. Ok (record given { weight = true }, rest)
+
+-- SEPARATOR: the byte that parts the tags
+abbrev pub parted_at : FieldOptions → List Word → Read FieldOptions
+parted_at given words = separator_at words >>= λ next. Ok (record given { separator = Some next.0 }, next.1)
+
 -- SORTABLE, with UNF directly behind it or without. Anywhere else UNF is no option.
 abbrev pub sortable_at : FieldOptions → List Word → FieldOptions × List Word
 sortable_at given words =
@@ -96,8 +104,8 @@ sortable_at given words =
 -- The words behind an option's name.
 unfoldable pub field_option_with : FieldOption → FieldOptions → List Word → List Word → Read FieldOptions
 field_option_with option.NoStem given from words = Ok (record given { no_stem = true }, words)
-field_option_with option.Weight given from words = weight_at words >>= λ rest. Ok (record given { weight = true }, rest)
-field_option_with option.Separator given from words = separator_at words >>= λ next. Ok (record given { separator = Some next.0 }, next.1)
+field_option_with option.Weight given from words = weighted_at given words
+field_option_with option.Separator given from words = parted_at given words
 field_option_with option.CaseSensitive given from words = Ok (record given { case_sensitive = true }, words)
 field_option_with option.Sortable given from words = Ok (sortable_at given words)
 field_option_with option.NoIndex given from words = Ok (record given { no_index = true }, words)

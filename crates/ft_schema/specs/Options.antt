@@ -1,5 +1,5 @@
 -- The options of an index, which stand before the word SCHEMA (RediSearch, FT.CREATE).
-use Rattle.std.specs.Prelude.{List, [], ◌∷◌, map, take, drop, Bool, true, false, codes, Some, None, is_some, Ok, if◌then◌else◌}
+use Rattle.std.specs.Prelude.{ℕ, List, [], ◌∷◌, map, take, drop, Bool, true, false, codes, Some, None, is_some, Ok, if◌then◌else◌}
 use Rattle.ft_schema.specs.declared.fault.Cause.TheVariants.{BadOption, OutOfScope}
 use Rattle.ft_schema.specs.declared.names.IndexOption.{IndexOption}
 use Rattle.ft_schema.specs.declared.names.IndexOption.TheVariants.{On, Prefix, StopWords, MaxTextFields, NoHighlights, NoFrequencies, Score, LeftOut, Other}
@@ -29,13 +29,21 @@ has_option given Other = false
 abbrev pub on_at : IndexOptions → List Word → Read IndexOptions
 on_at given words = word_at words >>= λ next. if is_name next.0 (codes "HASH") then Ok (record given { on_hash = true }, next.1) else fault OutOfScope words
 
+-- so many prefixes, as they are given
+abbrev pub prefixes_with : IndexOptions → ℕ → List Word → Read IndexOptions
+prefixes_with given number words = Ok (record given { prefixes = Some (map (spelled false) (take number words)) }, drop number words)
+
 -- PREFIX: at least one beginning of the keys that are taken
 abbrev pub prefixes_at : IndexOptions → List Word → Read IndexOptions
-prefixes_at given words = count_at 1 words >>= λ count. Ok (record given { prefixes = Some (map (spelled false) (take count.0 count.1)) }, drop count.0 count.1)
+prefixes_at given words = count_at 1 words >>= λ count. prefixes_with given count.0 count.1
 
--- STOPWORDS: the words that are neither indexed nor looked for, lowered
+-- so many stop words, lowered
+abbrev pub stops_with : IndexOptions → ℕ → List Word → Read IndexOptions
+stops_with given number words = Ok (record given { stops = Some (map (spelled true) (take number words)) }, drop number words)
+
+-- STOPWORDS: the words that are neither indexed nor looked for
 abbrev pub stops_at : IndexOptions → List Word → Read IndexOptions
-stops_at given words = count_at 0 words >>= λ count. Ok (record given { stops = Some (map (spelled true) (take count.0 count.1)) }, drop count.0 count.1)
+stops_at given words = count_at 0 words >>= λ count. stops_with given count.0 count.1
 
 -- SCORE: a weight, without effect
 abbrev pub score_at : IndexOptions → List Word → Read IndexOptions

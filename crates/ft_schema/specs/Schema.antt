@@ -42,14 +42,19 @@ abbrev pub keyword_at : List ℕ → List Word → Result (List Word) Stop
 keyword_at name [] = fault causes.BadOption []
 keyword_at name (word ∷ words) = if is_name word name then Ok words else fault causes.BadOption (word ∷ words)
 
+-- The words behind a name and options: SCHEMA, and fields.
+abbrev pub index_behind : Word → ℕ → IndexOptions → List Word → Result IndexDef Stop
+index_behind name serial options words = do
+  rest ← keyword_at (codes "SCHEMA") words
+  fields ← fields_at rest
+  Ok (index_by name serial options fields.0)
+
 -- The words behind FT.CREATE: a name, options, SCHEMA, and fields.
 unfoldable pub index_at : ℕ → List Word → Result IndexDef Stop
 index_at serial [] = fault causes.BadOption []
 index_at serial (name ∷ words) = do
   options ← options_at words
-  rest ← keyword_at (codes "SCHEMA") options.1
-  fields ← fields_at rest
-  Ok (index_by name serial options.0 fields.0)
+  index_behind name serial options.0 options.1
 
 -- The words behind FT.ALTER and the index's name: SCHEMA, ADD, and fields.
 unfoldable pub added_at : List Word → Result (List Field) Stop

@@ -96,14 +96,27 @@ fn text_count(fields: &[Field]) -> usize
 fn joined(alloc: Global, def: &IndexDef, fields: &[Field]) -> Result<IndexDef, NoMemory>
     ensures { IfOk result (λ index. index ≡ record def.now { fields = def.now.fields ++ fields.now }) }
 {
-    let all = joined_fields(alloc, def.fields.as_slice(), fields)?;
+    let fields = joined_fields(alloc, def.fields.as_slice(), fields)?;
     let words = byte_copies(alloc, def.stops.words.as_slice())?;
+    with_lists(alloc, def, fields, StopWords { words })
+}
+
+/// An index with other fields and stop words.
+fn with_lists(
+    alloc: Global,
+    def: &IndexDef,
+    fields: ListOf<Field>,
+    stops: StopWords,
+) -> Result<IndexDef, NoMemory>
+    ensures { IfOk result (λ index. index ≡ record def.now { fields = fields; stops = stops }) }
+{
+    let prefixes = byte_copies(alloc, def.prefixes.as_slice())?;
     Ok(IndexDef {
         name: def.name.clone()?,
         serial: def.serial,
-        prefixes: byte_copies(alloc, def.prefixes.as_slice())?,
-        stops: StopWords { words },
-        fields: all,
+        prefixes,
+        stops,
+        fields,
     })
 }
 

@@ -5,26 +5,57 @@ ghost use Rattle.ft_schema.specs.declared.fault.Stop.TheVariants as stops;
 
 use ft_base::NoMemory;
 use std::alloc::AllocFailed;
+use std::fmt;
+use std::fmt::{Debug, Display, Formatter, Write};
 use thiserror::Error;
 
 /// The first fault of a schema's words, at the number of its word. The command word is 0, and a word
 /// that is missing stands at the number of words.
-#[derive(Clone, Copy, Debug, PartialEq, Eq, Error)]
+#[derive(Clone, Copy, PartialEq, Eq, Error)]
 pub enum SchemaFault {
-    #[error("bad option at word {at}")]
     BadOption { at: u32 },
-    #[error("bad field type at word {at}")]
     BadKind { at: u32 },
-    #[error("duplicate field at word {at}")]
     DuplicateField { at: u32 },
-    #[error("too many fields at word {at}")]
     TooManyFields { at: u32 },
-    #[error("bad number at word {at}")]
     BadNumber { at: u32 },
-    #[error("not supported at word {at}")]
     OutOfScope { at: u32 },
-    #[error("out of memory")]
     NoMemory,
+}
+
+impl Debug for SchemaFault {
+    fn fmt<W: Write>(&self, f: &mut Formatter<W>) -> fmt::Result {
+        match *self {
+            SchemaFault::BadOption { at } => debug_at(f, "BadOption", at),
+            SchemaFault::BadKind { at } => debug_at(f, "BadKind", at),
+            SchemaFault::DuplicateField { at } => debug_at(f, "DuplicateField", at),
+            SchemaFault::TooManyFields { at } => debug_at(f, "TooManyFields", at),
+            SchemaFault::BadNumber { at } => debug_at(f, "BadNumber", at),
+            SchemaFault::OutOfScope { at } => debug_at(f, "OutOfScope", at),
+            SchemaFault::NoMemory => f.write_str("NoMemory"),
+        }
+    }
+}
+
+fn debug_at<W: Write>(f: &mut Formatter<W>, name: &str, at: u32) -> fmt::Result {
+    f.debug_struct(name).field("at", &at).finish()
+}
+
+impl Display for SchemaFault {
+    fn fmt<W: Write>(&self, f: &mut Formatter<W>) -> fmt::Result {
+        match *self {
+            SchemaFault::BadOption { at } => placed(f, "bad option", at),
+            SchemaFault::BadKind { at } => placed(f, "bad field type", at),
+            SchemaFault::DuplicateField { at } => placed(f, "duplicate field", at),
+            SchemaFault::TooManyFields { at } => placed(f, "too many fields", at),
+            SchemaFault::BadNumber { at } => placed(f, "bad number", at),
+            SchemaFault::OutOfScope { at } => placed(f, "not supported", at),
+            SchemaFault::NoMemory => f.write_str("out of memory"),
+        }
+    }
+}
+
+fn placed<W: Write>(f: &mut Formatter<W>, cause: &str, at: u32) -> fmt::Result {
+    write!(f, "{cause} at word {at}")
 }
 
 impl From<NoMemory> for SchemaFault {

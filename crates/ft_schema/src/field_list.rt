@@ -1,5 +1,7 @@
 //! The fields that were read so far, with what it takes to admit one more.
-ghost use Rattle.std.specs.Prelude.{◌≡◌, false, [], ◌∷◌, ◌++◌, length, nat_le, IfOk};
+ghost use Rattle.std.specs.Prelude.{◌≡◌, false, [], ◌∷◌, ◌++◌, length, nat_le, IfOk, OnOk};
+ghost use Rattle.std.specs.List.{list_any};
+ghost use Rattle.std.specs.Str.{bytes_eq};
 ghost use Rattle.ft_schema.specs.Fields.{has_alias, text_count};
 ghost use Rattle.ft_schema.specs.FieldAliases.{field_aliases};
 ghost use Rattle.ft_schema.specs.Limits.{most_fields, most_texts};
@@ -72,9 +74,8 @@ impl FieldList {
             mut aliases,
             texts,
         } = self;
-        aliases.add(field.alias.as_slice())?;
         let texts = texts + usize::from(field.kind.is_text());
-        fields.push(field)?;
+        push(&mut fields, &mut aliases, field)?;
         Ok(FieldList {
             fields,
             aliases,
@@ -88,4 +89,15 @@ impl FieldList {
     {
         ListOf::from_vec(self.fields)
     }
+}
+
+/// Adds a field and its alias, which is new.
+fn push(fields: &mut Vec<Field>, aliases: &mut AliasSet, field: Field) -> Result<(), NoMemory>
+    requires new { list_any (bytes_eq field.alias) aliases.old ≡ false }
+    ensures fields { OnOk result (fields.new.items ≡ fields.old.items ++ field ∷ []) }
+    ensures aliases { OnOk result (aliases.new ≡ aliases.old ++ field.alias ∷ []) }
+{
+    aliases.add(field.alias.as_slice())?;
+    fields.push(field)?;
+    Ok(())
 }

@@ -3,7 +3,7 @@ ghost use Rattle.std.specs.Prelude.{◌≡◌, ◌<◌, ◌≤◌, length, IfOk}
 ghost use Rattle.ft_schema.specs.Gives.{Gives};
 ghost use Rattle.ft_schema.specs.Fields.{no_field_options, has_field_option, separator_at};
 ghost use Rattle.ft_schema.specs.Fields.{is_at_unf, field_option_with, field_option_at};
-ghost use Rattle.ft_schema.specs.Fields.{is_past_options, field_options_at, sortable_at};
+ghost use Rattle.ft_schema.specs.Fields.{is_past_options, field_options_at, weighted_at, parted_at, sortable_at};
 
 use crate::fault::{Cause, Stop};
 use crate::names::{FieldOption, field_option_of};
@@ -121,26 +121,8 @@ fn option_with<'a>(
             },
             words.rest(0),
         )),
-        FieldOption::Weight => match weight(words) {
-            Ok(rest) => Ok((
-                FieldOptions {
-                    weight: true,
-                    ..given
-                },
-                rest,
-            )),
-            Err(stop) => Err(stop),
-        },
-        FieldOption::Separator => match separator(words) {
-            Ok((byte, rest)) => Ok((
-                FieldOptions {
-                    separator: Some(byte),
-                    ..given
-                },
-                rest,
-            )),
-            Err(stop) => Err(stop),
-        },
+        FieldOption::Weight => weighted(given, words),
+        FieldOption::Separator => parted(given, words),
         FieldOption::CaseSensitive => Ok((
             FieldOptions {
                 case_sensitive: true,
@@ -157,6 +139,40 @@ fn option_with<'a>(
             words.rest(0),
         )),
         FieldOption::LeftOut => Err(fault(Cause::OutOfScope, from)),
+    }
+}
+
+/// WEIGHT, without effect.
+fn weighted<'a>(given: FieldOptions, words: &Words<'a>) -> Result<(FieldOptions, Words<'a>), Stop>
+    ensures read { Gives (λ x. x) result (weighted_at given words.now) }
+    ensures within { IfOk result (λ x. length x.1 ≤ length words.now) }
+{
+    match weight(words) {
+        Ok(rest) => Ok((
+            FieldOptions {
+                weight: true,
+                ..given
+            },
+            rest,
+        )),
+        Err(stop) => Err(stop),
+    }
+}
+
+/// SEPARATOR, and the byte that parts the tags.
+fn parted<'a>(given: FieldOptions, words: &Words<'a>) -> Result<(FieldOptions, Words<'a>), Stop>
+    ensures read { Gives (λ x. x) result (parted_at given words.now) }
+    ensures within { IfOk result (λ x. length x.1 ≤ length words.now) }
+{
+    match separator(words) {
+        Ok((byte, rest)) => Ok((
+            FieldOptions {
+                separator: Some(byte),
+                ..given
+            },
+            rest,
+        )),
+        Err(stop) => Err(stop),
     }
 }
 

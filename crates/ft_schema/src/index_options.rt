@@ -1,7 +1,7 @@
 //! The options of an index, one reader for each of `specs/Options.antt`.
 ghost use Rattle.std.specs.Prelude.{◌≡◌, ◌<◌, ◌≤◌, ◌∷◌, length, IfOk};
 ghost use Rattle.ft_schema.specs.Gives.{Gives};
-ghost use Rattle.ft_schema.specs.Options.{no_options, has_option, on_at, prefixes_at, stops_at, score_at};
+ghost use Rattle.ft_schema.specs.Options.{no_options, has_option, on_at, prefixes_with, prefixes_at, stops_with, stops_at, score_at};
 ghost use Rattle.ft_schema.specs.Options.{option_with, option_at};
 ghost use Rattle.ft_schema.specs.Options.{is_at_schema, options_at};
 
@@ -103,7 +103,7 @@ fn has_option(given: &IndexOptions, option: IndexOption) -> bool
 fn option_with<'a>(
     alloc: Global,
     option: IndexOption,
-    given: IndexOptions,
+    mut given: IndexOptions,
     from: &Words<'a>,
     words: &Words<'a>,
 ) -> Result<(IndexOptions, Words<'a>), Stop>
@@ -114,27 +114,18 @@ fn option_with<'a>(
         IndexOption::On => on_hash(given, words),
         IndexOption::Prefix => prefixes(alloc, given, words),
         IndexOption::StopWords => stops(alloc, given, words),
-        IndexOption::MaxTextFields => Ok((
-            IndexOptions {
-                max_text_fields: true,
-                ..given
-            },
-            words.rest(0),
-        )),
-        IndexOption::NoHighlights => Ok((
-            IndexOptions {
-                no_highlights: true,
-                ..given
-            },
-            words.rest(0),
-        )),
-        IndexOption::NoFrequencies => Ok((
-            IndexOptions {
-                no_frequencies: true,
-                ..given
-            },
-            words.rest(0),
-        )),
+        IndexOption::MaxTextFields => {
+            given.max_text_fields = true;
+            Ok((given, words.rest(0)))
+        }
+        IndexOption::NoHighlights => {
+            given.no_highlights = true;
+            Ok((given, words.rest(0)))
+        }
+        IndexOption::NoFrequencies => {
+            given.no_frequencies = true;
+            Ok((given, words.rest(0)))
+        }
         IndexOption::Score => score(given, words),
         IndexOption::LeftOut => Err(fault(Cause::OutOfScope, from)),
         IndexOption::Other => Err(fault(Cause::BadOption, from)),
@@ -175,14 +166,23 @@ fn prefixes<'a>(
         Ok(read) => read,
         Err(stop) => return Err(stop),
     };
-    let prefixes = copies(alloc, &rest, number, false)?;
-    Ok((
-        IndexOptions {
-            prefixes: Some(prefixes),
-            ..given
-        },
-        rest.rest(number),
-    ))
+    with_prefixes(alloc, given, number, &rest)
+}
+
+/// The options with so many prefixes, and the words behind them.
+fn with_prefixes<'a>(
+    alloc: Global,
+    mut given: IndexOptions,
+    number: usize,
+    words: &Words<'a>,
+) -> Result<(IndexOptions, Words<'a>), Stop>
+    requires { number ≤ length words.now }
+    ensures read { Gives (λ x. x) result (prefixes_with given number words.now) }
+    ensures within { IfOk result (λ x. length x.1 ≤ length words.now) }
+{
+    let prefixes = copies(alloc, words, number, false)?;
+    given.prefixes = Some(prefixes);
+    Ok((given, words.rest(number)))
 }
 
 /// STOPWORDS: the words, lowered, in place of the default list.
@@ -198,14 +198,23 @@ fn stops<'a>(
         Ok(read) => read,
         Err(stop) => return Err(stop),
     };
-    let stops = copies(alloc, &rest, number, true)?;
-    Ok((
-        IndexOptions {
-            stops: Some(stops),
-            ..given
-        },
-        rest.rest(number),
-    ))
+    with_stops(alloc, given, number, &rest)
+}
+
+/// The options with so many stop words, and the words behind them.
+fn with_stops<'a>(
+    alloc: Global,
+    mut given: IndexOptions,
+    number: usize,
+    words: &Words<'a>,
+) -> Result<(IndexOptions, Words<'a>), Stop>
+    requires { number ≤ length words.now }
+    ensures read { Gives (λ x. x) result (stops_with given number words.now) }
+    ensures within { IfOk result (λ x. length x.1 ≤ length words.now) }
+{
+    let stops = copies(alloc, words, number, true)?;
+    given.stops = Some(stops);
+    Ok((given, words.rest(number)))
 }
 
 /// SCORE: a weight, without effect.

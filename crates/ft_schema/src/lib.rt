@@ -17,8 +17,6 @@ mod limits;
 mod names;
 mod reading;
 mod schema;
-#[cfg(test)]
-mod tests;
 
 /// An index with more fields.
 pub use extension::extend;

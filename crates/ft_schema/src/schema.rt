@@ -3,7 +3,7 @@ ghost use Rattle.std.specs.Prelude.{◌≡◌, ◌≤◌, ◌<◌, ◌^◌, leng
 ghost use Rattle.ft_base.specs.declared.limits.TheConstants.{MAX_WORDS};
 ghost use Rattle.ft_schema.specs.Gives.{Gives, IsFaultOf};
 ghost use Rattle.ft_schema.specs.Lawful.{IsLawful};
-ghost use Rattle.ft_schema.specs.Schema.{default_stops, index_by, index_at, keyword_at, added_at};
+ghost use Rattle.ft_schema.specs.Schema.{default_stops, index_by, index_behind, index_at, keyword_at, added_at};
 ghost use Rattle.ft_schema.specs.Schema.{fault_at, placed_fault, create, alter};
 
 use crate::fault::{Cause, SchemaFault, Stop};
@@ -76,11 +76,23 @@ fn index(alloc: Global, serial: u64, words: &Words<'_>) -> Result<IndexDef, Stop
     let Some((name, rest)) = first(words) else {
         return Err(fault(Cause::BadOption, words));
     };
-    let (options, rest) = match options(alloc, &rest) {
-        Ok(read) => read,
-        Err(stop) => return Err(stop),
-    };
-    let rest = match keyword(b"SCHEMA", &rest) {
+    match options(alloc, &rest) {
+        Ok((options, rest)) => index_behind(alloc, name, serial, options, &rest),
+        Err(stop) => Err(stop),
+    }
+}
+
+/// The index of a name and options, whose fields follow.
+fn index_behind(
+    alloc: Global,
+    name: &[u8],
+    serial: u64,
+    options: IndexOptions,
+    words: &Words<'_>,
+) -> Result<IndexDef, Stop>
+    ensures { Gives (λ x. x) result (index_behind name.now serial options words.now) }
+{
+    let rest = match keyword(b"SCHEMA", words) {
         Ok(rest) => rest,
         Err(stop) => return Err(stop),
     };

@@ -83,9 +83,11 @@ fn take_fields<'a>(
     let (before, left) = left_of(store, alloc, key, fields)?;
     let gone = before - left.len();
     if gone == 0 {
+        drop(left);
         return Ok((Change::Nothing, 0));
     }
     if left.len() == 0 {
+        drop(left);
         return Ok((Change::EraseKey(key), gone));
     }
     let put = prepare_hash(store, indexes, alloc, id, key, left)?;

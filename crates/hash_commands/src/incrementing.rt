@@ -8,6 +8,7 @@ ghost use Rattle.ft_base.specs.Reply.{spelling};
 ghost use Rattle.ft_base.specs.Hash.{set_field};
 ghost use Rattle.ft_base.specs.Number.{int_of};
 ghost use Rattle.ft_base.specs.Space.{doc_of};
+ghost use Rattle.ft_base.specs.declared.limits.TheConstants.{MAX_WORD_BYTES};
 ghost use Rattle.cmd_parse.specs.Asking.{AreWords};
 ghost use Rattle.ft_machine.specs.Arguments.{third};
 ghost use Rattle.engine_changes.specs.Changing.{IsReady, changed, is_change};
@@ -21,7 +22,7 @@ ghost use Rattle.hash_replies.specs.Reads.{hash_in};
 
 use crate::versions::{copy_of, number_of};
 use engine_changes::Change;
-use ft_base::{Bytes, NoMemory, Words, read_int};
+use ft_base::{Bytes, HashRec, NoMemory, Words, read_int};
 use ft_index::FtIndex;
 use hash_store::{HashStore, ReadyPut};
 use indexed_store::prepare_hash;
@@ -100,8 +101,16 @@ fn set_number(
     ensures definitions { definitions_of indexes.new ≡ definitions_of indexes.old }
 {
     let mut hash = copy_of(store, alloc, key)?;
+    set_to(&mut hash, alloc, field, number)?;
+    prepare_hash(store, indexes, alloc, id, key, hash)
+}
+
+fn set_to(hash: &mut HashRec, alloc: Global, field: &[u8], number: i64) -> Result<(), NoMemory>
+    ensures set { OnOk result (hash.new ≡ set_field hash.old field.now (signed_decimal number)) }
+    ensures short { length (signed_decimal number) ≤ MAX_WORD_BYTES }
+{
     let mut buffer = Buffer::new();
     let value = Bytes::from_slice(alloc, buffer.format(number).as_bytes())?;
     hash.set(field, value)?;
-    prepare_hash(store, indexes, alloc, id, key, hash)
+    Ok(())
 }

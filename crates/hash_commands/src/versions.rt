@@ -2,7 +2,7 @@
 ghost use Rattle.std.specs.Prelude.{◌≡◌, ◌≤◌, ◌-◌, List, ℕ, filter, length, not, is_some, IfOk, OnOk};
 ghost use Rattle.std.specs.List.{list_any};
 ghost use Rattle.std.specs.Str.{bytes_eq};
-ghost use Rattle.ft_base.specs.Hash.{get_field};
+ghost use Rattle.ft_base.specs.Hash.{get_field, set_field};
 ghost use Rattle.ft_base.specs.Space.{doc_of};
 ghost use Rattle.ft_machine.specs.Writes.{number_in, set_pairs, without_fields};
 ghost use Rattle.hash_replies.specs.Reads.{hash_in};
@@ -49,11 +49,18 @@ pub fn left_of(
     ensures space { store.new.space ≡ store.old.space }
     ensures last { store.new.last ≡ store.old.last }
 {
-    let gone = set_of(alloc, fields)?;
     match store.get(key) {
-        Some(doc) => Ok((doc.hash.len(), without(&doc.hash, alloc, &gone)?)),
+        Some(doc) => Ok((doc.hash.len(), without_fields(&doc.hash, alloc, fields)?)),
         None => Ok((0, HashRec::new(alloc))),
     }
+}
+
+/// A copy of a hash without some fields.
+fn without_fields(hash: &HashRec, alloc: Global, fields: &Words<'_>) -> Result<HashRec, NoMemory>
+    ensures { IfOk result (λ left. left ≡ without_fields hash.now fields.now) }
+{
+    let gone = set_of(alloc, fields)?;
+    without(hash, alloc, &gone)
 }
 
 /// The fields as those of a hash, by which they are found without a walk.
@@ -77,10 +84,17 @@ fn without(hash: &HashRec, alloc: Global, gone: &HashRec) -> Result<HashRec, NoM
     for i in 0..hash.len() {
         let (field, value) = hash.at(i);
         if gone.get(field).is_none() {
-            left.set(field, value.clone()?)?;
+            keep(&mut left, field, value)?;
         }
     }
     Ok(left)
+}
+
+fn keep(left: &mut HashRec, field: &[u8], value: &Bytes) -> Result<(), NoMemory>
+    ensures { OnOk result (left.new ≡ set_field left.old field.now value.now) }
+{
+    left.set(field, value.clone()?)?;
+    Ok(())
 }
 
 /// The number that the value of a key's field is, 0 where it is not there.

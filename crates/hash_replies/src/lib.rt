@@ -6,8 +6,6 @@
 
 mod keys;
 mod listings;
-#[cfg(test)]
-mod tests;
 mod values;
 
 /// Whether a key has a hash.

@@ -1,8 +1,8 @@
 //! What is in a whole hash.
-ghost use Rattle.std.specs.Prelude.{◌≡◌, length, IfOk, IsTrue};
+ghost use Rattle.std.specs.Prelude.{◌≡◌, ◌++◌, ◌∷◌, [], length, IfOk, IsTrue, OnOk};
 ghost use Rattle.ft_base.specs.Reply.{fits_wire};
 ghost use Rattle.ft_base.specs.Space.{doc_of};
-ghost use Rattle.ft_base.specs.declared.reply.Reply.TheVariants.{Array};
+ghost use Rattle.ft_base.specs.declared.reply.Reply.TheVariants.{Array, Bulk};
 ghost use Rattle.hash_store.specs.Store.{after_read};
 ghost use Rattle.hash_replies.specs.Reads.{hash_in, in_turn, names, values};
 
@@ -33,10 +33,17 @@ pub fn in_turn(alloc: Global, hash: &HashRec) -> Result<Reply, NoMemory>
     let mut replies = Vec::new(alloc);
     for i in 0..hash.len() {
         let (field, value) = hash.at(i);
-        replies.push(Reply::Bulk(Bytes::from_slice(alloc, field)?))?;
-        replies.push(Reply::Bulk(Bytes::from_slice(alloc, value.as_slice())?))?;
+        push_bulk(alloc, &mut replies, field)?;
+        push_bulk(alloc, &mut replies, value.as_slice())?;
     }
     Ok(Reply::Array(ListOf::from_vec(replies)))
+}
+
+fn push_bulk(alloc: Global, replies: &mut Vec<Reply>, bytes: &[u8]) -> Result<(), NoMemory>
+    ensures { OnOk result (replies.new.items ≡ replies.old.items ++ Bulk bytes.now ∷ []) }
+{
+    replies.push(Reply::Bulk(Bytes::from_slice(alloc, bytes)?))?;
+    Ok(())
 }
 
 /// The fields of a key.

@@ -1,7 +1,7 @@
 //! What a put or a removal does to both maps. Only `add_rows` takes memory.
 ghost use Rattle.std.specs.Prelude.{◌≡◌, ◌++◌, ◌∷◌, [], nat_eq, None, Some, IsSome, IfSome, OnOk, OnErr};
 ghost use Rattle.std.specs.Option.{option_copied};
-ghost use Rattle.std.specs.Map.{lookup};
+ghost use Rattle.std.specs.Map.{lookup, remove_entry};
 ghost use Rattle.ft_base.specs.Rows.{live_rows, Below};
 ghost use Rattle.hash_store.specs.Rows.{doc_in};
 ghost use Rattle.hash_store.specs.Keys.{row_at, row_for, has_key, id_at, SetsRow, Releases, ReleasesKeyOf};
@@ -36,10 +36,17 @@ pub fn add_rows(
     match add_key(alloc, ids, docs, id) {
         Ok(()) => Ok(()),
         Err(full) => {
-            docs.remove(&id);
+            take_off(docs, id);
             Err(full)
         }
     }
+}
+
+// Takes the document of an id off again.
+fn take_off(docs: &mut DocRows, id: u64)
+    ensures { docs.new.entries ≡ remove_entry (nat_eq id) docs.old.entries }
+{
+    docs.remove(&id);
 }
 
 // Sees to it that the key of the document has a row.

@@ -30,7 +30,7 @@ pub trait HitTest<P: Payload> {
 }
 
 /// Every hit. None is read.
-#[derive(Drop)]
+#[derive(Clone, Copy)]
 pub struct EveryHit;
 
 impl<P: Payload> HitTest<P> for EveryHit {
@@ -60,7 +60,7 @@ impl HitTest<TextHit> for Fields {
 }
 
 /// The numbers from `low` to `high`, both included.
-#[derive(Drop)]
+#[derive(Clone, Copy)]
 pub struct Interval {
     pub low: i64,
     pub high: i64,

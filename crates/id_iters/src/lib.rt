@@ -14,8 +14,6 @@ mod lists;
 mod maker;
 mod phrase;
 mod places;
-#[cfg(test)]
-mod tests;
 
 /// Lists and places in them, kept for a reader that comes again.
 pub use hint::{Hint, Hints};

@@ -1,5 +1,5 @@
 -- What a search answers is what its query says of the documents.
-use Rattle.std.specs.Prelude.{◌≡◌, ◌≢◌, ◌<◌, ◌^◌, ℕ, List, Bool, Option, None, Some, Result, Ok, Err, IfOk, find, refl}
+use Rattle.std.specs.Prelude.{◌≡◌, ◌≢◌, ◌<◌, ◌^◌, ◌⊎◌, ℕ, List, Bool, Option, None, Some, Result, Ok, Err, IfOk, find, refl}
 use Rattle.std.proofs.Common.{sym, ap, ◌∙◌, arith, inl, inr, subst}
 use Rattle.std.specs.List.{All}
 use Rattle.std.specs.Option.{option_map}
@@ -27,7 +27,7 @@ use Rattle.query_plan.specs.Finds.{IsKept}
 use Rattle.search_exec.specs.Replies.{found_reply}
 use Rattle.ft_machine.specs.Indexes.{unknown_index}
 use Rattle.ft_machine.specs.Machine.{State}
-use Rattle.ft_machine.specs.Refusals.{query_refusal}
+use Rattle.ft_machine.specs.Refusals.{out_of_memory, query_refusal}
 use Rattle.ft_machine.specs.Searching.{IsAnswered, IsSearched}
 use Rattle.ft_machine.specs.Step.{Does, Told}
 
@@ -61,6 +61,13 @@ searches-index indexes index state number name query no_content params written r
   may = subst (λ (i : Option Defined). IsSearched i query no_content params state.space reply) (sym (named indexes state name (Some index) same there)) answered;
   gives = (said, refl);
 })
+
+-- where a reply is made, it was answered, or memory was wanting
+pub answered : {E : Type 0} (made : Result Reply E) (reply : Reply) (written : List ℕ) → IfOk made (λ made. made ≡ reply) → Told made written
+    → (written ≡ spelling reply) ⊎ (written ≡ spelling out_of_memory)
+answered (Ok made) reply written same (inl said) = inl (said ∙ ap spelling same)
+answered (Ok made) reply written same (inr want) = inr want
+answered (Err e) reply written same want = inr want
 
 -- The query has a tree, and what it finds was answered, or memory was wanting.
 pub searches-found : {E : Type 0} (indexes : List Index) (index : Index) (def : IndexDef) (state : State) (number : ℕ) (name text : List ℕ) (no_content : Bool) (params : List Param) (written : List ℕ) (query : Query) (docs : List Doc) (made : Result Reply E)

@@ -48,10 +48,12 @@ pub fn create<'a>(
     ensures room { vec_capacity out.old ≤ vec_capacity out.new }
 {
     if index_named(indexes, def.name.as_slice()).is_some() {
+        drop(def);
         put_fault(out, b"Index already exists");
         return Change::Nothing;
     }
     if MOST_INDEXES <= indexes.len() {
+        drop(def);
         put_fault(out, b"Too many indexes");
         return Change::Nothing;
     }

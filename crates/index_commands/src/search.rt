@@ -1,14 +1,15 @@
 //! FT.SEARCH: the query is parsed by the fields of its index, and answered by its plan. The store is
 //! read for the documents that are shown with their fields, and for no other.
 ghost use Rattle.reply_buffer.specs.declared.short_reply.TheConstants.{SHORT_REPLY};
-ghost use Rattle.std.specs.Prelude.{◌≡◌, ◌<◌, ◌≤◌, ◌^◌, ℕ, [], length, vec_capacity, IfOk, IsTrue, OnOk};
+ghost use Rattle.std.specs.Prelude.{◌≡◌, ◌<◌, ◌≤◌, ◌^◌, ◌⊎◌, ℕ, [], length, vec_capacity, IfOk, IsTrue, OnOk};
 ghost use Rattle.std.specs.List.{All};
 ghost use Rattle.cmd_parse.specs.Read.{Search};
-ghost use Rattle.ft_base.specs.Reply.{fits_wire};
+ghost use Rattle.ft_base.specs.Reply.{fits_wire, spelling};
 ghost use Rattle.ft_base.specs.declared.doc.Doc.{Doc};
 ghost use Rattle.ft_base.specs.declared.limits.TheConstants.{MAX_WORD_BYTES};
 ghost use Rattle.ft_machine.specs.Machine.{State};
 ghost use Rattle.index_commands.specs.Searchable.{IsSearchable};
+ghost use Rattle.ft_machine.specs.Refusals.{out_of_memory};
 ghost use Rattle.ft_machine.specs.Step.{Does};
 ghost use Rattle.ft_index.specs.Index.{Indexes, IsIndex};
 ghost use Rattle.ft_meaning.specs.Holds.{found_of};
@@ -63,13 +64,38 @@ pub fn answer_search(
     match parse(alloc, search.query, index.def(), &search.params) {
         Ok(query) => {
             let no_content = search.no_content;
-            put_made(
-                found_in::<Brand>(store, index, alloc, &query, no_content, Blank::new(1)),
-                out,
-            );
+            answer_query(store, index, alloc, &query, no_content, out);
+            drop(query);
         }
         Err(fault) => put_query_refusal(fault, out),
     }
+}
+
+/// Writes what a query finds in an index.
+fn answer_query(
+    store: &mut HashStore,
+    index: &FtIndex,
+    alloc: Global,
+    query: &Query,
+    no_content: bool,
+    out: &mut Vec<u8>,
+)
+    requires stands { Indexes index.now store.old.space }
+    requires sound { IsIndex index.now }
+    requires few { index.now.table.last < 2 ^ 62 }
+    requires values { All (λ (doc : Doc). ValuesFit doc.hash) store.old.space }
+    requires empty { out.old.items ≡ [] }
+    requires room { SHORT_REPLY ≤ vec_capacity out.old }
+    ensures found { (out.new.items
+        ≡ spelling (found_reply no_content (found_of query.now index.now.def store.old.space)))
+        ⊎ (out.new.items ≡ spelling out_of_memory) }
+    ensures reads { ReadsRows no_content out.new.items store.old.reads store.new.reads }
+    ensures space { store.new.space ≡ store.old.space }
+    ensures last { store.new.last ≡ store.old.last }
+    ensures room { vec_capacity out.old ≤ vec_capacity out.new }
+{
+    let found = found_in::<Brand>(store, index, alloc, query, no_content, Blank::new(1));
+    put_made(found, out);
 }
 
 /// What a query finds in an index.
@@ -100,9 +126,15 @@ fn found_in<L: Ledger>(
     // Tells that the ids of the documents rise.
     let _count = store.len();
     let mut steps = Steps::<L>::new(blank);
-    let hints = Hints(ListOf::new(alloc));
-    let iter = plan(alloc, index, query, &hints, 0, &mut steps)?;
-    search_index(
+    let iter = plan(
+        alloc,
+        index,
+        query,
+        &Hints(ListOf::new(alloc)),
+        0,
+        &mut steps,
+    )?;
+    let found = search_index(
         alloc,
         index,
         index.table(),
@@ -110,5 +142,7 @@ fn found_in<L: Ledger>(
         iter,
         no_content,
         &mut steps,
-    )
+    );
+    drop(steps);
+    found
 }

@@ -19,20 +19,34 @@ kind_words (Tag separator case) =
     Bulk (codes "TAG") ∷ Bulk (codes "SEPARATOR") ∷ Bulk (separator ∷ []) ∷ word_if case (codes "CASESENSITIVE")
 kind_words Numeric = Bulk (codes "NUMERIC") ∷ []
 
+-- the field of the hash, and the alias
+abbrev pub names : Field → List Reply
+names field = Bulk (codes "identifier") ∷ Bulk field.name ∷ Bulk (codes "attribute") ∷ Bulk field.alias ∷ []
+
+-- the options of a field of any kind
+abbrev pub options : Field → List Reply
+options field = word_if field.sortable (codes "SORTABLE") ++ word_if field.unf (codes "UNF") ++ word_if field.noindex (codes "NOINDEX")
+
 -- the field of the hash, the alias, the kind, and the options as they were declared
 abbrev pub attribute : Field → Reply
 attribute field = Array (
-    Bulk (codes "identifier") ∷ Bulk field.name ∷ Bulk (codes "attribute") ∷ Bulk field.alias ∷ Bulk (codes "type")
-    ∷ (kind_words field.kind ++ word_if field.sortable (codes "SORTABLE") ++ word_if field.unf (codes "UNF") ++ word_if field.noindex (codes "NOINDEX"))
+    names field ++ Bulk (codes "type")
+    ∷ (kind_words field.kind ++ options field)
     )
+
+-- the name, the prefixes and the fields, each behind its own name
+abbrev pub definition : IndexDef → List Reply
+definition def =
+    Bulk (codes "index_name") ∷ Bulk def.name
+    ∷ Bulk (codes "prefixes") ∷ Array (map Bulk def.prefixes)
+    ∷ Bulk (codes "attributes") ∷ Array (map attribute def.fields)
+    ∷ []
 
 -- what FT.INFO tells of an index with these counts
 abbrev pub info_reply : IndexDef → Counts → Reply
 info_reply def counts = Array (
-    Bulk (codes "index_name") ∷ Bulk def.name
-    ∷ Bulk (codes "prefixes") ∷ Array (map Bulk def.prefixes)
-    ∷ Bulk (codes "attributes") ∷ Array (map attribute def.fields)
-    ∷ Bulk (codes "num_docs") ∷ Number (pos counts.docs)
+    definition def
+    ++ Bulk (codes "num_docs") ∷ Number (pos counts.docs)
     ∷ Bulk (codes "num_records") ∷ Number (pos counts.records)
     ∷ Bulk (codes "hash_indexing_failures") ∷ Number (pos counts.failures)
     ∷ Bulk (codes "cursors") ∷ Number (pos counts.cursors)

@@ -6,8 +6,6 @@
 
 mod attributes;
 mod info;
-#[cfg(test)]
-mod tests;
 mod words;
 
 /// The numbers that it tells.

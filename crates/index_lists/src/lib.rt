@@ -8,8 +8,6 @@
 mod lists;
 mod numbers;
 mod tags;
-#[cfg(test)]
-mod tests;
 mod words;
 
 /// The lists of one index.

@@ -2,7 +2,7 @@
 //! and then each word's list gets one entry.
 ghost use Rattle.std.specs.Prelude.{◌≡◌, ◌<◌, ◌≤◌, ◌+◌, ◌*◌, ◌^◌, List, ℕ, [], ◌∷◌, ◌++◌, map, length, if◌then◌else◌, IfOk, OnOk, OnErr};
 ghost use Rattle.std.specs.Str.{bytes_eq};
-ghost use Rattle.ft_meaning.specs.Meaning.{ValuesFit};
+ghost use Rattle.ft_meaning.specs.Meaning.{ValuesFit, field_tokens};
 ghost use Rattle.inverted_list.specs.Listing.{last_id};
 ghost use Rattle.term_dict.specs.Terms.{IdsRise, entries_of};
 ghost use Rattle.index_lists.specs.Adding.{IsSeen, IsUnseen, WordsHave};
@@ -12,7 +12,7 @@ ghost use Rattle.index_lists.specs.Markers.{word_marker};
 ghost use Rattle.index_lists.specs.Taking.{AllBefore, TakesMarkers};
 ghost use Rattle.index_lists.specs.UpTo.{WordsUpTo};
 
-use ft_base::{Doc, IndexDef, NoMemory};
+use ft_base::{Doc, Field, IndexDef, NoMemory};
 use ft_meaning::field_tokens;
 use indexmap::IndexMap;
 use inverted_list::Markers;
@@ -59,10 +59,28 @@ fn occurrences(alloc: Global, def: &IndexDef, doc: &Doc) -> Result<WordCodes, No
 {
     let mut found = IndexMap::new(alloc);
     for (number, field) in def.fields.as_slice().iter().enumerate() {
-        let tokens = field_tokens(alloc, def, doc, field)?;
-        note_all(&mut found, number as u64, tokens.as_slice())?;
+        note_field(&mut found, alloc, def, doc, number as u64, field)?;
     }
     Ok(found)
+}
+
+/// Notes the words of one field, which has this number.
+fn note_field(
+    found: &mut WordCodes,
+    alloc: Global,
+    def: &IndexDef,
+    doc: &Doc,
+    number: u64,
+    field: &Field,
+) -> Result<(), NoMemory>
+    requires number { number < 1_024 }
+    requires values { ValuesFit doc.now.hash }
+    ensures codes { OnOk result ((word : List ℕ) → codes_of found.new.entries word
+        ≡ codes_of found.old.entries word ++ codes_among word (map (occurrence number) (field_tokens def.now doc.now field.now))) }
+    ensures met { OnOk result (AreMet found.old.entries → AreMet found.new.entries) }
+{
+    let tokens = field_tokens(alloc, def, doc, field)?;
+    note_all(found, number, tokens.as_slice())
 }
 
 /// Notes the tokens of the field with this number.
@@ -97,10 +115,19 @@ fn note(found: &mut WordCodes, word: &[u8], code: u64) -> Result<(), NoMemory>
         return places.push(code);
     }
     let alloc = *found.allocator();
+    let (name, places) = first_code(alloc, word, code)?;
+    found.insert(name, places)?;
+    Ok(())
+}
+
+/// A word with one code.
+fn first_code(alloc: Global, word: &[u8], code: u64) -> Result<(Vec<u8>, ListOfPlaces), NoMemory>
+    ensures word { IfOk result (λ first. first.0.items ≡ word.now) }
+    ensures code { IfOk result (λ first. first.1 ≡ code ∷ []) }
+{
     let mut places = ListOfPlaces::new(alloc);
     places.push(code)?;
-    found.insert(Vec::from_slice(alloc, word)?, places)?;
-    Ok(())
+    Ok((Vec::from_slice(alloc, word)?, places))
 }
 
 /// Adds an entry of this id to the list of each word. Where memory is wanting some have theirs.

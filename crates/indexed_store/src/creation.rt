@@ -1,7 +1,9 @@
 //! An index that is created, or gets more fields, takes the documents that are there.
-ghost use Rattle.std.specs.Prelude.{◌≡◌, ◌≤◌, ◌+◌, length, IfOk, OnOk};
+ghost use Rattle.std.specs.Prelude.{◌≡◌, ◌≤◌, ◌+◌, [], length, IfOk, OnOk};
 ghost use Rattle.ft_meaning.specs.Member.{most_failures};
+ghost use Rattle.ft_index.specs.Index.{Indexes, IsIndex};
 ghost use Rattle.hash_store.specs.Store.{reads_after};
+ghost use Rattle.index_lists.specs.Markers.{AreBefore};
 ghost use Rattle.indexed_store.specs.Definitions.{failures_over};
 ghost use Rattle.indexed_store.specs.Standing.{AreOfEvent, AreWritten, IndexStands, markers_at};
 
@@ -39,6 +41,32 @@ pub fn index_over(
     let mut markers = Markers { event, next: 0 };
     let mut index = FtIndex::new(alloc, def, &mut markers)?;
     index.count_from(failures);
+    filled(index, store, markers)
+}
+
+/// A new index with the documents that are there, whose lists have markers of one event.
+fn filled(
+    mut index: FtIndex,
+    store: &mut HashStore,
+    mut markers: Markers,
+) -> Result<FtIndex, NoMemory>
+    requires documents { AreWritten store.old.space markers.event }
+    requires none { Indexes index [] }
+    requires first { index.table.last ≡ 0 }
+    requires sound { IsIndex index }
+    requires before { AreBefore markers index.lists }
+    requires given { AreOfEvent markers.event index }
+    ensures def { IfOk result (λ filled. filled.def ≡ index.def) }
+    ensures failures { IfOk result (λ filled.
+        filled.failures ≡ failures_over index.def store.old.space index.failures) }
+    ensures stands { IfOk result (λ filled.
+        IndexStands store.new.space (markers.event + 1) (markers_at (markers.event + 1)) filled) }
+    ensures given { IfOk result (λ filled. AreOfEvent markers.event filled) }
+    ensures space { store.new.space ≡ store.old.space }
+    ensures last { store.new.last ≡ store.old.last }
+    ensures ready { store.new.ready ≡ store.old.ready }
+    ensures reads { OnOk result (store.new.reads ≡ reads_after store.old.reads (length store.old.space)) }
+{
     fill(&mut index, store, &mut markers)?;
     Ok(index)
 }

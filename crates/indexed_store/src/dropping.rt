@@ -36,24 +36,23 @@ pub fn drop_members(store: &mut HashStore, indexes: &mut Vec<FtIndex>, name: &[u
     ensures fewer { length indexes.new.items ≤ length indexes.old.items }
     ensures capacity { vec_capacity indexes.old ≤ vec_capacity indexes.new }
 {
-    if let Some(index) = take_index(indexes, name) {
-        remove_live(store, indexes.as_mut_slice(), index);
+    if let Some(mut index) = take_index(indexes, name) {
+        remove_live(store, indexes.as_mut_slice(), &mut index);
     }
 }
 
 /// Takes the documents of an index's live rows out.
-fn remove_live(store: &mut HashStore, indexes: &mut [FtIndex], dropped: FtIndex)
+fn remove_live(store: &mut HashStore, indexes: &mut [FtIndex], dropped: &mut FtIndex)
     ensures space { store.new.space
-        ≡ without_keys store.old.space (map (λ row. row.1) dropped.table.live) }
+        ≡ without_keys store.old.space (map (λ row. row.1) dropped.old.table.live) }
     ensures rest { store.new ≡ record store.old { space = store.new.space } }
     ensures kept { (next : ℕ) → InStep store.old indexes.old next → InStep store.new indexes.new next }
     ensures definitions { definitions_of indexes.new ≡ definitions_of indexes.old }
 {
-    let mut rest = dropped;
-    'removing: while let Some(id) = rest.table().next_live(0) {
-        if let Some(key) = rest.table().key_of(id) {
+    'removing: while let Some(id) = dropped.table().next_live(0) {
+        if let Some(key) = dropped.table().key_of(id) {
             remove(store, indexes, key);
         }
-        rest.kill(id);
+        dropped.kill(id);
     }
 }

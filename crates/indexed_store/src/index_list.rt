@@ -1,5 +1,5 @@
 //! The list of indexes, in order of creation, and the index of a name.
-ghost use Rattle.std.specs.Prelude.{◌≡◌, ◌<◌, ◌≤◌, ◌++◌, ◌∷◌, ℕ, [], length, position, vec_capacity};
+ghost use Rattle.std.specs.Prelude.{◌≡◌, ◌<◌, ◌≤◌, ◌++◌, ◌∷◌, ℕ, [], length, position, set, vec_capacity};
 ghost use Rattle.std.specs.List.{All, find};
 ghost use Rattle.std.specs.Option.{option_copied};
 ghost use Rattle.hash_store.specs.Store.{Store};
@@ -38,8 +38,15 @@ pub fn replace_index(indexes: &mut [FtIndex], index: FtIndex)
         → All (AreApart index) indexes.old → InStep store indexes.old next → InStep store indexes.new next }
 {
     if let Some(place) = place_of(indexes, index.def().name.as_slice()) {
-        indexes[place] = index;
+        put(indexes, place, index);
     }
+}
+
+fn put(indexes: &mut [FtIndex], place: usize, index: FtIndex)
+    requires { place < length indexes.old }
+    ensures { indexes.new ≡ set indexes.old place index }
+{
+    indexes[place] = index;
 }
 
 /// Takes the index of a name out.

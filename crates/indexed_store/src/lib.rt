@@ -13,8 +13,6 @@ mod filling;
 mod index_list;
 mod indexes;
 mod removals;
-#[cfg(test)]
-mod tests;
 mod writes;
 
 /// An index over the documents that are there.

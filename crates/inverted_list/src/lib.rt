@@ -5,8 +5,6 @@ mod list;
 mod marker;
 mod place;
 mod search;
-#[cfg(test)]
-mod tests;
 
 /// The entries of a word, a tag or a range.
 pub use list::List;

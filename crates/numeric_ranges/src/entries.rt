@@ -1,6 +1,6 @@
 //! A copy of a list's entries, which are read in order of their ids.
-ghost use Rattle.std.specs.Prelude.{◌≡◌, ◌<◌, ◌++◌, ◌∷◌, [], IfOk};
-ghost use Rattle.inverted_list.specs.Listing.{last_id};
+ghost use Rattle.std.specs.Prelude.{◌≡◌, ◌<◌, ◌++◌, ◌∷◌, [], IfOk, OnOk};
+ghost use Rattle.inverted_list.specs.Listing.{RisesAbove, last_id};
 
 use ft_base::{NoMemory, Steps};
 use inverted_list::List;
@@ -52,11 +52,27 @@ fn copy_of<L: Ledger>(
     let mut steps = Steps::<L>::new(blank);
     let mut entries = Vec::new(alloc);
     let _ = list.len();
-    let mut place = list.open_at(None, 0, &mut steps);
+    push_entries(&mut entries, list, below, &mut steps)?;
+    Ok(entries)
+}
+
+/// Adds the entries of a list to none.
+fn push_entries<L: Ledger>(
+    entries: &mut Vec<(u64, NumHit)>,
+    list: &List<NumHit>,
+    below: u64,
+    steps: &mut Steps<L>,
+) -> Result<(), NoMemory>
+    requires none { entries.old.items ≡ [] }
+    requires rises { RisesAbove 0 list.now.entries }
+    requires below { last_id 0 list.now.entries < below }
+    ensures { OnOk result (entries.new.items ≡ list.now.entries) }
+{
+    let mut place = list.open_at(None, 0, steps);
     let mut from = 1;
-    'reading: while let Some(id) = list.seek(&mut place, from, &mut steps) {
+    'reading: while let Some(id) = list.seek(&mut place, from, steps) {
         entries.push((id, list.hit(&place)?))?;
         from = id + 1;
     }
-    Ok(entries)
+    Ok(())
 }

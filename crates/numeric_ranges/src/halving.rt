@@ -32,8 +32,10 @@ pub(crate) fn halves_of(
 {
     let entries = entries_with(alloc, &row.list, id, hit)?;
     let cut = cut_of(alloc, entries.as_slice())?;
-    let left = Row::new(alloc, row.low, next_marker(markers)?);
-    let right = Row::new(alloc, cut, next_marker(markers)?);
+    let first = next_marker(markers)?;
+    let second = next_marker(markers)?;
+    let left = Row::new(alloc, row.low, first);
+    let right = Row::new(alloc, cut, second);
     filled(left, right, entries.as_slice())
 }
 

@@ -12,8 +12,6 @@ mod ranges;
 mod row;
 mod search;
 mod spread;
-#[cfg(test)]
-mod tests;
 
 /// The ranges of one numeric field.
 pub use ranges::Ranges;

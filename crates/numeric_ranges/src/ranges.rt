@@ -1,6 +1,6 @@
 //! The ranges of a field: rows of a low and a posting list, in rising order of the lows.
-ghost use Rattle.std.specs.Prelude.{◌≡◌, ◌<◌, ◌≤◌, ◌+◌, ◌-◌, ◌*◌, ◌^◌, ◌↔◌, ◌++◌, ◌∷◌, [], ℕ, negsuc, Some, length, slice_get, IfOk, IfNone, IfSome, IsSome, IsTrue, OnOk, OnErr};
-ghost use Rattle.std.specs.List.{AllByRecursion};
+ghost use Rattle.std.specs.Prelude.{◌≡◌, ◌<◌, ◌≤◌, ◌+◌, ◌-◌, ◌*◌, ◌^◌, ◌↔◌, ◌++◌, ◌∷◌, [], ℕ, negsuc, Some, length, set, slice_get, IfOk, IfNone, IfSome, IsSome, IsTrue, OnOk, OnErr};
+ghost use Rattle.std.specs.List.{AllByRecursion, insert};
 ghost use Rattle.std.specs.Map.{set_value};
 ghost use Rattle.std.specs.Option.{option_copied, option_map};
 ghost use Rattle.std.specs.Ordering.{int_eq};
@@ -197,11 +197,22 @@ fn add_entry(
             row.spread = spread;
         }
         None => {
-            let (left, right) = halves_of(alloc, &rows[at], id, hit, markers)?;
-            rows.insert(at + 1, right)?;
-            rows[at] = left;
+            let halves = halves_of(alloc, &rows[at], id, hit, markers)?;
+            put_halves(rows, at, halves)?;
         }
     }
+    Ok(())
+}
+
+// Two rows stand in the place of one.
+fn put_halves(rows: &mut Vec<Row>, at: usize, halves: (Row, Row)) -> Result<(), NoMemory>
+    requires { at < length rows.old.items }
+    ensures ok { OnOk result (rows.new.items ≡ set (insert rows.old.items (at + 1) halves.1) at halves.0) }
+    ensures err { OnErr result (rows.new.items ≡ rows.old.items) }
+{
+    let (left, right) = halves;
+    rows.insert(at + 1, right)?;
+    rows[at] = left;
     Ok(())
 }
 

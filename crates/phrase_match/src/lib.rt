@@ -10,8 +10,6 @@ mod count;
 mod hints;
 mod look;
 mod order;
-#[cfg(test)]
-mod tests;
 mod window;
 
 /// Whether places can be chosen that are distinct, close enough and, if asked for, in the words' order.

@@ -4,8 +4,6 @@
 mod hits;
 mod payload;
 mod places;
-#[cfg(test)]
-mod tests;
 
 /// What a posting of each kind says beside its id.
 pub use hits::{NumHit, TagHit, TextHit};

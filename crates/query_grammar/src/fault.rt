@@ -1,31 +1,62 @@
 //! Why a text is no query.
 use ft_base::NoMemory;
+use std::fmt;
+use std::fmt::{Debug, Display, Formatter, Write};
 use thiserror::Error;
 
 /// A fault of a text, at the offset of a byte. Of several faults of a text the one with the least offset is answered,
 /// and of several at one offset the one that stands first here.
-#[derive(Clone, Copy, Debug, PartialEq, Eq, Error)]
+#[derive(Clone, Copy, PartialEq, Eq, Error)]
 pub enum QueryFault {
     /// The text goes on so that no sentence of the language begins like it, or it ends where none does.
-    #[error("syntax error at offset {at}")]
     Syntax { at: usize },
     /// No field of the index has this alias.
-    #[error("unknown field at offset {at}")]
     UnknownField { at: usize },
     /// A part asks for another kind of field than the named ones are.
-    #[error("wrong field kind at offset {at}")]
     WrongKind { at: usize },
     /// The command gives no value to this name.
-    #[error("no such parameter at offset {at}")]
     NoParam { at: usize },
     /// It opens a level too many.
-    #[error("query too deep at offset {at}")]
     TooDeep { at: usize },
     /// A form of the language that is left out.
-    #[error("not supported at offset {at}")]
     OutOfScope { at: usize },
-    #[error("out of memory")]
     NoMemory,
+}
+
+impl Debug for QueryFault {
+    fn fmt<W: Write>(&self, f: &mut Formatter<W>) -> fmt::Result {
+        match *self {
+            Self::Syntax { at } => debug_at(f, "Syntax", at),
+            Self::UnknownField { at } => debug_at(f, "UnknownField", at),
+            Self::WrongKind { at } => debug_at(f, "WrongKind", at),
+            Self::NoParam { at } => debug_at(f, "NoParam", at),
+            Self::TooDeep { at } => debug_at(f, "TooDeep", at),
+            Self::OutOfScope { at } => debug_at(f, "OutOfScope", at),
+            Self::NoMemory => f.write_str("NoMemory"),
+        }
+    }
+}
+
+fn debug_at<W: Write>(f: &mut Formatter<W>, name: &str, at: usize) -> fmt::Result {
+    f.debug_struct(name).field("at", &at).finish()
+}
+
+impl Display for QueryFault {
+    fn fmt<W: Write>(&self, f: &mut Formatter<W>) -> fmt::Result {
+        match *self {
+            Self::Syntax { at } => placed(f, "syntax error", at),
+            Self::UnknownField { at } => placed(f, "unknown field", at),
+            Self::WrongKind { at } => placed(f, "wrong field kind", at),
+            Self::NoParam { at } => placed(f, "no such parameter", at),
+            Self::TooDeep { at } => placed(f, "query too deep", at),
+            Self::OutOfScope { at } => placed(f, "not supported", at),
+            Self::NoMemory => f.write_str("out of memory"),
+        }
+    }
+}
+
+fn placed<W: Write>(f: &mut Formatter<W>, cause: &str, at: usize) -> fmt::Result {
+    write!(f, "{cause} at offset {at}")
 }
 
 impl From<NoMemory> for QueryFault {

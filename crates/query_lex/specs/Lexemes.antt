@@ -22,6 +22,10 @@ use Rattle.query_lex.specs.Reading.{Read}
 use Rattle.query_lex.specs.Roles.{role_in}
 use Rattle.query_lex.specs.Words.{word_at, param_at, star_at, arrow_at}
 
+-- `%`, which begins a form that is left out
+abbrev pub percent_at : List ℕ → Read (Option LexKind)
+percent_at rest = Ok (Some (Foreign (codes "%")), rest)
+
 -- The lexeme that a byte begins by its role, or none where it only separates.
 abbrev pub lexeme_with : Role → Context → ℕ → List ℕ → Read (Option LexKind)
 lexeme_with role.Word context b rest = word_at b rest
@@ -29,7 +33,7 @@ lexeme_with role.Dollar context b rest = Ok (param_at (not (is_enclosed context)
 lexeme_with role.Quote context b rest = quote_at rest
 lexeme_with role.Star context b rest = Ok (star_at rest)
 lexeme_with role.Equals context b rest = Ok (arrow_at rest)
-lexeme_with role.Percent context b rest = Ok (Some (Foreign (codes "%")), rest)
+lexeme_with role.Percent context b rest = percent_at rest
 lexeme_with (role.Sign sign) context b rest = Ok (Some (Sign sign), rest)
 lexeme_with role.Raw context b rest = raw_at context b rest
 lexeme_with role.Piece context b rest = piece_at b rest

@@ -1,5 +1,7 @@
 //! What a query's text is made of.
 use ft_base::Bytes;
+use std::fmt;
+use std::fmt::{Debug, Formatter, Write};
 
 /// A lexeme, and the offset of its first byte.
 #[derive(Debug, Drop)]
@@ -10,7 +12,7 @@ pub struct Lexeme {
 
 /// What a lexeme is. Words, prefixes and tags are without the backslashes that escape their bytes; the
 /// inside of a quote is as it stands in the text.
-#[derive(Debug, Drop)]
+#[derive(Drop)]
 pub enum LexKind {
     Word(Bytes),
     /// A word directly followed by `*`.
@@ -27,6 +29,45 @@ pub enum LexKind {
     /// A form of query language that is left out, by its first byte or word: `%`, `*`, `w` or `W`.
     Foreign(Bytes),
     Sign(Sign),
+}
+
+impl LexKind {
+    fn name(&self) -> &'static str {
+        match self {
+            LexKind::Word(_) => "Word",
+            LexKind::Prefix(_) => "Prefix",
+            LexKind::Param(_) => "Param",
+            LexKind::ParamPrefix(_) => "ParamPrefix",
+            LexKind::Quote(_) => "Quote",
+            LexKind::Raw(_) => "Raw",
+            LexKind::Tag { .. } => "Tag",
+            LexKind::Foreign(_) => "Foreign",
+            LexKind::Sign(_) => "Sign",
+        }
+    }
+}
+
+impl Debug for LexKind {
+    fn fmt<W: Write>(&self, f: &mut Formatter<W>) -> fmt::Result {
+        match self {
+            LexKind::Word(bytes)
+            | LexKind::Prefix(bytes)
+            | LexKind::Param(bytes)
+            | LexKind::ParamPrefix(bytes)
+            | LexKind::Quote(bytes)
+            | LexKind::Raw(bytes)
+            | LexKind::Foreign(bytes) => f.debug_tuple(self.name()).field(bytes).finish(),
+            LexKind::Tag { text, prefix } => debug_tag(f, text, *prefix),
+            LexKind::Sign(sign) => f.debug_tuple("Sign").field(sign).finish(),
+        }
+    }
+}
+
+fn debug_tag<W: Write>(f: &mut Formatter<W>, text: &Bytes, prefix: bool) -> fmt::Result {
+    f.debug_struct("Tag")
+        .field("text", text)
+        .field("prefix", &prefix)
+        .finish()
 }
 
 /// A lexeme without bytes of its own.

@@ -1,7 +1,7 @@
 //! The lexemes of a text, read from the left up to the first fault.
 ghost use Rattle.std.specs.Prelude.{◌≡◌, ◌≤◌, ◌++◌, length, Ok, IfOk, IfErr, OnOk};
 ghost use Rattle.query_lex.specs.Gives.{Gives, IsFaultOf};
-ghost use Rattle.query_lex.specs.Lexemes.{lexeme_at, at_place, lexed, fault_at, fault_of, lexemes};
+ghost use Rattle.query_lex.specs.Lexemes.{percent_at, lexeme_at, at_place, lexed, fault_at, fault_of, lexemes};
 ghost use Rattle.query_lex.specs.Places.{Rise};
 
 use crate::context::{Context, context_behind, is_enclosed};
@@ -94,17 +94,25 @@ fn lexeme(
 {
     match role_in(context, byte) {
         Role::Word => word(alloc, byte, rest),
-        Role::Dollar => Ok(param(alloc, !is_enclosed(context), rest)?),
+        Role::Dollar => param(alloc, !is_enclosed(context), rest),
         Role::Quote => quote(alloc, rest),
-        Role::Star => Ok(star(alloc, rest)?),
+        Role::Star => star(alloc, rest),
         Role::Equals => Ok(arrow(rest)),
-        Role::Percent => Ok((
-            Some(LexKind::Foreign(Bytes::from_slice(alloc, b"%")?)),
-            rest,
-        )),
+        Role::Percent => percent(alloc, rest),
         Role::Sign(sign) => Ok((Some(LexKind::Sign(sign)), rest)),
         Role::Raw => raw(alloc, context, byte, rest),
         Role::Piece => piece(alloc, byte, rest),
         Role::Blank => Ok((None, rest)),
     }
+}
+
+/// A `%`, which begins a form that is left out.
+fn percent(alloc: Global, rest: &[u8]) -> Result<(Option<LexKind>, &[u8]), Stop>
+    ensures read { Gives (λ x. (x.0, x.1.now)) result (percent_at rest.now) }
+    ensures within { IfOk result (λ x. length x.1.now ≤ length rest.now) }
+{
+    Ok((
+        Some(LexKind::Foreign(Bytes::from_slice(alloc, b"%")?)),
+        rest,
+    ))
 }

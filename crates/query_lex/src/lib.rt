@@ -17,8 +17,6 @@ mod quote;
 mod raw;
 mod role;
 mod separators;
-#[cfg(test)]
-mod tests;
 mod text_byte;
 mod word;
 

@@ -137,12 +137,12 @@ pub fn param(
     alloc: Global,
     may_be_prefix: bool,
     bytes: &[u8],
-) -> Result<(Option<LexKind>, &[u8]), NoMemory>
-    ensures read { IfOk result (λ x. (x.0, x.1.now) ≡ param_at may_be_prefix bytes.now) }
+) -> Result<(Option<LexKind>, &[u8]), Stop>
+    ensures read { Gives (λ x. (x.0, x.1.now)) result (Ok (param_at may_be_prefix bytes.now)) }
     ensures within { IfOk result (λ x. length x.1.now ≤ length bytes.now) }
 {
     let (name, rest) = bytes.split_at(name_length(bytes));
-    param_with(alloc, may_be_prefix, name, rest)
+    Ok(param_with(alloc, may_be_prefix, name, rest)?)
 }
 
 fn param_with<'a>(
@@ -166,8 +166,8 @@ fn param_with<'a>(
 }
 
 /// A `*` that is no word's.
-pub fn star(alloc: Global, rest: &[u8]) -> Result<(Option<LexKind>, &[u8]), NoMemory>
-    ensures read { IfOk result (λ x. (x.0, x.1.now) ≡ star_at rest.now) }
+pub fn star(alloc: Global, rest: &[u8]) -> Result<(Option<LexKind>, &[u8]), Stop>
+    ensures read { Gives (λ x. (x.0, x.1.now)) result (Ok (star_at rest.now)) }
     ensures within { IfOk result (λ x. length x.1.now ≤ length rest.now) }
 {
     if word_comes(rest) {

@@ -8,8 +8,6 @@
 
 mod fields;
 mod matcher;
-#[cfg(test)]
-mod tests;
 mod values;
 mod words;
 

@@ -1,5 +1,5 @@
 //! The walk over a query's parts.
-ghost use Rattle.std.specs.Prelude.{◌≡◌, IfOk};
+ghost use Rattle.std.specs.Prelude.{◌≡◌, not, IfOk};
 ghost use Rattle.std.specs.List.{list_all, list_any};
 ghost use Rattle.ft_meaning.specs.Holds.{holds};
 ghost use Rattle.ft_meaning.specs.Meaning.{ValuesFit};
@@ -20,10 +20,10 @@ pub fn matches(alloc: Global, def: &IndexDef, doc: &Doc, query: &Query) -> Resul
         Query::Empty => Ok(false),
         Query::All => Ok(true),
         Query::Word { fields, text } => {
-            Ok(has_wanted(alloc, def, doc, fields, Wanted::Word(text.as_slice()))?)
+            has_wanted(alloc, def, doc, fields, Wanted::Word(text.as_slice()))
         }
         Query::Prefix { fields, text } => {
-            Ok(has_wanted(alloc, def, doc, fields, Wanted::Prefix(text.as_slice()))?)
+            has_wanted(alloc, def, doc, fields, Wanted::Prefix(text.as_slice()))
         }
         Query::Phrase {
             fields,
@@ -36,18 +36,24 @@ pub fn matches(alloc: Global, def: &IndexDef, doc: &Doc, query: &Query) -> Resul
                 slop: *slop,
                 in_order: *in_order,
             };
-            Ok(has_wanted(alloc, def, doc, fields, phrase)?)
+            has_wanted(alloc, def, doc, fields, phrase)
         }
-        Query::Tags { field, tags } => Ok(has_tag(alloc, def, doc, *field, tags.as_slice())?),
+        Query::Tags { field, tags } => has_tag(alloc, def, doc, *field, tags.as_slice()),
         Query::Range { field, low, high } => Ok(has_number(def, doc, *field, *low, *high)),
-        Query::And(parts) => Ok(matches_all(alloc, def, doc, parts.as_slice())?),
-        Query::Or(parts) => Ok(matches_any(alloc, def, doc, parts.as_slice())?),
-        Query::Not(part) => {
-            let met = matches(alloc, def, doc, part.get())?;
-            Ok(!met)
-        }
+        Query::And(parts) => matches_all(alloc, def, doc, parts.as_slice()),
+        Query::Or(parts) => matches_any(alloc, def, doc, parts.as_slice()),
+        Query::Not(part) => fails(alloc, def, doc, part.get()),
         Query::Optional(_) => Ok(true),
     }
+}
+
+#[cycle(matches)]
+fn fails(alloc: Global, def: &IndexDef, doc: &Doc, query: &Query) -> Result<bool, NoMemory>
+    requires values { ValuesFit doc.now.hash }
+    ensures { IfOk result (λ fails. fails ≡ not (holds query.now def.now doc.now)) }
+{
+    let met = matches(alloc, def, doc, query)?;
+    Ok(!met)
 }
 
 #[cycle(matches)]

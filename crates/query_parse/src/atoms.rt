@@ -9,13 +9,14 @@ ghost use Rattle.query_grammar.specs.declared.fault.QueryFault.TheVariants.{NoPa
 ghost use Rattle.ft_base.specs.declared.definition.IndexDef.{IndexDef};
 ghost use Rattle.ft_base.specs.declared.query.Param.{Param};
 ghost use Rattle.ft_base.specs.declared.query.Query.TheVariants as tree;
+ghost use Rattle.query_lex.specs.declared.lexeme.LexKind.TheVariants as kinds;
 ghost use Rattle.token_text.specs.Tokens.{is_stop, lowered};
 ghost use Rattle.token_text.specs.declared.token.Token.{Token};
 
 use crate::params::Params;
 use crate::parser::Parser;
 use crate::phrases::any_of;
-use crate::stop::{Read, Stop};
+use crate::stop::{Read, Stop, followed};
 use crate::tokens::{behind, next_sign};
 use ft_base::{Bytes, Fields, ListOf, MAX_WORD_BYTES, NoMemory, Query, StopWords};
 use query_grammar::QueryFault;
@@ -53,21 +54,59 @@ pub fn single<'a>(
     ensures rest { IfOk result (λ x. x.1.now ≡ rest.now) }
 {
     match &lexeme.kind {
-        LexKind::Word(word) => Ok((word_part(parser, fields, word.as_slice())?, rest)),
-        LexKind::Prefix(word) => Ok((prefix_part(parser.alloc, fields, word.as_slice())?, rest)),
-        LexKind::Param(name) => {
-            let value = param_at(&parser.params, name.as_slice(), lexeme.at, rest)?;
-            Ok((word_part(parser, fields, value)?, rest))
-        }
+        LexKind::Word(word) => followed(word_part(parser, fields, word.as_slice()), rest),
+        LexKind::Prefix(word) => followed(prefix_part(parser.alloc, fields, word.as_slice()), rest),
+        LexKind::Param(name) => word_param(parser, fields, name.as_slice(), lexeme.at, rest),
         LexKind::ParamPrefix(name) => {
-            let value = param_at(&parser.params, name.as_slice(), lexeme.at, rest)?;
-            Ok((prefix_part(parser.alloc, fields, value)?, rest))
+            prefix_param(parser, fields, name.as_slice(), lexeme.at, rest)
         }
-        LexKind::Quote(text) => Ok((quote_part(parser, fields, text.as_slice())?, rest)),
+        LexKind::Quote(text) => followed(quote_part(parser, fields, text.as_slice()), rest),
         LexKind::Foreign(_) => Err(Stop::Found(QueryFault::OutOfScope { at: lexeme.at }, rest)),
         LexKind::Sign(Sign::Star) => Ok((Some(Query::All), rest)),
         _ => Ok((None, rest)),
     }
+}
+
+/// A word that is a parameter's value.
+fn word_param<'a>(
+    parser: &Parser<'_>,
+    fields: &Fields,
+    name: &[u8],
+    at: usize,
+    rest: &'a [Lexeme],
+) -> Read<'a, Option<Query>>
+    ensures read { Gives (λ x. (option_to_list x.0, x.1.now)) result
+        (unless (faults_at parser.now.params (record { at = at; kind = kinds.Param name.now })) rest.now
+        (Ok (
+          atom_parts parser.now.def.now.stops.words parser.now.params
+              fields.now (kinds.Param name.now),
+          rest.now,
+        ))) }
+    ensures rest { IfOk result (λ x. x.1.now ≡ rest.now) }
+{
+    let value = param_at(&parser.params, name, at, rest)?;
+    Ok((word_part(parser, fields, value)?, rest))
+}
+
+/// A prefix that is a parameter's value.
+fn prefix_param<'a>(
+    parser: &Parser<'_>,
+    fields: &Fields,
+    name: &[u8],
+    at: usize,
+    rest: &'a [Lexeme],
+) -> Read<'a, Option<Query>>
+    ensures read { Gives (λ x. (option_to_list x.0, x.1.now)) result
+        (unless (faults_at parser.now.params (record { at = at; kind = kinds.ParamPrefix name.now })) rest.now
+        (Ok (
+          atom_parts parser.now.def.now.stops.words parser.now.params
+              fields.now (kinds.ParamPrefix name.now),
+          rest.now,
+        ))) }
+    ensures rest { IfOk result (λ x. x.1.now ≡ rest.now) }
+{
+    let value = param_at(&parser.params, name, at, rest)?;
+    Ok((prefix_part(parser.alloc, fields, value)?, rest))
 }
 
 /// The value of a parameter at an offset.

@@ -1,12 +1,14 @@
 //! What attributes make of the part before them, and their faults.
-ghost use Rattle.std.specs.Prelude.{◌≡◌, ◌≤◌, IfOk, length, option_map, option_to_list};
+ghost use Rattle.std.specs.Prelude.{◌≡◌, ◌≤◌, ℕ, Bool, List, IfErr, IfOk, length, option_map, option_to_list};
 ghost use Rattle.std.specs.List.{flat_map};
+ghost use Rattle.query_lex.specs.declared.lexeme.Lexeme.{Lexeme};
 ghost use Rattle.query_grammar.specs.Faults.{attribute_faults, has_no_order, pair_faults};
 ghost use Rattle.query_grammar.specs.Meaning.{asks_order, attribute_of, attributed, order_in, slop_in};
-ghost use Rattle.query_grammar.specs.Reading.{behind_atom, next_sign, with_block};
+ghost use Rattle.ft_base.specs.declared.query.Query.{Query};
+ghost use Rattle.query_grammar.specs.Reading.{Closed, behind_arrow, behind_atom, broken_by, next_sign, with_block};
 ghost use Rattle.query_parse.specs.Blocks.{block_of, rest_of};
 ghost use Rattle.query_parse.specs.Faults.{first};
-ghost use Rattle.query_parse.specs.Gives.{Gives};
+ghost use Rattle.query_parse.specs.Gives.{Gives, Stops};
 ghost use Rattle.query_parse.specs.Seen.{pair_of, pairs_of};
 
 use crate::blocks::{Block, Pair, pairs};
@@ -36,15 +38,34 @@ pub fn attributed<'a>(
     let Some(Sign::Arrow) = next_sign(lexemes) else {
         return Ok((part, lexemes));
     };
-    let Some(Sign::AttrOpen) = next_sign(behind(lexemes)) else {
-        return Err(Stop::Broken(behind(lexemes)));
+    match block_at(parser, behind(lexemes)) {
+        Ok(block) => with_block(parser, place_of(0, lexemes), is_quote, part, block),
+        Err(stop) => {
+            drop(part);
+            Err(stop)
+        }
+    }
+}
+
+/// The attributes in braces that stand behind an arrow.
+fn block_at<'a>(parser: &Parser<'_>, lexemes: &'a [Lexeme]) -> Result<Block<'a>, Stop<'a>>
+    ensures read { IfOk result (λ block. (at : ℕ) (is_quote : Bool) (parts : List Query)
+        → behind_arrow parser.now.def.now parser.now.params at is_quote parts
+        (next_sign lexemes.now) lexemes.now
+        ≡ with_block parser.now.def.now parser.now.params at is_quote parts
+        (block_of parser.now.def.now parser.now.params block)) }
+    ensures stops { IfErr result (λ stop. (at : ℕ) (is_quote : Bool) (parts : List Query)
+        → Stops stop (behind_arrow parser.now.def.now parser.now.params at is_quote parts
+        (next_sign lexemes.now) lexemes.now)) }
+    ensures within { IfOk result (λ block. length (rest_of block) ≤ length lexemes.now) }
+{
+    let Some(Sign::AttrOpen) = next_sign(lexemes) else {
+        return Err(Stop::Broken(lexemes));
     };
-    let block = pairs(parser, behind(behind(lexemes)))?;
-    with_block(parser, place_of(0, lexemes), is_quote, part, block)
+    Ok(pairs(parser, behind(lexemes))?)
 }
 
 /// A part with its attributes, or the first fault of these.
-#[tactic(auto, using(crate::proofs::FaultLemmas::by_first))]
 fn with_block<'a>(
     parser: &Parser<'_>,
     at: usize,
@@ -58,18 +79,61 @@ fn with_block<'a>(
     ensures rest { IfOk result (λ x. x.1.now ≡ rest_of block.entry) }
 {
     match block {
-        Block::Closed(pairs, rest) => {
-            match first_fault(&parser.params, at, pairs.as_slice(), &part) {
-                Some(fault) => Err(Stop::Found(fault, rest)),
-                None => Ok((ordered(parser, is_quote, pairs.as_slice(), part)?, rest)),
-            }
+        Block::Closed(pairs, rest) => with_pairs(
+            parser,
+            at,
+            is_quote,
+            part,
+            pairs.as_slice(),
+            rest,
+        ),
+        Block::Open(pairs, rest) => behind_pairs(parser, at, part, pairs.as_slice(), rest),
+    }
+}
+
+/// A part with attributes that are closed, or the first fault of these.
+#[tactic(auto, using(crate::proofs::FaultLemmas::by_first))]
+fn with_pairs<'a>(
+    parser: &Parser<'_>,
+    at: usize,
+    is_quote: bool,
+    part: Option<Query>,
+    pairs: &[Pair<'_>],
+    rest: &'a [Lexeme],
+) -> Read<'a, Option<Query>>
+    ensures read { Gives (λ x. (option_to_list x.0, x.1.now)) result
+        (with_block parser.now.def.now parser.now.params at is_quote (option_to_list part)
+        (Closed (pairs_of pairs.now) rest.now)) }
+    ensures rest { IfOk result (λ x. x.1.now ≡ rest.now) }
+{
+    match first_fault(&parser.params, at, pairs, &part) {
+        Some(fault) => {
+            drop(part);
+            Err(Stop::Found(fault, rest))
         }
-        Block::Open(pairs, rest) => {
-            match first_fault(&parser.params, at, pairs.as_slice(), &part) {
-                Some(fault) => Err(Stop::Cut(fault, rest)),
-                None => Err(Stop::Broken(rest)),
-            }
-        }
+        None => Ok((ordered(parser, is_quote, pairs, part)?, rest)),
+    }
+}
+
+/// The first fault of attributes that are not closed, or that they are not.
+#[tactic(auto, using(crate::proofs::FaultLemmas::by_first))]
+fn behind_pairs<'a>(
+    parser: &Parser<'_>,
+    at: usize,
+    part: Option<Query>,
+    pairs: &[Pair<'_>],
+    rest: &'a [Lexeme],
+) -> Read<'a, Option<Query>>
+    ensures read { Gives {A = List Query × List Lexeme} (λ x. (option_to_list x.0, x.1.now)) result
+        (Err (broken_by parser.now.def.now parser.now.params
+        (attribute_faults parser.now.params at (pairs_of pairs.now) (option_to_list part)) rest.now)) }
+    ensures rest { IfOk result (λ x. x.1.now ≡ rest.now) }
+{
+    let fault = first_fault(&parser.params, at, pairs, &part);
+    drop(part);
+    match fault {
+        Some(fault) => Err(Stop::Cut(fault, rest)),
+        None => Err(Stop::Broken(rest)),
     }
 }
 

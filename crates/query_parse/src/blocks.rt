@@ -1,12 +1,14 @@
 //! Attributes in their braces, up to the closing one or to where the grammar goes no further.
-ghost use Rattle.std.specs.Prelude.{◌≡◌, ◌++◌, ◌≤◌, [], IfOk, List, OnOk, length, option_to_list};
+ghost use Rattle.std.specs.Prelude.{◌≡◌, ◌++◌, ◌∷◌, ◌||◌, ◌≤◌, ℕ, [], IfOk, List, OnOk, length};
+ghost use Rattle.std.specs.Str.{bytes_eq};
 ghost use Rattle.ft_base.specs.declared.definition.IndexDef.{IndexDef};
+ghost use Rattle.ft_base.specs.declared.query.Param.{Param};
 ghost use Rattle.query_lex.specs.declared.lexeme.Lexeme.{Lexeme};
 ghost use Rattle.query_grammar.specs.Form as form;
 ghost use Rattle.query_grammar.specs.Reading as reading;
 ghost use Rattle.query_grammar.specs.Reading.{behind_name, names_of, next_sign, pair_with, pairs_at};
-ghost use Rattle.query_parse.specs.Blocks.{IsShorter, IsWithin, block_of, rest_of, stepped};
-ghost use Rattle.query_parse.specs.NameKeys.{HasNames};
+ghost use Rattle.query_parse.specs.Blocks.{IsShorter, IsWithin, and_one, block_of, rest_of, stepped};
+ghost use Rattle.query_parse.specs.NameKeys.{HasNames, holds};
 ghost use Rattle.query_parse.specs.Seen.{pairs_of};
 
 use crate::name_set::{NameSet, add_name, has_name, no_names};
@@ -16,10 +18,11 @@ use crate::settings::is_attribute;
 use crate::tokens::{behind, next_sign};
 use ft_base::NoMemory;
 use query_lex::{LexKind, Lexeme, Sign};
+use std::alloc::Global;
 
 /// An attribute: its name and where it stands, and its value, which is missing where the text
 /// breaks off.
-#[derive(Drop)]
+#[derive(Clone, Copy)]
 pub struct Pair<'a> {
     pub at: usize,
     pub name: &'a [u8],
@@ -37,7 +40,7 @@ pub enum Block<'a> {
 /// What stands next in the braces: an attribute and a semicolon, and what comes then; the closing
 /// brace, behind an attribute or not; or a lexeme at which the grammar goes no further, the last of
 /// whose attributes may have no value.
-#[derive(Drop)]
+#[derive(Clone, Copy)]
 pub enum Step<'a> {
     More(Pair<'a>, &'a [Lexeme]),
     Closed(Option<Pair<'a>>, &'a [Lexeme]),
@@ -50,38 +53,86 @@ pub fn pairs<'a>(parser: &Parser<'_>, lexemes: &'a [Lexeme]) -> Result<Block<'a>
         ≡ pairs_at parser.now.def.now parser.now.params [] lexemes.now) }
     ensures within { IfOk result (λ block. length (rest_of block) ≤ length lexemes.now) }
 {
-    let mut pairs = Vec::new(parser.alloc);
     let mut names = no_names(parser.alloc);
+    let block = pairs_named(parser, &mut names, lexemes);
+    drop(names);
+    block
+}
+
+/// The same, where the names of the attributes so far are none, and are noted.
+fn pairs_named<'a>(
+    parser: &Parser<'_>,
+    names: &mut NameSet,
+    lexemes: &'a [Lexeme],
+) -> Result<Block<'a>, NoMemory>
+    requires none { HasNames names.old [] }
+    ensures read { IfOk result (λ block. block_of parser.now.def.now parser.now.params block
+        ≡ pairs_at parser.now.def.now parser.now.params [] lexemes.now) }
+    ensures within { IfOk result (λ block. length (rest_of block) ≤ length lexemes.now) }
+{
+    let mut pairs = Vec::new(parser.alloc);
     let mut rest = lexemes;
     'reading: loop {
-        match next_step(&parser.params, &names, rest) {
+        match next_step(&parser.params, names, rest) {
             Step::More(pair, behind) => {
-                add_name(parser.alloc, &mut names, pair.name)?;
-                pairs.push(pair)?;
+                note(parser.alloc, names, &mut pairs, pair)?;
                 rest = behind;
             }
-            Step::Closed(pair, behind) => {
-                add(&mut pairs, pair)?;
-                return Ok(Block::Closed(pairs, behind));
-            }
-            Step::Open(pair, behind) => {
-                add(&mut pairs, pair)?;
-                return Ok(Block::Open(pairs, behind));
-            }
+            Step::Closed(pair, behind) => return closed(pairs, pair, behind),
+            Step::Open(pair, behind) => return open(pairs, pair, behind),
         }
     }
 }
 
-fn add<'a>(pairs: &mut Vec<Pair<'a>>, pair: Option<Pair<'a>>) -> Result<(), NoMemory>
-    ensures { OnOk result (pairs.new.items ≡ pairs.old.items ++ option_to_list pair.entry) }
+/// Adds an attribute and its name.
+fn note<'a>(
+    alloc: Global,
+    names: &mut NameSet,
+    pairs: &mut Vec<Pair<'a>>,
+    pair: Pair<'a>,
+) -> Result<(), NoMemory>
+    ensures names { OnOk result ((other : List ℕ)
+        → holds names.new other ≡ (bytes_eq other pair.entry.name.now || holds names.old other)) }
+    ensures pairs { OnOk result (pairs.new.items ≡ pairs.old.items ++ pair.entry ∷ []) }
 {
-    match pair {
-        Some(pair) => {
-            pairs.push(pair)?;
-            Ok(())
-        }
-        None => Ok(()),
+    add_name(alloc, names, pair.name)?;
+    pairs.push(pair)?;
+    Ok(())
+}
+
+fn closed<'a>(
+    pairs: Vec<Pair<'a>>,
+    last: Option<Pair<'a>>,
+    rest: &'a [Lexeme],
+) -> Result<Block<'a>, NoMemory>
+    ensures read { IfOk result (λ block. (def : IndexDef) (params : List Param)
+        → block_of def params block ≡ reading.Closed (and_one (pairs_of pairs.entry.items) last.entry) rest.now) }
+    ensures rest { IfOk result (λ block. rest_of block ≡ rest.now) }
+{
+    Ok(Block::Closed(and_one(pairs, last)?, rest))
+}
+
+fn open<'a>(
+    pairs: Vec<Pair<'a>>,
+    last: Option<Pair<'a>>,
+    rest: &'a [Lexeme],
+) -> Result<Block<'a>, NoMemory>
+    ensures read { IfOk result (λ block. (def : IndexDef) (params : List Param)
+        → block_of def params block ≡ reading.Open (and_one (pairs_of pairs.entry.items) last.entry) rest.now) }
+    ensures rest { IfOk result (λ block. rest_of block ≡ rest.now) }
+{
+    Ok(Block::Open(and_one(pairs, last)?, rest))
+}
+
+/// Attributes and one more, if there is one.
+fn and_one<'a>(pairs: Vec<Pair<'a>>, pair: Option<Pair<'a>>) -> Result<Vec<Pair<'a>>, NoMemory>
+    ensures { IfOk result (λ made. pairs_of made.items ≡ and_one (pairs_of pairs.entry.items) pair.entry) }
+{
+    let mut made = pairs;
+    if let Some(pair) = pair {
+        made.push(pair)?;
     }
+    Ok(made)
 }
 
 /// What stands next, behind attributes of these names.

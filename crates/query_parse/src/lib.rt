@@ -20,8 +20,6 @@ mod ranges;
 mod settings;
 mod stop;
 mod tags;
-#[cfg(test)]
-mod tests;
 mod tokens;
 mod values;
 

@@ -2,7 +2,8 @@
 //! groups and fields.
 ghost use Rattle.std.specs.Prelude.{◌≡◌, ◌≤◌, ◌<◌, length, option_to_list, IfOk};
 ghost use Rattle.query_grammar.specs.Grammar.{Atom, Inter, Part, Unary, Union};
-ghost use Rattle.query_grammar.specs.Reading.{deeper, field_at, group_at, next_sign, part_target, target_with};
+ghost use Rattle.query_grammar.specs.Meaning.{denied, optional};
+ghost use Rattle.query_grammar.specs.Reading.{deeper, field_at, group_at, next_sign, part_target, signed_at, target_with};
 ghost use Rattle.query_parse.specs.Gives.{Gives};
 ghost use Rattle.query_parse.specs.Reads.{reads, reads_inside};
 
@@ -10,7 +11,7 @@ use crate::atoms::{closed, single};
 use crate::attributes::attributed;
 use crate::fields::{Needed, has_other, names};
 use crate::params::Params;
-use crate::phrases::{add, all_of, denied, optional};
+use crate::phrases::{add, add_side, denied, optional};
 use crate::ranges::range_target;
 use crate::stop::{Read, Stop};
 use crate::tags::tags_target;
@@ -48,14 +49,14 @@ pub fn union<'a>(
         Err(stop) => return Err(stop),
     };
     let mut sides = Vec::new(parser.alloc);
-    add(&mut sides, all_of(parts))?;
+    add_side(&mut sides, parts)?;
     let mut rest = behind_first;
     'joining: while let Some(behind) = bar(rest) {
         let (parts, after) = match inter(parser, fields, levels, behind) {
             Ok(read) => read,
             Err(stop) => return Err(stop),
         };
-        add(&mut sides, all_of(parts))?;
+        add_side(&mut sides, parts)?;
         rest = after;
     }
     Ok((sides, rest))
@@ -106,28 +107,68 @@ fn unary<'a>(
 {
     match next_sign(lexemes) {
         Some(Sign::Minus) => {
-            if levels == 0 {
-                let fault = QueryFault::TooDeep {
-                    at: place_of(0, lexemes),
-                };
-                return Err(Stop::Found(fault, behind(lexemes)));
-            }
-            let (part, rest) = unary(parser, fields, levels - 1, behind(lexemes))?;
-            Ok((denied(parser.alloc, part)?, rest))
+            denied_part(
+                parser,
+                fields,
+                levels,
+                place_of(0, lexemes),
+                behind(lexemes),
+            )
         }
         Some(Sign::Tilde) => {
-            if levels == 0 {
-                let fault = QueryFault::TooDeep {
-                    at: place_of(0, lexemes),
-                };
-                return Err(Stop::Found(fault, behind(lexemes)));
-            }
-            let (part, rest) = unary(parser, fields, levels - 1, behind(lexemes))?;
-            Ok((optional(parser.alloc, part)?, rest))
+            optional_part(
+                parser,
+                fields,
+                levels,
+                place_of(0, lexemes),
+                behind(lexemes),
+            )
         }
         Some(Sign::At) => field(parser, levels, place_of(0, lexemes), behind(lexemes)),
         _ => part(parser, fields, levels, lexemes),
     }
+}
+
+/// A part behind a minus sign at an offset, which opens a level.
+#[cycle(parser)]
+fn denied_part<'a>(
+    parser: &Parser<'_>,
+    fields: &Fields,
+    levels: u32,
+    at: usize,
+    lexemes: &'a [Lexeme],
+) -> Read<'a, Option<Query>>
+    ensures read { Gives (λ x. (option_to_list x.0, x.1.now)) result
+        (signed_at parser.now.def.now parser.now.params denied
+        (deeper parser.now.def.now parser.now.params levels) fields.now at lexemes.now) }
+    ensures within { IfOk result (λ x. length x.1.now ≤ length lexemes.now) }
+{
+    if levels == 0 {
+        return Err(Stop::Found(QueryFault::TooDeep { at }, lexemes));
+    }
+    let (part, rest) = unary(parser, fields, levels - 1, lexemes)?;
+    Ok((denied(parser.alloc, part)?, rest))
+}
+
+/// A part behind a tilde sign at an offset, which opens a level.
+#[cycle(parser)]
+fn optional_part<'a>(
+    parser: &Parser<'_>,
+    fields: &Fields,
+    levels: u32,
+    at: usize,
+    lexemes: &'a [Lexeme],
+) -> Read<'a, Option<Query>>
+    ensures read { Gives (λ x. (option_to_list x.0, x.1.now)) result
+        (signed_at parser.now.def.now parser.now.params optional
+        (deeper parser.now.def.now parser.now.params levels) fields.now at lexemes.now) }
+    ensures within { IfOk result (λ x. length x.1.now ≤ length lexemes.now) }
+{
+    if levels == 0 {
+        return Err(Stop::Found(QueryFault::TooDeep { at }, lexemes));
+    }
+    let (part, rest) = unary(parser, fields, levels - 1, lexemes)?;
+    Ok((optional(parser.alloc, part)?, rest))
 }
 
 /// A part with the attributes behind it.

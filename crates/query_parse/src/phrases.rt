@@ -35,6 +35,13 @@ pub fn all_of(parts: Vec<Query>) -> Option<Query>
     }
 }
 
+/// Adds the side of a union that parts side by side are.
+pub fn add_side(sides: &mut Vec<Query>, parts: Vec<Query>) -> Result<(), NoMemory>
+    ensures { OnOk result (sides.new.items ≡ sides.old.items ++ all_of parts.items) }
+{
+    add(sides, all_of(parts))
+}
+
 /// The sides of a union. One that is alone stands for itself.
 pub fn any_of(sides: Vec<Query>) -> Option<Query>
     ensures { option_to_list result ≡ any_of sides.items }
@@ -158,15 +165,10 @@ fn word_in(alloc: Global, part: Query) -> Bytes
                 Bytes::new(alloc)
             }
         }
-        Query::Empty => Bytes::new(alloc),
-        Query::All => Bytes::new(alloc),
-        Query::Prefix { .. } => Bytes::new(alloc),
-        Query::Phrase { .. } => Bytes::new(alloc),
-        Query::Tags { .. } => Bytes::new(alloc),
-        Query::Range { .. } => Bytes::new(alloc),
-        Query::Or(_) => Bytes::new(alloc),
-        Query::Not(_) => Bytes::new(alloc),
-        Query::Optional(_) => Bytes::new(alloc),
+        other => {
+            drop(other);
+            Bytes::new(alloc)
+        }
     }
 }
 

@@ -1,10 +1,12 @@
 //! The tree of a text.
-ghost use Rattle.std.specs.Prelude.{◌≡◌, ◌≤◌, length};
+ghost use Rattle.std.specs.Prelude.{◌≡◌, ◌≤◌, Err, Result, length};
 ghost use Rattle.ft_base.specs.declared.limits.TheConstants.{MAX_WORD_BYTES};
 ghost use Rattle.query_grammar.specs.Answer.{IsAnswer};
+ghost use Rattle.ft_base.specs.declared.query.Query.{Query};
+ghost use Rattle.query_grammar.specs.Reading as reading;
 ghost use Rattle.query_grammar.specs.Reading.{answer_of, whole_at};
 ghost use Rattle.query_parse.specs.Answer.{IsRead, ParsedAs, lexical};
-ghost use Rattle.query_parse.specs.Gives.{Gives};
+ghost use Rattle.query_parse.specs.Gives.{Gives, Stops};
 
 use crate::params::Params;
 use crate::parser::{Parser, union};
@@ -65,12 +67,22 @@ fn answer<'p>(
     };
     match whole(&parser, lexemes) {
         Ok(query) => Ok(query),
-        Err(Stop::Broken(rest)) => Err(QueryFault::Syntax {
+        Err(stop) => Err(fault_of(end, stop)),
+    }
+}
+
+/// The fault of a text of so many bytes where reading stops.
+fn fault_of(end: usize, stop: Stop<'_>) -> QueryFault
+    ensures { (read : Result Query reading.Stop) → Stops stop.entry read
+        → IsRead (Err result) (answer_of end read) }
+{
+    match stop {
+        Stop::Broken(rest) => QueryFault::Syntax {
             at: place_of(end, rest),
-        }),
-        Err(Stop::Found(fault, _)) => Err(fault),
-        Err(Stop::Cut(fault, _)) => Err(fault),
-        Err(Stop::NoMemory) => Err(QueryFault::NoMemory),
+        },
+        Stop::Found(fault, _) => fault,
+        Stop::Cut(fault, _) => fault,
+        Stop::NoMemory => QueryFault::NoMemory,
     }
 }
 

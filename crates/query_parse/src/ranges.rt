@@ -20,7 +20,7 @@ use query_grammar::QueryFault;
 use query_lex::{LexKind, Lexeme, Sign};
 
 /// An end of a range: its value, and whether the value itself is left out.
-#[derive(Drop)]
+#[derive(Clone, Copy)]
 pub struct Edge<'a> {
     pub excluded: bool,
     pub value: &'a Lexeme,

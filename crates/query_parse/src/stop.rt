@@ -1,8 +1,11 @@
 //! Why reading stops.
-ghost use Rattle.std.specs.Prelude.{◌≡◌};
+ghost use Rattle.std.specs.Prelude.{◌≡◌, List, IfOk, option_to_list};
+ghost use Rattle.ft_base.specs.declared.query.Query.{Query};
+ghost use Rattle.query_lex.specs.declared.lexeme.Lexeme.{Lexeme};
+ghost use Rattle.query_parse.specs.Gives.{Gives};
 ghost use Rattle.query_parse.specs.declared.stop.Stop.TheVariants as stops;
 
-use ft_base::NoMemory;
+use ft_base::{NoMemory, Query};
 use query_grammar::QueryFault;
 use query_lex::Lexeme;
 use std::alloc::AllocFailed;
@@ -10,7 +13,7 @@ use std::alloc::AllocFailed;
 /// What was read, and the lexemes behind it.
 pub type Read<'a, T> = Result<(T, &'a [Lexeme]), Stop<'a>>;
 
-#[derive(Drop)]
+#[derive(Clone, Copy)]
 pub enum Stop<'a> {
     /// The grammar goes no further at the first of these lexemes.
     Broken(&'a [Lexeme]),
@@ -35,4 +38,17 @@ impl<'a, T: Drop> From<AllocFailed<T>> for Stop<'a> {
     fn from(_: AllocFailed<T>) -> Stop<'a> {
         Stop::NoMemory
     }
+}
+
+/// A part that the lexemes follow, where there was memory for it.
+pub fn followed<'a>(
+    part: Result<Option<Query>, NoMemory>,
+    rest: &'a [Lexeme],
+) -> Read<'a, Option<Query>>
+    ensures read { (parts : List Query) → IfOk part (λ left. option_to_list left ≡ parts)
+        → Gives {A = List Query × List Lexeme} (λ x. (option_to_list x.0, x.1.now)) result
+        (Ok (parts, rest.now)) }
+    ensures rest { IfOk result (λ x. x.1.now ≡ rest.now) }
+{
+    Ok((part?, rest))
 }

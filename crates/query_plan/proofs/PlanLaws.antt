@@ -1,6 +1,6 @@
 -- What the sets of a query's parts tell of documents.
 use Rattle.std.proofs.Common.{◌≡◌, ℕ, ℤ, ◌<◌, ◌≤◌, Bool, true, false, not, ◌&&◌, List, [], ◌∷◌, ◌++◌, map, length, Option, Some, None, IsTrue, ◌↔◌, refl, sym, ap, ◌∙◌, subst, arith}
-use Rattle.std.specs.Prelude.{int_le, negsuc}
+use Rattle.std.specs.Prelude.{IfOk, Result, int_le, negsuc}
 use Rattle.std.specs.List.{list_all, list_any}
 use Rattle.std.proofs.Math.Bool.{and-true, or-false}
 use Rattle.std.proofs.lemmas.Bool.{le-leb}
@@ -141,6 +141,13 @@ module _ (def : IndexDef) (lists : AllLists) (held : Held) where
           any_cong has_words (λ field. has_words field && has_phrase [] slop in_order (field_tokens def doc field)) (named def looked)
           (λ field. sym (and-true (has_words field)) ∙ ap (λ b. has_words field && b) (sym (stands slop in_order)))
           ∙ sym (any_filter_and (λ (field : Field). has_phrase [] slop in_order (field_tokens def doc field)) has_words (named def looked))
+
+  -- what is told of a query is told of one that is the same
+  pub tells_same : {E : Type 0} (whole query : Query) (made : Result Planned E) → whole ≡ query
+      → IfOk made (λ planned. Tells def lists held (λ doc. holds query def doc) (ids_of held planned))
+      → IfOk made (λ planned. Tells def lists held (λ doc. holds whole def doc) (ids_of held planned))
+  tells_same {E} whole query made is tells =
+      subst (λ (q : Query). IfOk made (λ planned. Tells def lists held (λ doc. holds q def doc) (ids_of held planned))) (sym is) tells
 
   -- ---- parts made of others
 

@@ -1,12 +1,12 @@
 //! The leaves of a plan: lists that are opened behind an id.
-ghost use Rattle.std.specs.Prelude.{◌≡◌, ◌≤◌, ◌+◌, IfOk};
+ghost use Rattle.std.specs.Prelude.{◌≡◌, ◌≤◌, ◌+◌, map, IfOk};
 ghost use Rattle.id_iters.specs.Leaves.{list_has};
 ghost use Rattle.id_iters.specs.Places.{LeafReady};
 ghost use Rattle.id_iters.specs.Ready.{Ready};
-ghost use Rattle.query_plan.specs.Plans.{HintsFit, ids_of, some_has};
+ghost use Rattle.query_plan.specs.Plans.{AllReady, HintsFit, ids_of, some_has};
 
 use crate::hints::take_hint;
-use crate::size::{Planned, list_size};
+use crate::size::{Planned, add_planned, list_size};
 use crate::sources::{Sources, Wanted};
 use crate::union::some_of;
 use ft_base::{Fields, ListOf, NoMemory, Steps};
@@ -97,9 +97,29 @@ pub fn plan_lists<T: Lists, L: Ledger>(
         Ready (T.held sources.now.lists.now) planned.iter (sources.now.after + 1)) }
     ensures counts { steps.old ≤ steps.new }
 {
+    let plans = plan_each_list(sources, lists, wanted, used, steps)?;
+    Ok(some_of(sources.alloc, plans)?)
+}
+
+// The ids of each list.
+fn plan_each_list<T: Lists, L: Ledger>(
+    sources: &Sources<T>,
+    lists: Vec<ListName>,
+    wanted: &Wanted,
+    used: &mut usize,
+    steps: &mut Steps<L>,
+) -> Result<Vec<Planned>, NoMemory>
+    requires { HintsFit (T.held sources.now.lists.now) sources.now.hints.now }
+    ensures set { IfOk result (λ plans.
+        map (λ planned. ids_of (T.held sources.now.lists.now) planned) plans.items
+        ≡ map (λ name. list_has (T.held sources.now.lists.now) name wanted.now.fields.now wanted.now.low wanted.now.high) lists.items) }
+    ensures ready { IfOk result (λ plans.
+        AllReady (T.held sources.now.lists.now) plans.items (sources.now.after + 1)) }
+    ensures counts { steps.old ≤ steps.new }
+{
     let mut plans = Vec::new(sources.alloc);
     'lists: for list in lists {
-        plans.push(plan_list(sources, list, wanted, used, steps)?)?;
+        add_planned(&mut plans, plan_list(sources, list, wanted, used, steps)?)?;
     }
-    Ok(some_of(sources.alloc, plans)?)
+    Ok(plans)
 }

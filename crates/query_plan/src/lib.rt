@@ -14,8 +14,6 @@ mod ranges;
 mod size;
 mod sources;
 mod tags;
-#[cfg(test)]
-mod tests;
 mod union;
 mod words;
 

@@ -1,11 +1,11 @@
 //! Phrases as sets of ids.
-ghost use Rattle.std.specs.Prelude.{◌≡◌, ◌≤◌, ◌+◌, ℕ, map, slice_get, IfOk};
+ghost use Rattle.std.specs.Prelude.{◌≡◌, ◌≤◌, ◌+◌, ◌∷◌, ◌++◌, [], ℕ, map, slice_get, IfOk, OnOk};
 ghost use Rattle.std.specs.List.{list_any};
 ghost use Rattle.ft_meaning.specs.Holds.{has_of, named};
 ghost use Rattle.ft_meaning.specs.Meaning.{has_words};
 ghost use Rattle.id_iters.specs.Held.{Held};
 ghost use Rattle.id_iters.specs.Leaves.{list_names};
-ghost use Rattle.id_iters.specs.Places.{LeavesReady};
+ghost use Rattle.id_iters.specs.Places.{LeafReady, LeavesReady};
 ghost use Rattle.id_iters.specs.Ready.{Ready};
 ghost use Rattle.query_plan.specs.Plans.{HintsFit, Tells, ids_of};
 ghost use Rattle.query_plan.specs.Sought.{passes};
@@ -18,7 +18,7 @@ use id_iters::{Iter, Leaf, ListName, Lists, PhraseIter};
 use std::sync::ledger::Ledger;
 
 /// What is asked of a phrase.
-#[derive(Drop)]
+#[derive(Clone, Copy)]
 pub struct Phrase<'a> {
     pub fields: &'a Fields,
     pub words: &'a [Bytes],
@@ -47,17 +47,38 @@ pub fn plan_phrase<T: Lists, L: Ledger>(
         return Ok(plan_no_words(sources.def, phrase.fields));
     }
     let size = least_size(sources.lists, phrase.words);
+    let iter = phrase_iter(sources, phrase, used, steps)?;
+    Ok(Planned {
+        iter: Iter::of_phrase(iter),
+        size,
+    })
+}
+
+// The iterator of a phrase.
+fn phrase_iter<T: Lists, L: Ledger>(
+    sources: &Sources<T>,
+    phrase: &Phrase,
+    used: &mut usize,
+    steps: &mut Steps<L>,
+) -> Result<PhraseIter, NoMemory>
+    requires { HintsFit (T.held sources.now.lists.now) sources.now.hints.now }
+    ensures words { IfOk result (λ iter. list_names iter.words
+        ≡ map (λ word. ListName.Word word) phrase.now.words.now) }
+    ensures fields { IfOk result (λ iter. iter.fields ≡ phrase.now.fields.now) }
+    ensures slop { IfOk result (λ iter. iter.slop ≡ phrase.now.slop) }
+    ensures in_order { IfOk result (λ iter. iter.in_order ≡ phrase.now.in_order) }
+    ensures ready { IfOk result (λ iter.
+        LeavesReady (T.held sources.now.lists.now) iter.words (sources.now.after + 1)) }
+    ensures counts { steps.old ≤ steps.new }
+{
     let words = phrase_leaves(sources, phrase, used, steps)?;
     let fields = copy_of(sources.alloc, phrase.fields)?;
-    Ok(Planned {
-        iter: Iter::of_phrase(PhraseIter {
-            alloc: sources.alloc,
-            words,
-            fields,
-            slop: phrase.slop,
-            in_order: phrase.in_order,
-        }),
-        size,
+    Ok(PhraseIter {
+        alloc: sources.alloc,
+        words,
+        fields,
+        slop: phrase.slop,
+        in_order: phrase.in_order,
     })
 }
 
@@ -135,8 +156,32 @@ fn phrase_leaves<T: Lists, L: Ledger>(
     };
     let mut leaves = ListOf::new(sources.alloc);
     'words: for word in phrase.words {
-        let text = word.clone()?;
-        leaves.push(leaf_of(sources, ListName::Word { text }, &wanted, used, steps)?)?;
+        add_leaf(&mut leaves, word_leaf(sources, word, &wanted, used, steps)?)?;
     }
     Ok(leaves)
+}
+
+fn add_leaf(leaves: &mut ListOf<Leaf>, leaf: Leaf) -> Result<(), NoMemory>
+    ensures { OnOk result (leaves.new ≡ leaves.old ++ leaf ∷ []) }
+{
+    leaves.push(leaf)?;
+    Ok(())
+}
+
+// The leaf of a word.
+fn word_leaf<T: Lists, L: Ledger>(
+    sources: &Sources<T>,
+    word: &Bytes,
+    wanted: &Wanted,
+    used: &mut usize,
+    steps: &mut Steps<L>,
+) -> Result<Leaf, NoMemory>
+    requires { HintsFit (T.held sources.now.lists.now) sources.now.hints.now }
+    ensures name { IfOk result (λ leaf. leaf.list ≡ ListName.Word word.now) }
+    ensures ready { IfOk result (λ leaf.
+        LeafReady (T.held sources.now.lists.now) leaf (sources.now.after + 1)) }
+    ensures counts { steps.old ≤ steps.new }
+{
+    let text = word.clone()?;
+    leaf_of(sources, ListName::Word { text }, wanted, used, steps)
 }

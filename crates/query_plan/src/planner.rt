@@ -1,6 +1,7 @@
 //! The tree of a query as a tree of iterators.
 ghost use Rattle.std.specs.Prelude.{◌≡◌, ◌≤◌, ◌+◌, ℕ, List, IfOk};
 ghost use Rattle.ft_base.specs.declared.doc.Doc.{Doc};
+ghost use Rattle.ft_base.specs.declared.query.Query.TheVariants as tree;
 ghost use Rattle.ft_meaning.specs.Holds.{holds};
 ghost use Rattle.id_iters.specs.Held.{AreLists};
 ghost use Rattle.id_iters.specs.Ready.{Ready};
@@ -10,7 +11,7 @@ ghost use Rattle.query_plan.specs.Plans.{AllReady, AllTell, HintsFit, Tells, ids
 
 use crate::phrases::{Phrase, plan_phrase};
 use crate::ranges::plan_range;
-use crate::size::Planned;
+use crate::size::{Planned, add_planned};
 use crate::sources::Sources;
 use crate::tags::plan_tags;
 use crate::union::{every_of, other_of, some_of};
@@ -75,14 +76,10 @@ fn plan<T: Lists, L: Ledger>(
     match query {
         Query::Empty => Ok(Planned::none()),
         Query::All => Ok(Planned::all()),
-        Query::Word { fields, text } => Ok(plan_word(sources, fields, text, used, steps)?),
-        Query::Prefix { fields, text } => Ok(plan_prefix(
-            sources,
-            fields,
-            text.as_slice(),
-            used,
-            steps,
-        )?),
+        Query::Word { fields, text } => plan_word(sources, fields, text, used, steps),
+        Query::Prefix { fields, text } => {
+            plan_prefix(sources, fields, text.as_slice(), used, steps)
+        }
         Query::Phrase {
             fields,
             words,
@@ -95,32 +92,78 @@ fn plan<T: Lists, L: Ledger>(
                 slop: *slop,
                 in_order: *in_order,
             };
-            Ok(plan_phrase(sources, &phrase, used, steps)?)
+            plan_phrase(sources, &phrase, used, steps)
         }
-        Query::Tags { field, tags } => Ok(plan_tags(
-            sources,
-            *field,
-            tags.as_slice(),
-            used,
-            steps,
-        )?),
-        Query::Range { field, low, high } => {
-            Ok(plan_range(sources, *field, *low, *high, used, steps)?)
-        }
-        Query::And(parts) => {
-            let plans = plan_each(sources, parts.as_slice(), used, steps)?;
-            Ok(every_of(sources.alloc, plans)?)
-        }
-        Query::Or(parts) => {
-            let plans = plan_each(sources, parts.as_slice(), used, steps)?;
-            Ok(some_of(sources.alloc, plans)?)
-        }
-        Query::Not(part) => {
-            let planned = plan(sources, part.get(), used, steps)?;
-            Ok(other_of(sources.alloc, planned)?)
-        }
+        Query::Tags { field, tags } => plan_tags(sources, *field, tags.as_slice(), used, steps),
+        Query::Range { field, low, high } => plan_range(sources, *field, *low, *high, used, steps),
+        Query::And(parts) => plan_every(sources, parts.as_slice(), used, steps),
+        Query::Or(parts) => plan_some(sources, parts.as_slice(), used, steps),
+        Query::Not(part) => plan_other(sources, part.get(), used, steps),
         Query::Optional(_) => Ok(Planned::all()),
     }
+}
+
+// The plan of parts that all have to be met.
+#[cycle(plan)]
+fn plan_every<T: Lists, L: Ledger>(
+    sources: &Sources<T>,
+    queries: &[Query],
+    used: &mut usize,
+    steps: &mut Steps<L>,
+) -> Result<Planned, NoMemory>
+    requires { HintsFit (T.held sources.now.lists.now) sources.now.hints.now }
+    ensures set { IfOk result (λ planned.
+        Tells sources.now.def.now sources.now.parts.now (T.held sources.now.lists.now)
+        (λ doc. holds (tree.And queries.now) sources.now.def.now doc)
+        (ids_of (T.held sources.now.lists.now) planned)) }
+    ensures ready { IfOk result (λ planned.
+        Ready (T.held sources.now.lists.now) planned.iter (sources.now.after + 1)) }
+    ensures counts { steps.old ≤ steps.new }
+{
+    let plans = plan_each(sources, queries, used, steps)?;
+    Ok(every_of(sources.alloc, plans)?)
+}
+
+// The plan of parts one of which has to be met.
+#[cycle(plan)]
+fn plan_some<T: Lists, L: Ledger>(
+    sources: &Sources<T>,
+    queries: &[Query],
+    used: &mut usize,
+    steps: &mut Steps<L>,
+) -> Result<Planned, NoMemory>
+    requires { HintsFit (T.held sources.now.lists.now) sources.now.hints.now }
+    ensures set { IfOk result (λ planned.
+        Tells sources.now.def.now sources.now.parts.now (T.held sources.now.lists.now)
+        (λ doc. holds (tree.Or queries.now) sources.now.def.now doc)
+        (ids_of (T.held sources.now.lists.now) planned)) }
+    ensures ready { IfOk result (λ planned.
+        Ready (T.held sources.now.lists.now) planned.iter (sources.now.after + 1)) }
+    ensures counts { steps.old ≤ steps.new }
+{
+    let plans = plan_each(sources, queries, used, steps)?;
+    Ok(some_of(sources.alloc, plans)?)
+}
+
+// The plan of a part that must not be met.
+#[cycle(plan)]
+fn plan_other<T: Lists, L: Ledger>(
+    sources: &Sources<T>,
+    query: &Query,
+    used: &mut usize,
+    steps: &mut Steps<L>,
+) -> Result<Planned, NoMemory>
+    requires { HintsFit (T.held sources.now.lists.now) sources.now.hints.now }
+    ensures set { IfOk result (λ planned.
+        Tells sources.now.def.now sources.now.parts.now (T.held sources.now.lists.now)
+        (λ doc. holds (tree.Not query.now) sources.now.def.now doc)
+        (ids_of (T.held sources.now.lists.now) planned)) }
+    ensures ready { IfOk result (λ planned.
+        Ready (T.held sources.now.lists.now) planned.iter (sources.now.after + 1)) }
+    ensures counts { steps.old ≤ steps.new }
+{
+    let planned = plan(sources, query, used, steps)?;
+    Ok(other_of(sources.alloc, planned)?)
 }
 
 // The plans of parts, in their order.
@@ -140,7 +183,7 @@ fn plan_each<T: Lists, L: Ledger>(
 {
     let mut plans = Vec::new(sources.alloc);
     'queries: for query in queries {
-        plans.push(plan(sources, query, used, steps)?)?;
+        add_planned(&mut plans, plan(sources, query, used, steps)?)?;
     }
     Ok(plans)
 }

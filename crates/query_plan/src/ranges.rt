@@ -44,7 +44,7 @@ pub fn plan_range<T: Lists, L: Ledger>(
         low,
         high,
     };
-    Ok(plan_lists(sources, lists, &wanted, used, steps)?)
+    plan_lists(sources, lists, &wanted, used, steps)
 }
 
 // The lists of the ranges from one place on and before another one.

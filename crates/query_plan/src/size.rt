@@ -1,9 +1,10 @@
 //! Planned parts, and how many ids each has at most.
-ghost use Rattle.std.specs.Prelude.{◌≡◌, true, false, ℕ};
+ghost use Rattle.std.specs.Prelude.{◌≡◌, ◌∷◌, ◌++◌, [], true, false, ℕ, OnOk};
 ghost use Rattle.id_iters.specs.Held.{Held};
 ghost use Rattle.id_iters.specs.Ready.{Ready};
 ghost use Rattle.id_iters.specs.Sets.{about};
 
+use ft_base::NoMemory;
 use id_iters::{Iter, ListName, Lists};
 
 /// A set of ids, and how many of them its lists can have. Where that is not known it is as large as can be.
@@ -35,6 +36,14 @@ impl Planned {
             size: u64::MAX,
         }
     }
+}
+
+/// Puts a part behind the others.
+pub fn add_planned(plans: &mut Vec<Planned>, planned: Planned) -> Result<(), NoMemory>
+    ensures { OnOk result (plans.new.items ≡ plans.old.items ++ planned ∷ []) }
+{
+    plans.push(planned)?;
+    Ok(())
 }
 
 /// The number of entries of a list, and 0 where there is none.

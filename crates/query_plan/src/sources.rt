@@ -18,7 +18,7 @@ pub struct Sources<'a, T> {
 
 /// Which hits of a list count: of a word those in some fields, of a range the numbers from `low` to `high`. What does
 /// not belong to the kind of list is not looked at.
-#[derive(Drop)]
+#[derive(Clone, Copy)]
 pub struct Wanted<'a> {
     pub fields: &'a Fields,
     pub low: i64,

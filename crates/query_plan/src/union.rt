@@ -1,5 +1,5 @@
 //! Parts put together.
-ghost use Rattle.std.specs.Prelude.{◌≡◌, ◌≤◌, ◌+◌, ◌*◌, not, ℕ, [], ◌∷◌, length, IfOk};
+ghost use Rattle.std.specs.Prelude.{◌≡◌, ◌≤◌, ◌+◌, ◌*◌, ◌++◌, not, ℕ, [], ◌∷◌, length, IfOk};
 ghost use Rattle.std.specs.List.{list_all};
 ghost use Rattle.id_iters.specs.Held.{Held};
 ghost use Rattle.id_iters.specs.Ready.{Ready};
@@ -46,13 +46,31 @@ fn either(alloc: Global, one: Planned, other: Planned) -> Result<Planned, NoMemo
     ensures { IfOk result (λ made. Joins (one ∷ other ∷ []) (made ∷ [])) }
 {
     let size = one.size.saturating_add(other.size);
-    let mut parts = ListOf::new(alloc);
-    parts.push(Ahead::new(one.iter))?;
-    parts.push(Ahead::new(other.iter))?;
+    let parts = both(alloc, Ahead::new(one.iter), Ahead::new(other.iter))?;
     Ok(Planned {
         iter: Iter::of_some(parts),
         size,
     })
+}
+
+fn both(alloc: Global, one: Ahead, other: Ahead) -> Result<ListOf<Ahead>, NoMemory>
+    ensures { IfOk result (λ parts. parts ≡ one ∷ other ∷ []) }
+{
+    match with_part(ListOf::new(alloc), one) {
+        Ok(parts) => with_part(parts, other),
+        Err(fault) => {
+            drop(other);
+            Err(fault)
+        }
+    }
+}
+
+fn with_part(parts: ListOf<Ahead>, part: Ahead) -> Result<ListOf<Ahead>, NoMemory>
+    ensures { IfOk result (λ made. made ≡ parts ++ part ∷ []) }
+{
+    let mut made = parts;
+    made.push(part)?;
+    Ok(made)
 }
 
 /// The ids that every part has. The part with the fewest is asked first.

@@ -20,17 +20,16 @@ const STREAM: &[u8] =
 /// The stream's commands, as `log` writes them.
 const LOGGED: &[u8] = b"HSET|k|f|\x00\r\n\xff|;PING|;";
 
-/// What the first `take` answers where these bytes were fed, and how many are left.
-fn first_of(alloc: Global, bytes: &[u8]) -> Result<(Take, usize), NoMemory> {
+/// Whether the first `take` answers so where these bytes were fed, and so many are left.
+fn is_first(alloc: Global, bytes: &[u8], want: Take, left: usize) -> Result<bool, NoMemory> {
     let mut decoder = Decoder::open(alloc)?;
     decoder.feed(bytes)?;
-    let taken = decoder.take();
-    Ok((taken, decoder.rest().len()))
+    Ok(decoder.take() == want && decoder.rest().len() == left)
 }
 
-/// A fault, and all bytes are left.
-fn fault(kind: WireFault, at: u64, bytes: &[u8]) -> (Take, usize) {
-    (Take::Fault { at, kind }, bytes.len())
+/// Whether the first `take` finds a fault, and all bytes are left.
+fn is_fault(alloc: Global, bytes: &[u8], kind: WireFault, at: u64) -> Result<bool, NoMemory> {
+    is_first(alloc, bytes, Take::Fault { at, kind }, bytes.len())
 }
 
 #[test]
@@ -42,10 +41,19 @@ fn whole_requests(rt: HostRuntime) -> Result<(), Fail> {
         ("*0\r\n*1\r\n$0\r\n\r\nPING", Take::Words, 4),
     ];
     for (text, taken, left) in table {
-        let first = first_of(rt.alloc(), text.as_bytes())?;
-        assert_eq!(rt; first, (taken, left), "{text:?}");
+        assert!(rt; is_first(rt.alloc(), text.as_bytes(), taken, left)?);
     }
     Ok(())
+}
+
+/// Whether each front of the bytes asks for more.
+fn fronts_ask_for_more(alloc: Global, bytes: &[u8]) -> Result<bool, NoMemory> {
+    for cut in 0..bytes.len() {
+        if !is_first(alloc, &bytes[..cut], Take::More, cut)? {
+            return Ok(false);
+        }
+    }
+    Ok(true)
 }
 
 #[test]
@@ -60,14 +68,9 @@ fn more_may_help(rt: HostRuntime) -> Result<(), Fail> {
         "*2\r\n$1\r\na\r\n",
     ];
     for text in texts {
-        let first = first_of(rt.alloc(), text.as_bytes())?;
-        assert_eq!(rt; first, (Take::More, text.len()), "{text:?}");
+        assert!(rt; is_first(rt.alloc(), text.as_bytes(), Take::More, text.len())?);
     }
-    let ping = PING.as_bytes();
-    for cut in 0..ping.len() {
-        let first = first_of(rt.alloc(), &ping[..cut])?;
-        assert_eq!(rt; first, (Take::More, cut), "at {cut}");
-    }
+    assert!(rt; fronts_ask_for_more(rt.alloc(), PING.as_bytes())?);
     Ok(())
 }
 
@@ -98,42 +101,49 @@ fn faults(rt: HostRuntime) -> Result<(), Fail> {
         ("*1\r\nx", WireFault::NoDollar { got: b'x' }, 4),
     ];
     for (text, kind, at) in table {
-        let bytes = text.as_bytes();
-        assert_eq!(rt;
-            first_of(rt.alloc(), bytes)?,
-            fault(kind, at, bytes),
-            "{text:?}"
-        );
+        assert!(rt; is_fault(rt.alloc(), text.as_bytes(), kind, at)?);
     }
     Ok(())
 }
 
-/// A command of as many bytes as one may have, without its last word, which is empty.
-fn full_command(alloc: Global) -> Result<Vec<u8>, NoMemory> {
-    let mut word = Vec::new(alloc);
-    word.resize(1_048_576, b'a')?;
+/// A word of 1 MiB with its length.
+fn long_word(alloc: Global) -> Result<Vec<u8>, NoMemory> {
+    let mut word = Vec::from_slice(alloc, b"$1048576\r\n")?;
+    for _ in 0..1_048_576 {
+        word.push(b'a')?;
+    }
+    word.extend_from_slice(b"\r\n")?;
+    Ok(word)
+}
+
+/// A command of as many bytes as one may have, but for its last word.
+fn full_command(alloc: Global, last: &[u8]) -> Result<Vec<u8>, NoMemory> {
+    let word = long_word(alloc)?;
     let mut bytes = Vec::from_slice(alloc, b"*17\r\n")?;
     for _ in 0..16 {
-        bytes.extend_from_slice(b"$1048576\r\n")?;
         bytes.extend_from_slice(&word)?;
-        bytes.extend_from_slice(b"\r\n")?;
     }
+    bytes.extend_from_slice(last)?;
     Ok(bytes)
+}
+
+/// Whether a full command whose last word is empty is one.
+fn takes_full(alloc: Global) -> Result<bool, NoMemory> {
+    let bytes = full_command(alloc, b"$0\r\n\r\n")?;
+    is_first(alloc, &bytes, Take::Words, 0)
+}
+
+/// Whether a full command that has one byte more is a fault at its last word.
+fn refuses_more(alloc: Global) -> Result<bool, NoMemory> {
+    let bytes = full_command(alloc, b"$1\r\n")?;
+    let at = bytes.len().saturating_sub(4) as u64;
+    is_fault(alloc, &bytes, WireFault::BulkLength, at)
 }
 
 #[test]
 fn all_bytes_of_a_command(rt: HostRuntime) -> Result<(), Fail> {
-    let mut bytes = full_command(rt.alloc())?;
-    let front = bytes.len();
-    bytes.extend_from_slice(b"$0\r\n\r\n")?;
-    assert_eq!(rt; first_of(rt.alloc(), &bytes)?, (Take::Words, 0));
-    bytes.truncate(front);
-    bytes.extend_from_slice(b"$1\r\n")?;
-    let at = front as u64;
-    assert_eq!(rt;
-        first_of(rt.alloc(), &bytes)?,
-        fault(WireFault::BulkLength, at, &bytes)
-    );
+    assert!(rt; takes_full(rt.alloc())?);
+    assert!(rt; refuses_more(rt.alloc())?);
     Ok(())
 }
 
@@ -183,102 +193,173 @@ fn log_pieces(
     Ok(taken)
 }
 
+/// Whether the stream in two pieces leaves what it should behind the first, and nothing behind both.
+fn is_cut(alloc: Global, cut: usize, out: &mut Vec<u8>) -> Result<bool, NoMemory> {
+    if STREAM.len() < cut {
+        return Ok(false);
+    }
+    let mut decoder = Decoder::open(alloc)?;
+    let front = log_pieces(&mut decoder, &STREAM[..cut], 64, out)?;
+    let taken = match cut {
+        0..38 => 0,
+        38..52 => 38,
+        _ => cut,
+    };
+    let left = decoder.rest() == &STREAM[taken..cut];
+    let whole = log_pieces(&mut decoder, &STREAM[cut..], 64, out)?;
+    Ok(front == Take::More && left && whole == Take::More && decoder.rest().is_empty())
+}
+
+/// Whether the stream in two pieces has the commands that it has.
+fn is_same_cut(alloc: Global, cut: usize) -> Result<bool, NoMemory> {
+    let mut out = Vec::new(alloc);
+    Ok(is_cut(alloc, cut, &mut out)? && out.as_slice() == LOGGED)
+}
+
+/// What the last take of bytes in pieces of so many is, and the one behind it.
+fn last_takes(
+    alloc: Global,
+    bytes: &[u8],
+    size: usize,
+    out: &mut Vec<u8>,
+) -> Result<(Take, Take), NoMemory>
+    requires size { size ≤ 64 }
+    requires fed { length bytes.now ≤ 1_000 }
+{
+    let mut decoder = Decoder::open(alloc)?;
+    let taken = log_pieces(&mut decoder, bytes, size, out)?;
+    let again = decoder.take();
+    if again != Take::Words && 0 < decoder.words().len() {
+        return Ok((taken, Take::NoMemory));
+    }
+    Ok((taken, again))
+}
+
+/// Whether bytes in pieces of so many have these commands, and behind them the last take stays as it is.
+fn is_logged(
+    alloc: Global,
+    bytes: &[u8],
+    size: usize,
+    want: Take,
+    logged: &[u8],
+) -> Result<bool, NoMemory> {
+    if 64 < size || 1_000 < bytes.len() {
+        return Ok(false);
+    }
+    let mut out = Vec::new(alloc);
+    let (taken, again) = last_takes(alloc, bytes, size, &mut out)?;
+    Ok(taken == want && again == want && out.as_slice() == logged)
+}
+
 #[test]
 fn any_cut(rt: HostRuntime) -> Result<(), Fail> {
     for cut in 0..=STREAM.len() {
-        let mut decoder = Decoder::open(rt.alloc())?;
-        let mut out = Vec::new(rt.alloc());
-        let front = log_pieces(&mut decoder, &STREAM[..cut], 64, &mut out)?;
-        assert_eq!(rt; front, Take::More, "at {cut}");
-        let taken = match cut {
-            0..38 => 0,
-            38..52 => 38,
-            _ => STREAM.len(),
-        };
-        assert_eq!(rt; decoder.rest(), &STREAM[taken..cut], "at {cut}");
-        let whole = log_pieces(&mut decoder, &STREAM[cut..], 64, &mut out)?;
-        assert_eq!(rt; whole, Take::More, "at {cut}");
-        assert_eq!(rt; out.as_slice(), LOGGED, "at {cut}");
-        assert!(rt; decoder.rest().is_empty(), "at {cut}");
+        assert!(rt; is_same_cut(rt.alloc(), cut)?);
     }
     for size in 1..9 {
-        let mut decoder = Decoder::open(rt.alloc())?;
-        let mut out = Vec::new(rt.alloc());
-        let taken = log_pieces(&mut decoder, STREAM, size, &mut out)?;
-        assert_eq!(rt; (taken, out.as_slice()), (Take::More, LOGGED), "by {size}");
+        assert!(rt; is_logged(rt.alloc(), STREAM, size, Take::More, LOGGED)?);
     }
     Ok(())
 }
 
+const COUNT_FAULT: &str = "*1\r\n$1\r\na\r\n*0\r\n*1\r\n$1\r\nb\r\nPING\r\n*1\r\n";
+
+const LENGTH_FAULT: &str = "*1\r\n$1\r\na\r\n*2\r\n$1\r\nb\r\n$-1\r\n*1\r\n$1\r\nc\r\n";
+
 #[test]
 fn faults_stay(rt: HostRuntime) -> Result<(), Fail> {
-    let count = WireFault::MultiLength;
-    let length = WireFault::BulkLength;
-    let table = [
-        (
-            "*1\r\n$1\r\na\r\n*0\r\n*1\r\n$1\r\nb\r\nPING\r\n*1\r\n",
-            "a|;b|;",
-            count,
-            26,
-        ),
-        (
-            "*1\r\n$1\r\na\r\n*2\r\n$1\r\nb\r\n$-1\r\n*1\r\n$1\r\nc\r\n",
-            "a|;",
-            length,
-            22,
-        ),
-    ];
-    for (text, logged, kind, at) in table {
-        for size in 1..60 {
-            let mut decoder = Decoder::open(rt.alloc())?;
-            let mut out = Vec::new(rt.alloc());
-            let taken = log_pieces(&mut decoder, text.as_bytes(), size, &mut out)?;
-            assert_eq!(rt; taken, Take::Fault { at, kind }, "by {size}");
-            assert_eq!(rt; decoder.take(), Take::Fault { at, kind }, "by {size}");
-            assert_eq!(rt; out.as_slice(), logged.as_bytes(), "by {size}");
-            assert_eq!(rt; decoder.words().len(), 0, "by {size}");
-        }
+    let count = Take::Fault {
+        at: 26,
+        kind: WireFault::MultiLength,
+    };
+    let length = Take::Fault {
+        at: 22,
+        kind: WireFault::BulkLength,
+    };
+    for size in 1..60 {
+        assert!(rt; is_logged(rt.alloc(), COUNT_FAULT.as_bytes(), size, count, b"a|;b|;")?);
+        assert!(rt; is_logged(rt.alloc(), LENGTH_FAULT.as_bytes(), size, length, b"a|;")?);
     }
     Ok(())
+}
+
+/// A command of 1,025 words.
+fn many_words(alloc: Global) -> Result<Vec<u8>, NoMemory> {
+    let mut bytes = Vec::from_slice(alloc, b"*1025\r\n")?;
+    for _ in 0..1_025 {
+        bytes.extend_from_slice(b"$1\r\na\r\n")?;
+    }
+    Ok(bytes)
+}
+
+/// Whether bytes ask for more until the last one comes, and are then taken whole.
+fn needs_the_last(decoder: &mut Decoder, bytes: &[u8], out: &mut Vec<u8>) -> Result<bool, NoMemory>
+    requires new { fed decoder.old ≡ 0 }
+    requires few { length bytes.now ≤ 100_000 }
+{
+    let front = bytes.len().saturating_sub(1);
+    let first = log_pieces(decoder, &bytes[..front], 7, out)?;
+    let waits = first == Take::More && out.is_empty() && decoder.rest().len() == front;
+    let second = log_pieces(decoder, &bytes[front..], 7, out)?;
+    Ok(waits && second == Take::More && decoder.rest().is_empty())
+}
+
+/// Whether a command is taken whole with its last byte, and written as so many bytes.
+fn is_whole_last(alloc: Global, bytes: &[u8], len: usize) -> Result<bool, NoMemory> {
+    let mut decoder = Decoder::open(alloc)?;
+    let mut out = Vec::new(alloc);
+    if 100_000 < bytes.len() {
+        return Ok(false);
+    }
+    Ok(needs_the_last(&mut decoder, bytes, &mut out)? && out.len() == len)
 }
 
 #[test]
 fn more_words_than_room_at_first(rt: HostRuntime) -> Result<(), Fail> {
-    let mut decoder = Decoder::open(rt.alloc())?;
-    let mut out = Vec::new(rt.alloc());
-    let mut bytes = Vec::from_slice(rt.alloc(), b"*1025\r\n")?;
-    for _ in 0..1_025 {
-        bytes.extend_from_slice(b"$1\r\na\r\n")?;
-    }
-    let front = bytes.len().saturating_sub(1);
-    assert_eq!(rt;
-        log_pieces(&mut decoder, &bytes[..front], 7, &mut out)?,
-        Take::More
-    );
-    assert_eq!(rt; (out.len(), decoder.rest().len()), (0, front));
-    assert_eq!(rt;
-        log_pieces(&mut decoder, &bytes[front..], 7, &mut out)?,
-        Take::More
-    );
-    assert_eq!(rt; (out.len(), decoder.rest().len()), (2_051, 0));
+    let bytes = many_words(rt.alloc())?;
+    assert!(rt; is_whole_last(rt.alloc(), bytes.as_slice(), 2_051)?);
     Ok(())
+}
+
+/// As many bytes as a new decoder has room for, but one.
+fn filling(alloc: Global) -> Result<Vec<u8>, NoMemory> {
+    let mut bytes = Vec::from_slice(alloc, b"*1\r\n$65523\r\n")?;
+    for _ in 0..65_523 {
+        bytes.push(b'a')?;
+    }
+    Ok(bytes)
+}
+
+/// Whether a decoder makes room where these bytes fill it but for one.
+fn makes_room(decoder: &mut Decoder, bytes: &[u8]) -> Result<bool, NoMemory>
+    requires new { fed decoder.old ≡ 0 }
+    requires few { length bytes.now ≤ 100_000 }
+{
+    decoder.feed(bytes)?;
+    let one = decoder.spare() == 1 && decoder.take() == Take::More;
+    decoder.feed(b"\r")?;
+    let none = decoder.spare() == 0;
+    decoder.reserve()?;
+    let some = decoder.spare() > 0;
+    decoder.feed(b"\n")?;
+    Ok(one && none && some && decoder.take() == Take::Words)
+}
+
+/// Whether the word of these bytes is taken, and room is there for more.
+fn has_room_again(alloc: Global, bytes: &[u8]) -> Result<bool, NoMemory> {
+    if bytes.len() < 12 || 100_000 < bytes.len() {
+        return Ok(false);
+    }
+    let mut decoder = Decoder::open(alloc)?;
+    let made = makes_room(&mut decoder, bytes)?;
+    let words = decoder.words();
+    let same = words.len() == 1 && words.word(0) == &bytes[12..];
+    Ok(made && same && decoder.spare() > 65_535)
 }
 
 #[test]
 fn room_for_more(rt: HostRuntime) -> Result<(), Fail> {
-    let mut decoder = Decoder::open(rt.alloc())?;
-    let mut word = Vec::new(rt.alloc());
-    word.resize(65_523, b'a')?;
-    decoder.feed(b"*1\r\n$65523\r\n")?;
-    decoder.feed(&word)?;
-    assert_eq!(rt; (decoder.spare(), decoder.take()), (1, Take::More));
-    decoder.feed(b"\r")?;
-    assert_eq!(rt; decoder.spare(), 0);
-    decoder.reserve()?;
-    assert!(rt; decoder.spare() > 0);
-    decoder.feed(b"\n")?;
-    assert_eq!(rt; decoder.take(), Take::Words);
-    assert_eq!(rt; decoder.words().word(0), word.as_slice());
-    assert!(rt; decoder.spare() > 65_535);
+    let bytes = filling(rt.alloc())?;
+    assert!(rt; has_room_again(rt.alloc(), bytes.as_slice())?);
     Ok(())
 }

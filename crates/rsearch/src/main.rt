@@ -1,53 +1,58 @@
 //! The program: `rsearch script` answers the requests of standard input on standard output.
 //!
-//! `main` only makes the real things and calls `run`, which is generic over the link and the clock and
-//! carries the promise of the whole: what is written is the replies of a legal history of the commands
-//! read. Read `specs/Session.antt`, `specs/Ends.antt` and `run.rt` first, then `connection.rt`.
+//! `main` only makes the real things, the streams and the clock of the system, and calls `run` of
+//! `ft_server`, which carries the promise of the whole.
 #![tactic(auto)]
 
-mod connection;
-mod exit;
-mod fault_text;
-mod form;
-mod input;
-mod run;
 mod std_link;
-#[cfg(test)]
-mod tests;
 
 ghost use Rattle.std.specs.Prelude.{◌≡◌};
 ghost use Rattle.std.specs.Process.{exit_status};
-ghost use Rattle.rsearch.specs.Status.{status_of};
+ghost use Rattle.ft_server.specs.Status.{status_of};
 
-use exit::Exit;
-use run::run;
+use ft_server::{Exit, run};
 use std::env;
 use std::io::ErrorKind;
 use std::process::ExitCode;
 use std_link::{StdLink, SystemClock};
 
 fn main(rt: HostRuntime) -> ExitCode {
-    let mut words = Vec::new(rt.alloc());
-    let args = match env::args(&rt) {
-        Ok(args) => args,
-        Err(fault) if matches!(fault.kind(), ErrorKind::OutOfMemory) => {
-            return ExitCode::from(Exit::NoMemory.status());
-        }
-        // A word that is not UTF-8 is of no form.
-        Err(_) => return end(&rt, Exit::Usage),
+    let exit = match words_of_the_line(&rt) {
+        Ok(words) => run_over_streams(&rt, words.as_slice()),
+        Err(exit) => exit,
     };
-    for word in args.skip(1) {
+    end(&rt, exit)
+}
+
+/// The words behind the program's name, or how the program ends where they cannot be had.
+fn words_of_the_line(rt: &HostRuntime) -> Result<Vec<String>, Exit> {
+    let mut words = Vec::new(rt.alloc());
+    for word in env::args(rt)
+        .map_err(|fault| without_words(fault.kind()))?
+        .skip(1)
+    {
         if words.push(word).is_err() {
-            return ExitCode::from(Exit::NoMemory.status());
+            return Err(Exit::NoMemory);
         }
     }
+    Ok(words)
+}
+
+/// A word that is not UTF-8 is of no form.
+fn without_words(fault: ErrorKind) -> Exit {
+    match fault {
+        ErrorKind::OutOfMemory => Exit::NoMemory,
+        _ => Exit::Usage,
+    }
+}
+
+fn run_over_streams(rt: &HostRuntime, words: &[String]) -> Exit {
     let Ok(handle) = rt.clone() else {
-        return ExitCode::from(Exit::NoMemory.status());
+        return Exit::NoMemory;
     };
-    let mut link = StdLink::new(rt.stdin(), rt.stdout());
     let mut clock = SystemClock { rt: handle };
-    let exit = run(rt.alloc(), words.as_slice(), &mut link, &mut clock);
-    end(&rt, exit)
+    let mut link = StdLink::new(rt.stdin(), rt.stdout());
+    run(rt.alloc(), words, &mut link, &mut clock)
 }
 
 /// The status of the process, behind the usage line where the words are of no form.

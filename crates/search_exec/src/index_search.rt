@@ -49,16 +49,50 @@ pub fn search_index<T: Lists, L: Ledger>(
     ensures last { store.new.last ≡ store.old.last }
     ensures counts { steps.old ≤ steps.new }
 {
+    let mut page = Page::new(alloc, no_content);
+    let noted = note_all(&mut page, alloc, lists, table, store, &mut iter, steps);
+    drop(iter);
+    noted?;
+    page.into_reply()
+}
+
+// Notes the documents of an iterator's ids on a page where nothing is shown yet.
+fn note_all<T: Lists, L: Ledger>(
+    page: &mut Page,
+    alloc: Global,
+    lists: &T,
+    table: &DocTable,
+    store: &mut HashStore,
+    iter: &mut Iter,
+    steps: &mut Steps<L>,
+) -> Result<(), NoMemory>
+    requires none { Shows [] page.old }
+    requires lists { AreLists (T.held lists.now) }
+    requires ready { Ready (T.held lists.now) iter.old 1 }
+    requires known { AreKnown (in_set (T.held lists.now) iter.old) table.now.live store.old.space }
+    ensures shown { OnOk result (Shows (docs_in (in_set (T.held lists.now) iter.old) store.old.space) page.new) }
+    ensures few { OnOk result (page.new.total < 2 ^ 63) }
+    ensures kind { page.new.no_content ≡ page.old.no_content }
+
+    ensures reads { OnOk result (store.new.reads ≡ reads_after store.old.reads (reads_for page.old.no_content
+        (length (docs_in (in_set (T.held lists.now) iter.old) store.old.space)))) }
+    ensures rises { store.old.reads ≤ store.new.reads }
+    ensures unread { IsTrue page.old.no_content → store.new ≡ store.old }
+
+    ensures space { store.new.space ≡ store.old.space }
+    ensures ready { store.new.ready ≡ store.old.ready }
+    ensures last { store.new.last ≡ store.old.last }
+    ensures counts { steps.old ≤ steps.new }
+{
     // These tell that the ids rise, so that each is that of one document, and that the count of reads has 64 bits.
     let _count = store.len();
     let _reads = store.reads();
-    let mut page = Page::new(alloc, no_content);
     let mut from = 1;
     'asking: while let Some(id) = iter.seek(lists, from, steps)? {
-        note_id(&mut page, alloc, table, store, id)?;
+        note_id(page, alloc, table, store, id)?;
         from = id + 1;
     }
-    page.into_reply()
+    Ok(())
 }
 
 // Notes the document of an id. Past the window it is counted, and neither its key nor the document is asked for.

@@ -9,8 +9,6 @@
 mod index_search;
 mod page;
 mod search;
-#[cfg(test)]
-mod tests;
 
 /// What an iterator of ids finds among the documents of a store.
 pub use index_search::search_index;

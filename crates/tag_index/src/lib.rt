@@ -5,8 +5,6 @@
 #![tactic(auto)]
 
 mod tags;
-#[cfg(test)]
-mod tests;
 
 /// Posting lists by field and tag.
 pub use tags::TagLists;

@@ -5,8 +5,6 @@
 //! Read `specs/Values.antt` first, which says what the tags are, then `values.rt`.
 #![tactic(auto)]
 
-#[cfg(test)]
-mod tests;
 mod values;
 
 /// The tags of a field's values, as bulks of a reply.

@@ -169,6 +169,27 @@ fn add_entry<P: Payload>(
     if let Some(list) = lists.get_mut(word) {
         return list.append(id, hit);
     }
+    add_word(lists, alloc, word, id, hit, markers)
+}
+
+// A word without a list gets one of one entry.
+fn add_word<P: Payload>(
+    lists: &mut BTreeMap<Vec<u8>, List<P>>,
+    alloc: Global,
+    word: &[u8],
+    id: u64,
+    hit: &P,
+    markers: &mut Markers,
+) -> Result<(), NoMemory>
+    requires { 0 < id }
+    ensures ok { OnOk result (Sets word.now (Some (with_entry (fresh_list markers.old) id hit.now))
+        (lists_of lists.old.entries) (lists_of lists.new.entries)) }
+    ensures err { OnErr result (lists.new.entries ≡ lists.old.entries) }
+    ensures taken { OnOk result (markers.new.next ≡ markers.old.next + 1) }
+    ensures event { markers.new.event ≡ markers.old.event }
+    ensures rises { markers.old.next ≤ markers.new.next }
+    ensures once { markers.new.next ≤ markers.old.next + 1 }
+{
     let name = Vec::from_slice(alloc, word)?;
     let list = first_list(alloc, id, hit, markers)?;
     lists.insert(name, list)?;

@@ -4,8 +4,6 @@
 #![tactic(auto)]
 
 mod dictionary;
-#[cfg(test)]
-mod tests;
 
 /// Posting lists by word, of any kind of hit.
 pub use dictionary::Dictionary;

@@ -6,8 +6,6 @@
 //! Read first `specs/Tokens.antt`, then `token.rt`.
 #![tactic(auto)]
 
-#[cfg(test)]
-mod tests;
 mod token;
 mod units;
 

@@ -21,20 +21,34 @@ pub fn tokens(alloc: Global, text: &[u8], stops: &StopWords) -> Result<ListOf<To
     ensures { IfOk result (λ found. found ≡ tokens text.now stops.now.words) }
 {
     let mut found = Vec::new(alloc);
+    cut(alloc, text, stops, &mut found)?;
+    Ok(ListOf::from_vec(found))
+}
+
+/// Adds the tokens of a text to none.
+fn cut(
+    alloc: Global,
+    text: &[u8],
+    stops: &StopWords,
+    found: &mut Vec<Token>,
+) -> Result<(), NoMemory>
+    requires limit { length text.now ≤ MAX_WORD_BYTES }
+    requires none { found.old.items ≡ [] }
+    ensures { OnOk result (found.new.items ≡ tokens text.now stops.now.words) }
+{
     let mut run = Vec::new(alloc);
     let mut rest = text;
     'cutting: while let Some((unit, after)) = next_unit(rest) {
         match unit {
             Some(byte) => run.push(byte.to_ascii_lowercase())?,
             None => {
-                finish(alloc, &mut found, run.as_slice(), stops)?;
+                finish(alloc, found, run.as_slice(), stops)?;
                 run.clear();
             }
         }
         rest = after;
     }
-    finish(alloc, &mut found, run.as_slice(), stops)?;
-    Ok(ListOf::from_vec(found))
+    finish(alloc, found, run.as_slice(), stops)
 }
 
 /// Adds a lowered run that ends here, unless it is empty or a stop word.

@@ -1,4 +1,4 @@
-use Rattle.std.proofs.Common.{◌≤◌, ◌∙◌, length, arith}
+use Rattle.std.proofs.Common.{◌≤◌, ◌∷◌, ◌++◌, [], ap, ◌∙◌, length, arith}
 use Rattle.std.proofs.lemmas.List.{take_all}
 use Rattle.cmd_parse.specs.Search.{params_of}
 use Rattle.cmd_parse.proofs.PairLaws.{params_of-length, params_of-more}
@@ -7,8 +7,8 @@ use Rattle.cmd_parse.proofs.search.params_of.Goals as goal
 pub loop-place-preserved : goal.loop-place-preserved
 loop-place-preserved c =
     c.in_ok-push.ensures.items
-    ∙ params_of-more c.args.words.now c.loop-place.place _ _ _ (omega arith) c.loop-place.invariant
-    (c.in_ok-from_slice.ensures ∙ c.word.ensures) (c.in_ok-from_slice-2.ensures ∙ c.word-in-loop-place.ensures)
+    ∙ (ap (λ param. c.loop-place.copies.items ++ param ∷ []) c.in_ok-param.ensures
+    ∙ params_of-more c.args.words.now c.loop-place.place _ _ _ (omega arith) c.loop-place.invariant c.word-name.ensures c.word-value.ensures)
 
 pub returns : goal.returns
 returns c =

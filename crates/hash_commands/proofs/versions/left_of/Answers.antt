@@ -1,9 +1,11 @@
-use Rattle.std.specs.Prelude.{is_some, length, List, not, ℕ}
-use Rattle.std.proofs.Common.{ap, arith}
-use Rattle.ft_base.specs.Hash.{Hash, get_field}
+use Rattle.std.proofs.Common.{ap, arith, List, ℕ}
+use Rattle.std.specs.Prelude.{length, not}
+use Rattle.std.specs.List.{list_any}
+use Rattle.std.specs.Str.{bytes_eq}
+use Rattle.ft_base.specs.Hash.{Hash}
 use Rattle.hash_commands.proofs.VersionsLaws.{filter-fewer}
 use Rattle.hash_commands.proofs.versions.left_of.Goals as goal
 
-pub returns-in-Some-clause-fewer : goal.returns-in-Some-clause-fewer
-returns-in-Some-clause-fewer c =
-    omega (arith, ap (λ (hash : Hash). length hash) c.in_ok-without-in-Some.ensures, c.len.ensures.len, filter-fewer (λ (field : List ℕ × List ℕ). not (is_some (get_field c.in_ok-gone.gone field.0))) c.in-Some.doc.now.hash)
+pub returns-in_ok-without_fields-in-Some-clause-fewer : goal.returns-in_ok-without_fields-in-Some-clause-fewer
+returns-in_ok-without_fields-in-Some-clause-fewer c =
+    omega (arith, ap (λ (hash : Hash). length hash) c.in_ok-without_fields-in-Some.ensures, c.len.ensures.len, filter-fewer (λ (field : List ℕ × List ℕ). not (list_any (bytes_eq field.0) c.args.fields.now)) c.in-Some.doc.now.hash)

@@ -1,4 +1,4 @@
-use Rattle.std.proofs.Common.{◌∙◌, ap, sym, subst, List}
+use Rattle.std.proofs.Common.{◌∙◌, ap, refl, sym, subst, List}
 use Rattle.std.specs.Prelude.{IsTrue}
 use Rattle.ft_base.specs.Reply.{fits_wire}
 use Rattle.ft_base.specs.declared.reply.Reply.{Reply}
@@ -8,8 +8,8 @@ use Rattle.hash_replies.proofs.listings.in_turn.Goals as goal
 
 pub loop-i-preserved : goal.loop-i-preserved
 loop-i-preserved c =
-    grown-twice _ _ _ _ _ (Bulk c.in_ok-from_slice.field-0) (Bulk c.in_ok-from_slice-2.field-0) _ _ c.in_ok-push.ensures.items c.in_ok-push-2.ensures.items c.loop-i.invariant (ap Bulk c.in_ok-from_slice.ensures)
-    (ap Bulk (c.in_ok-from_slice-2.ensures ∙ c.as_slice.ensures)) (in_turn-next c.args.hash.now c.loop-i.i _ c.at.ensures)
+    grown-twice _ _ _ _ _ (Bulk c.at.result.0.now) (Bulk c.as_slice.result.now) _ _ c.in_ok-push_bulk.ensures c.in_ok-push_bulk-2.ensures c.loop-i.invariant refl
+    (ap Bulk c.as_slice.ensures) (in_turn-next c.args.hash.now c.loop-i.i _ c.at.ensures)
 
 pub returns-clause-fits : goal.returns-clause-fits
 returns-clause-fits c = subst (λ (replies : List Reply). IsTrue (fits_wire (Array replies))) (sym (c.from_vec.ensures ∙ c.loop-i.invariant)) (in_turn-fits _)

@@ -2,15 +2,14 @@ use Rattle.std.proofs.Common.{◌≡◌, ◌∙◌, ap, subst, Some, IfSome, nat
 use Rattle.std.specs.Map.{lookup, remove_entry}
 use Rattle.ft_base.specs.declared.doc.Doc.{Doc}
 use Rattle.hash_store.specs.Keys.{id_at, SetsRow}
-use Rattle.ft_base.proofs.RowsLaws.{insert_entry-last, remove_entry-last, remove_entry-at, lookup-last}
+use Rattle.ft_base.proofs.RowsLaws.{insert_entry-last, remove_entry-last, lookup-last}
 use Rattle.hash_store.proofs.rows.add_rows.Goals as goal
 
 pub returns-in-Err-clause-err_docs : goal.returns-in-Err-clause-err_docs
 returns-in-Err-clause-err_docs c =
-    c.remove.ensures.entries
-    ∙ (remove_entry-at c.args.doc.id c.insert.new.self.entries
+    c.take_off.ensures
     ∙ (ap (remove_entry (nat_eq c.args.doc.id)) (c.in_ok-insert.ensures.entries ∙ insert_entry-last c.args.doc.id c.args.doc c.args.docs.now.entries c.requires.above)
-    ∙ remove_entry-last c.args.doc.id c.args.doc c.args.docs.now.entries c.requires.above))
+    ∙ remove_entry-last c.args.doc.id c.args.doc c.args.docs.now.entries c.requires.above)
 
 pub returns-in-Ok-clause-docs : goal.returns-in-Ok-clause-docs
 returns-in-Ok-clause-docs c = c.in_ok-insert.ensures.entries ∙ insert_entry-last c.args.doc.id c.args.doc c.args.docs.now.entries c.requires.above

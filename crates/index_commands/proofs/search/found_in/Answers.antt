@@ -11,12 +11,12 @@ use Rattle.search_exec.proofs.FoundLaws.{docs-found, members-known}
 use Rattle.index_commands.proofs.SearchLaws.{index-kept}
 use Rattle.index_commands.proofs.search.found_in.Goals as goal
 
-pub search_index-requires-clause-lists : goal.search_index-requires-clause-lists
-search_index-requires-clause-lists g c =
+pub search_index-found-requires-clause-lists : goal.search_index-found-requires-clause-lists
+search_index-found-requires-clause-lists g c =
     c.in_ok-iter.ensures.lists c.args.store.now.space c.requires.stands (index-kept c.args.index.now c.args.store.now.space c.requires.sound c.requires.few c.requires.values)
 
-pub search_index-requires-clause-known : goal.search_index-requires-clause-known
-search_index-requires-clause-known g c =
+pub search_index-found-requires-clause-known : goal.search_index-found-requires-clause-known
+search_index-found-requires-clause-known g c =
     let index = c.args.index.now in
     let space = c.args.store.now.space in
     let held = held_of index.lists index.table.live in
@@ -30,7 +30,7 @@ returns-clause-reply g c =
     let has : ℕ → Bool = in_set (held_of index.lists index.table.live) c.in_ok-iter.iter in
     let finds = c.in_ok-iter.ensures.set space c.requires.stands (index-kept index space c.requires.sound c.requires.few c.requires.values) in
     let found : docs_in has space ≡ found_of c.args.query.now index.def space = docs-found c.args.query.now index.def has space c.len-count.ensures.rises finds in
-    subst (λ (docs : List Doc). IfOk c.search_index.result (λ reply. reply ≡ found_reply c.args.no_content docs)) found c.search_index.ensures.reply
+    subst (λ (docs : List Doc). IfOk c.search_index-found.result (λ reply. reply ≡ found_reply c.args.no_content docs)) found c.search_index-found.ensures.reply
 
 pub returns-clause-reads : goal.returns-clause-reads
 returns-clause-reads g c =
@@ -39,4 +39,4 @@ returns-clause-reads g c =
     let has : ℕ → Bool = in_set (held_of index.lists index.table.live) c.in_ok-iter.iter in
     let finds = c.in_ok-iter.ensures.set space c.requires.stands (index-kept index space c.requires.sound c.requires.few c.requires.values) in
     let found : docs_in has space ≡ found_of c.args.query.now index.def space = docs-found c.args.query.now index.def has space c.len-count.ensures.rises finds in
-    subst (λ (docs : List Doc). OnOk c.search_index.result (c.search_index.new.store.reads ≡ reads_after c.args.store.now.reads (reads_for c.args.no_content (length docs)))) found c.search_index.ensures.reads
+    subst (λ (docs : List Doc). OnOk c.search_index-found.result (c.search_index-found.new.store.reads ≡ reads_after c.args.store.now.reads (reads_for c.args.no_content (length docs)))) found c.search_index-found.ensures.reads

@@ -6,14 +6,8 @@ use Rattle.index_info.proofs.attributes.attribute.Goals as goal
 pub returns-clause-reply : goal.returns-clause-reply
 returns-clause-reply c =
     ap Array (c.from_vec.ensures ∙ simp (
-      c.in_ok-push_word_if-3.ensures,
-      c.in_ok-push_word_if-2.ensures,
-      c.in_ok-push_word_if.ensures,
+      c.in_ok-push_options.ensures,
       c.in_ok-push_kind.ensures,
       c.in_ok-push_word.ensures,
-      c.in_ok-push_pair-2.ensures,
-      c.in_ok-push_pair.ensures,
-      c.new-words.ensures.items,
-      c.in_ok-alias.ensures.cases,
-      c.in_ok-name.ensures.cases,
+      c.in_ok-words.ensures,
     ) refl)

@@ -7,11 +7,11 @@ use Rattle.indexed_store.proofs.dropping.remove_live.Given as goal
 -- what is left to remove are the rows that are still live
 abbrev pub invariant-removing : goal.invariant-removing
 invariant-removing l = record {
-  left : without_keys l.store.space (map (λ row. row.1) l.rest.table.live) ≡ without_keys l.fn.store.space (map (λ row. row.1) l.fn.dropped.table.live);
+  left : without_keys l.store.space (map (λ row. row.1) l.dropped.table.live) ≡ without_keys l.fn.store.space (map (λ row. row.1) l.fn.dropped.table.live);
   rest : l.store ≡ record l.fn.store { space = l.store.space };
   kept : (next : ℕ) → InStep l.fn.store l.fn.indexes next → InStep l.store l.indexes next;
   definitions : definitions_of l.indexes ≡ definitions_of l.fn.indexes;
 }
 
 abbrev pub decreases-removing : goal.decreases-removing
-decreases-removing l = length l.rest.table.live
+decreases-removing l = length l.dropped.table.live

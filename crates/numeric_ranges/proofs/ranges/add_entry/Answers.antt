@@ -113,8 +113,8 @@ returns-in_ok-append-in-Some-clause-parts c =
     (subst (λ (r : Row). Knows c.in-Some.spread (r.list.entries ++ (id, hit) ∷ [])) same knows) in
     well.parts
 
-pub returns-in_ok-insert-in-None-clause-ok : goal.returns-in_ok-insert-in-None-clause-ok
-returns-in_ok-insert-in-None-clause-ok c =
+pub returns-in_ok-put_halves-in-None-clause-ok : goal.returns-in_ok-put_halves-in-None-clause-ok
+returns-in_ok-put_halves-in-None-clause-ok c =
     let items = c.args.rows.now.items in
     let id = c.args.id in
     let hit = c.args.hit.now in
@@ -125,18 +125,18 @@ returns-in_ok-insert-in-None-clause-ok c =
     let row = c.index-in-None.result.now in
     let same = row_same items at c.index.result.now row less c.index.ensures c.index-in-None.ensures in
     let parted = subst (λ (o : Option Spread). IfNone o (splits (c.index.result.now.list.entries ++ (id, hit) ∷ []) ≡ true)) c.in-None.is c.in_ok-spread.ensures.splits in
-    let left = c.in_ok-left-in-None.left in
-    let right = c.in_ok-left-in-None.right in
+    let left = c.in_ok-halves-in-None.halves.0 in
+    let right = c.in_ok-halves-in-None.halves.1 in
     let split = add_split items at id hit c.args.markers.now row left right c.requires.held where_at.0 less c.index-in-None.ensures
     (subst (λ (r : Row). splits (r.list.entries ++ (id, hit) ∷ []) ≡ true) same parted)
-    (above_at items at row id c.requires.above less c.index-in-None.ensures) c.in_ok-left-in-None.ensures.ok in
+    (above_at items at row id c.requires.above less c.index-in-None.ensures) c.in_ok-halves-in-None.ensures.ok in
     let one : at + 1 ≡ suc at = omega arith in
-    let new : c.insert.new.self.items ≡ insert items (suc at) right = c.in_ok-insert-in-None.ensures.items ∙ ap (λ (n : ℕ). insert items n right) one in
-    let well = subst (λ (xs : List Row). AddsWell items (set xs at left) id hit c.args.markers.now) (sym new) split in
+    let new : c.put_halves.new.rows.items ≡ set (insert items (suc at) right) at left = c.in_ok-put_halves-in-None.ensures.ok ∙ ap (λ (n : ℕ). set (insert items n right) at left) one in
+    let well = subst (λ (xs : List Row). AddsWell items xs id hit c.args.markers.now) (sym new) split in
     well.ok
 
-pub returns-in_ok-insert-in-None-clause-held : goal.returns-in_ok-insert-in-None-clause-held
-returns-in_ok-insert-in-None-clause-held c =
+pub returns-in_ok-put_halves-in-None-clause-held : goal.returns-in_ok-put_halves-in-None-clause-held
+returns-in_ok-put_halves-in-None-clause-held c =
     let items = c.args.rows.now.items in
     let id = c.args.id in
     let hit = c.args.hit.now in
@@ -147,18 +147,18 @@ returns-in_ok-insert-in-None-clause-held c =
     let row = c.index-in-None.result.now in
     let same = row_same items at c.index.result.now row less c.index.ensures c.index-in-None.ensures in
     let parted = subst (λ (o : Option Spread). IfNone o (splits (c.index.result.now.list.entries ++ (id, hit) ∷ []) ≡ true)) c.in-None.is c.in_ok-spread.ensures.splits in
-    let left = c.in_ok-left-in-None.left in
-    let right = c.in_ok-left-in-None.right in
+    let left = c.in_ok-halves-in-None.halves.0 in
+    let right = c.in_ok-halves-in-None.halves.1 in
     let split = add_split items at id hit c.args.markers.now row left right c.requires.held where_at.0 less c.index-in-None.ensures
     (subst (λ (r : Row). splits (r.list.entries ++ (id, hit) ∷ []) ≡ true) same parted)
-    (above_at items at row id c.requires.above less c.index-in-None.ensures) c.in_ok-left-in-None.ensures.ok in
+    (above_at items at row id c.requires.above less c.index-in-None.ensures) c.in_ok-halves-in-None.ensures.ok in
     let one : at + 1 ≡ suc at = omega arith in
-    let new : c.insert.new.self.items ≡ insert items (suc at) right = c.in_ok-insert-in-None.ensures.items ∙ ap (λ (n : ℕ). insert items n right) one in
-    let well = subst (λ (xs : List Row). AddsWell items (set xs at left) id hit c.args.markers.now) (sym new) split in
+    let new : c.put_halves.new.rows.items ≡ set (insert items (suc at) right) at left = c.in_ok-put_halves-in-None.ensures.ok ∙ ap (λ (n : ℕ). set (insert items n right) at left) one in
+    let well = subst (λ (xs : List Row). AddsWell items xs id hit c.args.markers.now) (sym new) split in
     well.held
 
-pub returns-in_ok-insert-in-None-clause-parts : goal.returns-in_ok-insert-in-None-clause-parts
-returns-in_ok-insert-in-None-clause-parts c =
+pub returns-in_ok-put_halves-in-None-clause-parts : goal.returns-in_ok-put_halves-in-None-clause-parts
+returns-in_ok-put_halves-in-None-clause-parts c =
     let items = c.args.rows.now.items in
     let id = c.args.id in
     let hit = c.args.hit.now in
@@ -169,12 +169,12 @@ returns-in_ok-insert-in-None-clause-parts c =
     let row = c.index-in-None.result.now in
     let same = row_same items at c.index.result.now row less c.index.ensures c.index-in-None.ensures in
     let parted = subst (λ (o : Option Spread). IfNone o (splits (c.index.result.now.list.entries ++ (id, hit) ∷ []) ≡ true)) c.in-None.is c.in_ok-spread.ensures.splits in
-    let left = c.in_ok-left-in-None.left in
-    let right = c.in_ok-left-in-None.right in
+    let left = c.in_ok-halves-in-None.halves.0 in
+    let right = c.in_ok-halves-in-None.halves.1 in
     let split = add_split items at id hit c.args.markers.now row left right c.requires.held where_at.0 less c.index-in-None.ensures
     (subst (λ (r : Row). splits (r.list.entries ++ (id, hit) ∷ []) ≡ true) same parted)
-    (above_at items at row id c.requires.above less c.index-in-None.ensures) c.in_ok-left-in-None.ensures.ok in
+    (above_at items at row id c.requires.above less c.index-in-None.ensures) c.in_ok-halves-in-None.ensures.ok in
     let one : at + 1 ≡ suc at = omega arith in
-    let new : c.insert.new.self.items ≡ insert items (suc at) right = c.in_ok-insert-in-None.ensures.items ∙ ap (λ (n : ℕ). insert items n right) one in
-    let well = subst (λ (xs : List Row). AddsWell items (set xs at left) id hit c.args.markers.now) (sym new) split in
+    let new : c.put_halves.new.rows.items ≡ set (insert items (suc at) right) at left = c.in_ok-put_halves-in-None.ensures.ok ∙ ap (λ (n : ℕ). set (insert items n right) at left) one in
+    let well = subst (λ (xs : List Row). AddsWell items xs id hit c.args.markers.now) (sym new) split in
     well.parts

@@ -89,7 +89,7 @@ pub union-joining-init : goal.union-joining-init
 union-joining-init t c =
     let def = c.args.parser.now.def.now in
     let params = c.args.parser.now.params in
-    let items : c.add.new.parts.items ≡ all_of c.in-Ok.read.0.items = c.in_ok-add.ensures ∙ (ap (λ front. front ++ option_to_list c.all_of.result) c.new-sides.ensures.items ∙ c.all_of.ensures) in
+    let items : c.add_side.new.sides.items ≡ all_of c.in-Ok.read.0.items = c.in_ok-add_side.ensures ∙ ap (λ front. front ++ all_of c.in-Ok.read.0.items) c.new-sides.ensures.items in
     record {
       reads = rw items (begins bar_at (inter_at def params (deeper def params c.args.levels) c.args.fields.now) all_of c.args.lexemes.now c.in-Ok.read.1.now c.in-Ok.read.0.items c.in-Ok.ensures.read);
       shorter = c.in-Ok.ensures.shorter;

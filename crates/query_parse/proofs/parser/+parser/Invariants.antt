@@ -18,6 +18,12 @@ decreases-atom l = l.levels * 8 + 1
 abbrev pub decreases-part : goal.decreases-part
 decreases-part l = l.levels * 8 + 2
 
+abbrev pub decreases-denied_part : goal.decreases-denied_part
+decreases-denied_part l = l.levels * 8
+
+abbrev pub decreases-optional_part : goal.decreases-optional_part
+decreases-optional_part l = l.levels * 8
+
 abbrev pub decreases-target : goal.decreases-target
 decreases-target l = l.levels * 8 + 4
 

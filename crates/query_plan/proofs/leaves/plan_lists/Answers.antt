@@ -1,19 +1,10 @@
-use Rattle.std.proofs.Common.{◌≡◌, List, sym, ap, ◌∙◌}
-use Rattle.std.proofs.lemmas.Iterator.Adapters.{YieldsList-from_vec}
-use Rattle.std.proofs.lemmas.Iterator.Consumers.{YieldsList-end}
 use Rattle.id_iters.specs.Leaves.{list_has}
 use Rattle.id_iters.specs.declared.list_name.ListName.{ListName}
-use Rattle.query_plan.specs.Plans.{some_has}
-use Rattle.query_plan.proofs.UnionLaws.{lists_set, map_same}
+use Rattle.query_plan.proofs.UnionLaws.{lists_set}
 use Rattle.query_plan.proofs.leaves.plan_lists.Goals as goal
 
 pub returns-clause-set : goal.returns-clause-set
 returns-clause-set g c =
-    let gives = c.into_iter-list-iterator.ensures.into_iter_gives in
-    let ended = YieldsList-end (YieldsList-from_vec {s = c.into_iter-list-iterator.result} c.args.lists.items gives.0 (gives.1 ∙ c.args.lists.ok.0))
-    c.lists.yielded c.lists.list-iterator c.lists.yielded_by c.next.result c.next.new.self c.in-None.is c.next.ensures.steps in
-    let all : c.lists.yielded ≡ c.args.lists.items = sym (map_same c.lists.yielded) ∙ ended.0 in
     let held = g.T.Lists.held c.args.sources.now.lists.now in
     lists_set held (λ (name : ListName). list_has held name c.args.wanted.now.fields.now c.args.wanted.now.low c.args.wanted.now.high)
-    c.lists.yielded c.lists.plans.items c.in_ok-some_of.field-0 c.in_ok-some_of.ensures c.lists.invariant.set
-    ∙ ap (λ (names : List ListName). some_has held names c.args.wanted.now.fields.now c.args.wanted.now.low c.args.wanted.now.high) all
+    c.args.lists.items c.in_ok-plans.plans.items c.in_ok-some_of.field-0 c.in_ok-some_of.ensures c.in_ok-plans.ensures.set

@@ -1,4 +1,4 @@
-use Rattle.std.proofs.Common.{refl, sym, length, ◌≢◌, arith}
+use Rattle.std.proofs.Common.{sym, length, ◌≢◌, arith}
 use Rattle.std.proofs.lemmas.Bool.{eqb-true, eqb-false}
 use Rattle.query_plan.proofs.PlanLaws.{no_words_tell, phrase_tells}
 use Rattle.query_plan.proofs.phrases.plan_phrase.Goals as goal
@@ -13,13 +13,6 @@ pub returns-clause-set : goal.returns-clause-set
 returns-clause-set g c =
     let held = g.T.Lists.held c.args.sources.now.lists.now in
     let some : length c.args.phrase.now.words.now ≢ 0 = eqb-false (length c.args.phrase.now.words.now) 0 (sym c.if-is_empty.ensures) in
-    phrase_tells c.args.sources.now.def.now c.args.sources.now.parts.now held
-    (record {
-      alloc = c.args.sources.now.alloc;
-      words = c.in_ok-words.words;
-      fields = c.in_ok-fields.fields;
-      slop = c.args.phrase.now.slop;
-      in_order = c.args.phrase.now.in_order;
-    })
+    phrase_tells c.args.sources.now.def.now c.args.sources.now.parts.now held c.in_ok-iter.iter
     c.args.phrase.now.fields.now c.args.phrase.now.words.now c.args.phrase.now.slop
-    c.args.phrase.now.in_order _ (omega (arith, some)) (c.of_phrase.ensures.set held) c.in_ok-words.ensures.names c.in_ok-fields.ensures refl refl
+    c.args.phrase.now.in_order _ (omega (arith, some)) (c.of_phrase.ensures.set held) c.in_ok-iter.ensures.words c.in_ok-iter.ensures.fields c.in_ok-iter.ensures.slop c.in_ok-iter.ensures.in_order

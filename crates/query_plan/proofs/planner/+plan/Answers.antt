@@ -1,8 +1,8 @@
-use Rattle.std.proofs.Common.{List, sym, ap, ◌∙◌}
+use Rattle.std.proofs.Common.{List, refl, sym, ap, ◌∙◌}
 use Rattle.ft_base.specs.declared.query.Query.{Query}
 use Rattle.ft_base.specs.declared.query.Query.TheVariants as query
 use Rattle.query_plan.specs.Plans.{ids_of}
-use Rattle.query_plan.proofs.PlanLaws.{all_tell, every_tells, none_tells, optional_tells, other_tells, some_tells}
+use Rattle.query_plan.proofs.PlanLaws.{all_tell, every_tells, none_tells, optional_tells, other_tells, some_tells, tells_same}
 use Rattle.query_plan.proofs.planner.+plan.Goals as goal
 
 pub plan-returns-in-Empty-clause-set : goal.plan-returns-in-Empty-clause-set
@@ -15,28 +15,38 @@ plan-returns-in-All-clause-set g t c =
     let held = g.T.Lists.held c.args.sources.now.lists.now in
     all_tell c.args.sources.now.def.now c.args.sources.now.parts.now held c.args.query.now _ c.in-All.is (c.all.ensures.set held)
 
-pub plan-returns-in_ok-every_of-in-And-clause-set : goal.plan-returns-in_ok-every_of-in-And-clause-set
-plan-returns-in_ok-every_of-in-And-clause-set g t c =
-    let held = g.T.Lists.held c.args.sources.now.lists.now in
-    every_tells c.args.sources.now.def.now c.args.sources.now.parts.now held c.as_slice-in-And.result.now c.args.query.now c.in_ok-plans-in-And.plans.items
-    (ids_of held c.in_ok-every_of-in-And.field-0)
-    (c.in-And.is ∙ ap (λ (parts : List Query). query.And parts) (sym c.as_slice-in-And.ensures)) c.in_ok-plans-in-And.ensures.set
-    (c.in_ok-every_of-in-And.ensures.set held)
+pub plan-returns-in-And-clause-set : goal.plan-returns-in-And-clause-set
+plan-returns-in-And-clause-set g t c =
+    tells_same c.args.sources.now.def.now c.args.sources.now.parts.now (g.T.Lists.held c.args.sources.now.lists.now) c.args.query.now _ c.plan_every.result
+    (c.in-And.is ∙ ap (λ (parts : List Query). query.And parts) (sym c.as_slice-in-And.ensures)) c.plan_every.ensures.set
 
-pub plan-returns-in_ok-some_of-in-Or-clause-set : goal.plan-returns-in_ok-some_of-in-Or-clause-set
-plan-returns-in_ok-some_of-in-Or-clause-set g t c =
-    let held = g.T.Lists.held c.args.sources.now.lists.now in
-    some_tells c.args.sources.now.def.now c.args.sources.now.parts.now held c.as_slice-in-Or.result.now c.args.query.now c.in_ok-plans-in-Or.plans.items
-    c.in_ok-some_of-in-Or.field-0
-    (c.in-Or.is ∙ ap (λ (parts : List Query). query.Or parts) (sym c.as_slice-in-Or.ensures)) c.in_ok-plans-in-Or.ensures.set c.in_ok-some_of-in-Or.ensures
+pub plan-returns-in-Or-clause-set : goal.plan-returns-in-Or-clause-set
+plan-returns-in-Or-clause-set g t c =
+    tells_same c.args.sources.now.def.now c.args.sources.now.parts.now (g.T.Lists.held c.args.sources.now.lists.now) c.args.query.now _ c.plan_some.result
+    (c.in-Or.is ∙ ap (λ (parts : List Query). query.Or parts) (sym c.as_slice-in-Or.ensures)) c.plan_some.ensures.set
 
-pub plan-returns-in_ok-other_of-in-Not-clause-set : goal.plan-returns-in_ok-other_of-in-Not-clause-set
-plan-returns-in_ok-other_of-in-Not-clause-set g t c =
+pub plan-returns-in-Not-clause-set : goal.plan-returns-in-Not-clause-set
+plan-returns-in-Not-clause-set g t c =
+    tells_same c.args.sources.now.def.now c.args.sources.now.parts.now (g.T.Lists.held c.args.sources.now.lists.now) c.args.query.now _ c.plan_other.result
+    (c.in-Not.is ∙ ap (λ (part : Query). query.Not part) (sym c.get.ensures)) c.plan_other.ensures.set
+
+pub plan_every-returns-clause-set : goal.plan_every-returns-clause-set
+plan_every-returns-clause-set g t c =
     let held = g.T.Lists.held c.args.sources.now.lists.now in
-    other_tells c.args.sources.now.def.now c.args.sources.now.parts.now held c.get.result.now c.args.query.now
-    (ids_of held c.in_ok-planned-in-Not.planned) (ids_of held c.in_ok-other_of-in-Not.field-0)
-    (c.in-Not.is ∙ ap (λ (part : Query). query.Not part) (sym c.get.ensures)) c.in_ok-planned-in-Not.ensures.set
-    (c.in_ok-other_of-in-Not.ensures.set held)
+    every_tells c.args.sources.now.def.now c.args.sources.now.parts.now held c.args.queries.now _ c.in_ok-plans.plans.items
+    (ids_of held c.in_ok-every_of.field-0) refl c.in_ok-plans.ensures.set (c.in_ok-every_of.ensures.set held)
+
+pub plan_some-returns-clause-set : goal.plan_some-returns-clause-set
+plan_some-returns-clause-set g t c =
+    let held = g.T.Lists.held c.args.sources.now.lists.now in
+    some_tells c.args.sources.now.def.now c.args.sources.now.parts.now held c.args.queries.now _ c.in_ok-plans.plans.items c.in_ok-some_of.field-0
+    refl c.in_ok-plans.ensures.set c.in_ok-some_of.ensures
+
+pub plan_other-returns-clause-set : goal.plan_other-returns-clause-set
+plan_other-returns-clause-set g t c =
+    let held = g.T.Lists.held c.args.sources.now.lists.now in
+    other_tells c.args.sources.now.def.now c.args.sources.now.parts.now held c.args.query.now _
+    (ids_of held c.in_ok-planned.planned) (ids_of held c.in_ok-other_of.field-0) refl c.in_ok-planned.ensures.set (c.in_ok-other_of.ensures.set held)
 
 pub plan-returns-in-Optional-clause-set : goal.plan-returns-in-Optional-clause-set
 plan-returns-in-Optional-clause-set g t c =

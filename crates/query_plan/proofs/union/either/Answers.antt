@@ -1,9 +1,7 @@
-use Rattle.std.proofs.Common.{◌++◌, [], ◌∷◌, ap, ◌∙◌}
 use Rattle.query_plan.proofs.UnionLaws.{joins_two}
 use Rattle.query_plan.proofs.union.either.Goals as goal
 
 pub returns : goal.returns
 returns c =
-    joins_two c.args.one c.args.other _ c.new.result c.new-2.result _
-    (c.in_ok-push-2.ensures.ok ∙ ap (λ xs. xs ++ c.new-2.result ∷ []) (c.in_ok-push.ensures.ok ∙ ap (λ xs. xs ++ c.new.result ∷ []) c.new-parts.ensures))
+    joins_two c.args.one c.args.other _ c.new.result c.new-2.result _ c.in_ok-parts.ensures
     c.new.ensures.set c.new-2.ensures.set c.of_some.ensures.set c.new.ensures.ready c.new-2.ensures.ready c.of_some.ensures.ready

@@ -1,62 +1,18 @@
-use Rattle.std.proofs.Common.{◌≡◌, ◌+◌, ℕ, rules, List, sym, ◌∙◌, subst, arith}
-use Rattle.std.specs.Prelude.{Option, Some, IfSome}
-use Rattle.ft_base.specs.declared.doc.Doc.{Doc}
+use Rattle.std.proofs.Common.{◌∙◌}
 use Rattle.hash_replies.proofs.ReadsLaws.{made-fits}
-use Rattle.id_iters.specs.Ready.{Ready}
 use Rattle.id_iters.specs.Sets.{in_set}
-use Rattle.search_exec.proofs.AskLaws.{asked-ended, asked-next, least-next, live-first, reads-told}
 use Rattle.search_exec.proofs.RepliesLaws.{found-fits}
 use Rattle.search_exec.proofs.WalkLaws.{made-found}
-use Rattle.search_exec.specs.Ids.{doc_at, docs_in}
+use Rattle.search_exec.specs.Ids.{docs_in}
 use Rattle.search_exec.proofs.index_search.search_index.Goals as goal
-
-pub asking-preserved : goal.asking-preserved
-asking-preserved g c =
-    let held = g.T.Lists.held c.args.lists.now in
-    let has = in_set held c.args.iter in
-    let docs = c.args.store.now.space in
-    let id = c.in-Some.id in
-    let least = least-next held c.args.iter c.asking.iter c.asking.from id c.in_ok-id.field-0 c.asking.invariant.same c.in-Some.is c.in_ok-id.ensures.least in
-    let below = c.requires.lists.below id (live-first held c.args.iter id least.passes) in
-    let next = c.in_ok-note_id.ensures in
-    let noted = λ (shown : List Doc) (doc : Doc) (found : doc_at id docs ≡ Some doc). next.shown shown doc (subst (λ (docs : List Doc). doc_at id docs ≡ Some doc) (sym c.asking.invariant.space) found) in
-    record {
-      asked = asked-next has docs c.asking.from id c.asking.page c.note_id.new.page c.asking.invariant.rise least (c.requires.known.stored id least.passes) noted c.asking.invariant.asked;
-      same = c.in_ok-id.ensures.same ∙ c.asking.invariant.same;
-      may_ask = subst (λ (answer : Option ℕ). IfSome answer (λ id. Ready held c.seek.new.self (id + 1))) c.in-Some.is c.in_ok-id.ensures.ready;
-      kind = next.kind ∙ c.asking.invariant.kind;
-      few = omega (arith, next.total, least.reached);
-      most = omega (arith, below);
-      rise = c.asking.invariant.rise;
-      bits = c.asking.invariant.bits;
-      reads = next.reads c.args.store.now.reads c.asking.invariant.reads;
-      unread = λ alone. next.unread (c.asking.invariant.kind ∙ alone) ∙ c.asking.invariant.unread alone;
-      space = next.space ∙ c.asking.invariant.space;
-      ready = next.ready ∙ c.asking.invariant.ready;
-      last = next.last ∙ c.asking.invariant.last;
-      counts = omega (arith, c.in_ok-id.ensures.counts);
-    }
 
 pub returns-clause-reply : goal.returns-clause-reply
 returns-clause-reply g c =
-    let held = g.T.Lists.held c.args.lists.now in
-    let docs = c.args.store.now.space in
-    let shows = asked-ended held c.args.iter c.asking.iter docs c.asking.from c.in_ok-id.field-0 c.asking.page c.asking.invariant.same c.in_default.is c.in_ok-id.ensures.least c.asking.invariant.asked in
-    made-found c.into_reply.result c.asking.page c.args.no_content (docs_in (in_set held c.args.iter) docs) c.into_reply.ensures.reply shows c.asking.invariant.kind
+    let docs = docs_in (in_set (g.T.Lists.held c.args.lists.now) c.args.iter) c.args.store.now.space in
+    made-found c.into_reply.result c.note_all-noted.new.page c.args.no_content docs c.into_reply.ensures.reply c.in_ok-noted.ensures.shown (c.note_all-noted.ensures.kind ∙ c.new-page.ensures.kind)
 
 pub returns-clause-fits : goal.returns-clause-fits
 returns-clause-fits g c =
-    let held = g.T.Lists.held c.args.lists.now in
-    let docs = c.args.store.now.space in
-    let found = docs_in (in_set held c.args.iter) docs in
-    let shows = asked-ended held c.args.iter c.asking.iter docs c.asking.from c.in_ok-id.field-0 c.asking.page c.asking.invariant.same c.in_default.is c.in_ok-id.ensures.least c.asking.invariant.asked in
-    made-fits c.into_reply.result _ (found-fits c.args.no_content found)
-    (made-found c.into_reply.result c.asking.page c.args.no_content found c.into_reply.ensures.reply shows c.asking.invariant.kind)
-
-pub returns-clause-reads : goal.returns-clause-reads
-returns-clause-reads g c =
-    let held = g.T.Lists.held c.args.lists.now in
-    let docs = c.args.store.now.space in
-    let shows = asked-ended held c.args.iter c.asking.iter docs c.asking.from c.in_ok-id.field-0 c.asking.page c.asking.invariant.same c.in_default.is c.in_ok-id.ensures.least c.asking.invariant.asked in
-    let told = reads-told c.args.store.now.reads c.asking.store.reads c.args.no_content (docs_in (in_set held c.args.iter) docs) c.asking.page c.asking.invariant.reads c.asking.invariant.kind shows in
-    search (rules, told)
+    let docs = docs_in (in_set (g.T.Lists.held c.args.lists.now) c.args.iter) c.args.store.now.space in
+    made-fits c.into_reply.result _ (found-fits c.args.no_content docs)
+    (made-found c.into_reply.result c.note_all-noted.new.page c.args.no_content docs c.into_reply.ensures.reply c.in_ok-noted.ensures.shown (c.note_all-noted.ensures.kind ∙ c.new-page.ensures.kind))

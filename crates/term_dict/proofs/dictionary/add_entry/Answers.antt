@@ -36,25 +36,18 @@ pub returns-in-Some-clause-taken : goal.returns-in-Some-clause-taken
 returns-in-Some-clause-taken g c =
     rw (found c.args.word.now c.args.lists.now.entries (Some c.in-Some.list.now) c.in-Some.ensures.value) (on_ok_weaker c.append.result (λ _. omega arith) c.append.ensures.ok)
 
-pub returns-in_err-list-clause-kept : goal.returns-in_err-list-clause-kept
-returns-in_err-list-clause-kept g c = λ some. absurd (false≢true (sym (ap is_some (found c.args.word.now c.args.lists.now.entries None c.in_default.ensures.value)) ∙ some))
-
-pub returns-in_err-insert-clause-kept : goal.returns-in_err-insert-clause-kept
-returns-in_err-insert-clause-kept g c = λ some. absurd (false≢true (sym (ap is_some (found c.args.word.now c.args.lists.now.entries None c.in_default.ensures.value)) ∙ some))
+pub returns-clause-kept : goal.returns-clause-kept
+returns-clause-kept g c = λ some. absurd (false≢true (sym (ap is_some (found c.args.word.now c.args.lists.now.entries None c.in_default.ensures.value)) ∙ some))
 
 pub returns-clause-ok : goal.returns-clause-ok
 returns-clause-ok g c =
     let rows = c.args.lists.now.entries in
     let word = c.args.word.now in
-    let updates = c.in_ok-insert.ensures.updates in
-    let named = sets_rows c.in_ok-name.name.items (Some c.in_ok-list.list) c.get_mut.follows.lender-at-none.entries c.insert.new.self.entries updates.1 updates.3 in
+    let first = with_entry (fresh_list c.args.markers.now) c.args.id c.args.hit.now in
     let before = ap (λ m. m.entries) c.get_mut.follows.holds-at-none in
-    let sets = subst (λ w. Sets w (Some c.in_ok-list.list) (lists_of rows) (lists_of c.insert.new.self.entries)) c.in_ok-name.ensures.items (subst (λ es. Sets c.in_ok-name.name.items (Some c.in_ok-list.list) (lists_of es) (lists_of c.insert.new.self.entries)) before named) in
     let fresh = ap (λ list. with_entry (unwrap_or list (fresh_list c.args.markers.now)) c.args.id c.args.hit.now) (sym (found word rows None c.in_default.ensures.value)) in
-    sets_same word c.in_ok-list.list (with_entry (list_or_fresh (lists_of rows) word c.args.markers.now) c.args.id c.args.hit.now) _ _ (c.in_ok-list.ensures.ok ∙ fresh) sets
-
-pub returns-clause-kept : goal.returns-clause-kept
-returns-clause-kept g c = λ some. absurd (false≢true (sym (ap is_some (found c.args.word.now c.args.lists.now.entries None c.in_default.ensures.value)) ∙ some))
+    on_ok_weaker c.add_word.result (λ sets. sets_same word first (with_entry (list_or_fresh (lists_of rows) word c.args.markers.now) c.args.id c.args.hit.now) _ _ fresh
+    (subst (λ es. Sets word (Some first) (lists_of es) (lists_of c.add_word.new.lists.entries)) before sets)) c.add_word.ensures.ok
 
 pub returns-clause-taken : goal.returns-clause-taken
-returns-clause-taken g c = rw (found c.args.word.now c.args.lists.now.entries None c.in_default.ensures.value) c.in_ok-list.ensures.next
+returns-clause-taken g c = rw (found c.args.word.now c.args.lists.now.entries None c.in_default.ensures.value) c.add_word.ensures.taken

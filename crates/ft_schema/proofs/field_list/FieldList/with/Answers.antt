@@ -5,11 +5,10 @@ use Rattle.ft_schema.specs.Fields.{has_alias}
 use Rattle.ft_schema.proofs.AliasLemmas.{has-field_aliases}
 use Rattle.ft_schema.proofs.field_list.FieldList.with.Goals as goal
 
-pub add-requires : goal.add-requires
-add-requires c = record {
+pub push-requires : goal.push-requires
+push-requires c = record {
   new =
-      ap (λ a. list_any (bytes_eq a) c.self.inside.aliases) c.as_slice.ensures
-      ∙ (ap (λ names. list_any (bytes_eq c.args.field.alias) names) c.self.inside.known
+      ap (λ names. list_any (bytes_eq c.args.field.alias) names) c.self.inside.known
       ∙ (has-field_aliases c.args.field.alias c.self.inside.fields.items
-      ∙ (ap (λ fields. has_alias fields c.args.field.alias) c.self.view_is ∙ c.requires.new)));
+      ∙ (ap (λ fields. has_alias fields c.args.field.alias) c.self.view_is ∙ c.requires.new));
 }

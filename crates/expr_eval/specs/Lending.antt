@@ -1,0 +1,31 @@
+-- The value that is lent, and what operators and functions see of it.
+use Rattle.ft_base.specs.declared.row.Value.{Value}
+use Rattle.ft_base.specs.declared.row.Value.TheVariants as value
+use Rattle.expr_eval.specs.Values.{Operand, Nothing, Number, Bytes, Several, called, denied, joined, negated, num_or_null}
+use Rattle.expr_eval.specs.declared.evaluator.Outer.{Outer}
+use Rattle.expr_eval.specs.declared.evaluator.Outer.TheVariants as outer
+use Rattle.expr_eval.specs.declared.lent.Lent.{Lent}
+use Rattle.expr_eval.specs.declared.lent.Lent.TheVariants as lent
+
+-- the value that is lent
+abbrev pub value_lent : Lent → Value
+value_lent lent.Null = value.Null
+value_lent (lent.Num n) = value.Num n
+value_lent (lent.Text text) = value.Text text.now
+value_lent (lent.Made text) = value.Text text
+value_lent (lent.List values) = value.List values.now
+
+-- what operators and functions see of it
+abbrev pub operand_lent : Lent → Operand
+operand_lent lent.Null = Nothing
+operand_lent (lent.Num n) = Number n
+operand_lent (lent.Text text) = Bytes text.now
+operand_lent (lent.Made text) = Bytes text
+operand_lent (lent.List values) = Several
+
+-- the value of what a part stands in
+abbrev pub outer_value : Outer → Operand → Value
+outer_value (outer.Call func) v = called func v
+outer_value outer.Not v = value.Num (denied v)
+outer_value outer.Neg v = num_or_null (negated v)
+outer_value (outer.RightOf op left) v = num_or_null (joined op (operand_lent left) v)

@@ -1,0 +1,81 @@
+//! The value of an expression in a row.
+ghost use Rattle.std.specs.Prelude.{◌≡◌, IfOk};
+ghost use Rattle.expr_eval.specs.Lending.{value_lent, operand_lent, outer_value};
+ghost use Rattle.expr_eval.specs.Meaning.{value_of};
+ghost use Rattle.expr_eval.specs.Values.{operand_of};
+
+use crate::functions::called;
+use crate::lent::Lent;
+use crate::operators::{denied, joined, negated};
+use crate::property::property;
+use crate::tree::{Expr, Func, Op};
+use ft_base::{Boxed, IndexDef, NoMemory, Row, Value};
+use std::alloc::Global;
+
+/// What an expression is worth in a row. Only the value that is handed out is copied.
+pub fn eval(alloc: Global, expr: &Expr, row: &Row, def: &IndexDef) -> Result<Value, NoMemory>
+    ensures { IfOk result (λ value. value ≡ value_of expr.now row.now def.now) }
+{
+    found(alloc, expr, row, def)?.own(alloc)
+}
+
+/// The value, lent where it stands in the row or in the expression.
+#[cycle(found)]
+fn found<'a>(
+    alloc: Global,
+    expr: &'a Expr,
+    row: &'a Row,
+    def: &IndexDef,
+) -> Result<Lent<'a>, NoMemory>
+    ensures { IfOk result (λ value. value_lent value ≡ value_of expr.now row.now def.now) }
+{
+    match expr {
+        Expr::Num(number) => Ok(Lent::Num(*number)),
+        Expr::Text(text) => Ok(Lent::Text(text.as_slice())),
+        Expr::Prop(name) => Ok(property(name.as_slice(), row, def)),
+        Expr::Call { func, arg } => within(alloc, arg, Outer::Call(*func), row, def),
+        Expr::Not(arg) => within(alloc, arg, Outer::Not, row, def),
+        Expr::Neg(arg) => within(alloc, arg, Outer::Neg, row, def),
+        Expr::Binary { op, left, right } => {
+            let left = found(alloc, left.get(), row, def)?;
+            within(alloc, right, Outer::RightOf(*op, left), row, def)
+        }
+    }
+}
+
+/// What a part stands in: for the right side of an operator, with the value of its left.
+#[derive(Drop)]
+pub enum Outer<'a> {
+    Call(Func),
+    Not,
+    Neg,
+    RightOf(Op, Lent<'a>),
+}
+
+/// The value of what a part stands in.
+#[cycle(found)]
+fn within<'a>(
+    alloc: Global,
+    part: &'a Boxed<Expr>,
+    outer: Outer<'a>,
+    row: &'a Row,
+    def: &IndexDef,
+) -> Result<Lent<'a>, NoMemory>
+    ensures { IfOk result (λ value. value_lent value
+        ≡ outer_value outer.entry (operand_of (value_of part.now row.now def.now))) }
+{
+    let value = found(alloc, part.get(), row, def)?;
+    outer_value(alloc, outer, value)
+}
+
+fn outer_value<'a>(alloc: Global, outer: Outer<'_>, value: Lent<'_>) -> Result<Lent<'a>, NoMemory>
+    ensures { IfOk result (λ made. value_lent made
+        ≡ outer_value outer.entry (operand_lent value.entry)) }
+{
+    match outer {
+        Outer::Call(func) => called(alloc, func, value),
+        Outer::Not => Ok(denied(value)),
+        Outer::Neg => Ok(negated(value)),
+        Outer::RightOf(op, left) => Ok(joined(op, left, value)),
+    }
+}

@@ -1,0 +1,30 @@
+//! Expressions over the rows of an aggregate (RediSearch, FT.AGGREGATE): their grammar, and their values.
+//!
+//! The grammar is a relation from tokens to a tree, apart from any parser (`specs/Tokens.antt`, `specs/Grammar.antt`).
+//! Which answer a text has follows from it (`specs/Answer.antt`). What a tree is worth in a row is a fold over it
+//! (`specs/Values.antt`, `specs/Properties.antt`, `specs/Meaning.antt`). An expression is parsed once a command and
+//! worked out a row at a time, so looking at a value copies nothing.
+#![tactic(auto)]
+
+mod evaluator;
+mod fault;
+mod functions;
+mod laws;
+mod lent;
+mod lexer;
+mod operators;
+mod parser;
+mod property;
+mod token;
+mod tree;
+
+/// The value of an expression in a row.
+pub use evaluator::eval;
+/// Why a text is no expression.
+pub use fault::ExprFault;
+/// A text has one answer.
+pub use laws::{one_fault, one_tree, tree_or_fault};
+/// The tree of a text.
+pub use parser::parse_expr;
+/// Expressions.
+pub use tree::{Expr, Func, Op};

@@ -1,0 +1,48 @@
+//! The tree of an expression.
+use ft_base::{Boxed, Bytes};
+
+/// A function of one value.
+#[derive(Clone, Copy, Debug, PartialEq, Eq)]
+pub enum Func {
+    Lower,
+    Upper,
+    Strlen,
+    Abs,
+    Exists,
+}
+
+/// What stands between two operands.
+#[derive(Clone, Copy, Debug, PartialEq, Eq)]
+pub enum Op {
+    Or,
+    And,
+    Equal,
+    Differ,
+    AtMost,
+    AtLeast,
+    Below,
+    Above,
+    Plus,
+    Minus,
+    Times,
+}
+
+/// An expression.
+#[derive(Drop)]
+pub enum Expr {
+    Num(i64),
+    Text(Bytes),
+    /// The value of a row under this name.
+    Prop(Bytes),
+    Call {
+        func: Func,
+        arg: Boxed<Expr>,
+    },
+    Not(Boxed<Expr>),
+    Neg(Boxed<Expr>),
+    Binary {
+        op: Op,
+        left: Boxed<Expr>,
+        right: Boxed<Expr>,
+    },
+}

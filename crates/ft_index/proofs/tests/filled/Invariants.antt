@@ -1,7 +1,0 @@
-use Rattle.std.proofs.Common.{◌≤◌}
-use Rattle.index_lists.specs.Markers.{AreBefore}
-use Rattle.ft_index.proofs.tests.filled.Given as goal
-
--- the next document may be written
-abbrev pub invariant-writing : goal.invariant-writing
-invariant-writing l = AreBefore l.markers l.index.lists × (l.index.table.last ≤ l.last)

@@ -1,0 +1,223 @@
+-- How serving ends: each way to end, from what was served so far.
+use Rattle.std.proofs.Common.{◌≡◌, ℕ, ◌<◌, ◌≤◌, ◌^◌, inl, inr, Bool, true, false, cond, List, [], ◌∷◌, ◌++◌, map, length, Option, Some, None, refl, sym, ap, subst, ◌∙◌, arith, append_assoc}
+use Rattle.std.proofs.lemmas.List.{append-nil, map_push}
+use Rattle.std.proofs.lemmas.List.Elements.{All-nil}
+use Rattle.std.specs.Prelude.{◌||◌}
+use Rattle.std.specs.Io.KnownBytes.{Appends, Consumes, Keeps, IsAtEnd}
+use Rattle.std.proofs.KnownBytes.{Appends-trans, Appends-nil, Consumes-nil, Consumes-kept, Keeps-refl}
+use Rattle.fs_ports.proofs.MomentLaws.{Gives-nil}
+use Rattle.ft_base.specs.Words.{KeepsLimits, is_quit}
+use Rattle.fs_ports.specs.Causes.{Rose, WritesFront}
+use Rattle.fs_ports.specs.Moments.{Gives}
+use Rattle.ft_machine.specs.History.{Entry, Exec, replies_of, words_of, moment_of}
+use Rattle.ft_machine.specs.Machine.{empty_state}
+use Rattle.ft_engine.specs.Stands.{Stands}
+use Rattle.resp_wire.specs.Decoding.{Decoding, fed, StopsAt, NextIsLong}
+use Rattle.resp_wire.specs.declared.fault.Stop.TheVariants.{More}
+use Rattle.resp_wire.specs.Stream.{Command, Stream, FaultAt, with_command, ended, stream_of, fault_from, fault_of, until_quit, due}
+use Rattle.ft_server.specs.Answer.{Answer}
+use Rattle.ft_server.specs.Ends.{IsAll, EndsWith, IsFaulty, Ends}
+use Rattle.ft_server.specs.FaultText.{fault_text}
+use Rattle.ft_server.specs.Reading.{NoMore}
+use Rattle.ft_server.specs.Session.{AllAnswered, Outside, IsOpen, WantsMore, Served, quits}
+use Rattle.ft_server.specs.declared.connection.End.{End}
+use Rattle.ft_server.specs.declared.connection.End.TheVariants as end
+use Rattle.ft_server.proofs.QuitLaws.{quits_behind, due_behind, long_is_due}
+use Rattle.ft_server.proofs.ServingLaws.{Going, behind, taken_first, answered_more, sent_more}
+
+-- what was read up to the end is all that there was
+all_read : (left left' : Option (List ℕ)) (input : List ℕ) → Consumes left left' input → IsAtEnd left' → IsAll left input
+all_read None left' input read end = tt
+all_read (Some all) None input read end = absurd read
+all_read (Some all) (Some more) input read end = sym (read ∙ (ap (λ (l : List ℕ). input ++ l) end ∙ append-nil input))
+
+-- the commands that are due, those answered and those of what is left
+pub due_split : (held : Decoding) (engine : Stands) (before now : Outside) (going : Going held engine before now) → due going.input ≡ map words_of going.entries ++ until_quit (stream_of held.left).commands
+due_split held engine before now going =
+    ap (λ (s : Stream). until_quit s.commands) going.split ∙ due_behind (map words_of going.entries) (stream_of held.left).commands going.no_quit
+
+-- and whether QUIT is among them
+quits_split : (held : Decoding) (engine : Stands) (before now : Outside) (going : Going held engine before now) → quits (stream_of going.input).commands ≡ quits (stream_of held.left).commands
+quits_split held engine before now going =
+    ap (λ (s : Stream). quits s.commands) going.split ∙ quits_behind (map words_of going.entries) (stream_of held.left).commands going.no_quit
+
+-- the fault is that of what is left
+fault_split : (held : Decoding) (engine : Stands) (before now : Outside) (going : Going held engine before now) → fault_of going.input ≡ fault_from (fed held) (stream_of held.left).stop
+fault_split held engine before now going =
+    ap (λ (s : Stream). fault_from (length going.input) s.stop) going.split ∙ ap (λ n. fault_from n (stream_of held.left).stop) (sym going.fed_is)
+
+-- the commands before these others were answered, and a text was written behind their replies
+pub served : (held : Decoding) (engine : Stands) (before now after : Outside) (others : List Command) (text : List ℕ) (going : Going held engine before now)
+    → until_quit (stream_of held.left).commands ≡ others → Keeps now.left after.left → now.given ≡ after.given → Appends now.written after.written text → Served going.input others text before after
+served held engine before now after others text going is kept given sent = record {
+  entries = going.entries;
+  read = Consumes-kept before.left now.left after.left going.input going.read kept;
+  due_are = due_split held engine before now going ∙ ap (λ (cs : List Command). map words_of going.entries ++ cs) is;
+  answered = record { after = engine.state; legal = going.legal; alone = going.alone; moments = subst (λ (g : Option (List ℕ)). Gives before.given g (map moment_of going.entries)) given going.moments };
+  written = Appends-trans before.written now.written after.written _ _ going.sent sent;
+}
+
+-- the same where nothing happened since
+pub served_now : (held : Decoding) (engine : Stands) (before now : Outside) (others : List Command) (going : Going held engine before now)
+    → until_quit (stream_of held.left).commands ≡ others → Served going.input others [] before now
+served_now held engine before now others going is = served held engine before now now others [] going is (Keeps-refl now.left) refl (Appends-nil now.written)
+
+-- bytes that wait for more leave the connection open
+is_open : (held : Decoding) (engine : Stands) (before now : Outside) (going : Going held engine before now) → stream_of held.left ≡ ended More held.left → IsOpen going.input
+is_open held engine before now going more = record {
+  no_quit = quits_split held engine before now going ∙ ap (λ (s : Stream). quits s.commands) more;
+  no_fault = fault_split held engine before now going ∙ ap (λ (s : Stream). fault_from (fed held) s.stop) more;
+}
+
+-- more may be read
+pub all_answered : (held : Decoding) (engine : Stands) (before now : Outside) (total : ℕ) → Going held engine before now → stream_of held.left ≡ ended More held.left → total ≡ fed held → total < 2 ^ 40
+    → AllAnswered before now
+all_answered held engine before now total going more fed_is few = record {
+  input = going.input;
+  wants = record { is_open = is_open held engine before now going more; few = omega (arith, few, fed_is, going.fed_is) };
+  served = served_now held engine before now [] going (ap (λ (s : Stream). until_quit s.commands) more);
+}
+
+-- the connection ends where no more is read
+pub ends_reading : (how : End) (held : Decoding) (engine : Stands) (before after : Outside) (total faults : ℕ) → Going held engine before after → stream_of held.left ≡ ended More held.left
+    → total ≡ fed held → before.read_faults ≤ faults → NoMore how total held.left after.left faults after.read_faults → Ends how before after
+ends_reading how held engine before after total faults going more fed_is low why =
+    by_end how why
+  where
+    done : Served going.input [] [] before after
+    done = served_now held engine before after [] going (ap (λ (s : Stream). until_quit s.commands) more)
+
+    open_now : IsOpen going.input
+    open_now = is_open held engine before after going more
+
+    wants : total < 2 ^ 40 → WantsMore going.input
+    wants few = record { is_open = open_now; few = omega (arith, few, fed_is, going.fed_is) }
+
+    rest_is : (n : ℕ) → length held.left ≡ n → EndsWith going.input n
+    rest_is n e = ap (λ (s : Stream). length s.rest) (going.split ∙ ap (behind (map words_of going.entries)) more) ∙ e
+
+    by_end : (e : End) → NoMore e total held.left after.left faults after.read_faults → Ends e before after
+    by_end end.Closed n = (going.input, all_read before.left after.left going.input going.read n.2, wants n.0, rest_is 0 n.1, done)
+    by_end (end.CutShort left) n = (going.input, all_read before.left after.left going.input going.read n.3, wants n.0, n.1, rest_is left n.2, done)
+    by_end end.ReadFault n = (omega (arith, low, n.1), (going.input, wants n.0, done))
+    by_end end.ByteLimit n = (going.input, omega (arith, n, fed_is, going.fed_is), open_now, done)
+    by_end end.NoMemory n = (going.input, [], inr (inl (refl, wants n.0, omega (arith, n.1, rest_is (length held.left) refl))), done)
+    by_end end.Quit n = absurd n
+    by_end end.WriteFault n = absurd n
+    by_end (end.Protocol at kind) n = absurd n
+
+-- the next command is too long for the memory there is
+pub ends_long : (held : Decoding) (engine : Stands) (before now : Outside) → Going held engine before now → NextIsLong (stream_of held.left).commands → Ends end.NoMemory before now
+ends_long held engine before now going long =
+    (going.input, until_quit (stream_of held.left).commands, inr (inr (long_is_due (stream_of held.left).commands long)), served_now held engine before now _ going refl)
+
+-- the stream has a fault
+pub faulty_now : (held : Decoding) (engine : Stands) (before now : Outside) (fault : FaultAt) (going : Going held engine before now) → StopsAt held fault → IsFaulty going.input fault
+faulty_now held engine before now fault going stops = record {
+  no_quit = quits_split held engine before now going ∙ ap (λ (cs : List Command). quits cs) stops.none;
+  fault_is = fault_split held engine before now going ∙ stops.faulty;
+}
+
+-- its text was written
+pub ends_faulty : (held : Decoding) (engine : Stands) (before now after : Outside) (fault : FaultAt) → Going held engine before now → StopsAt held fault → Keeps now.left after.left → now.given ≡ after.given
+    → Appends now.written after.written (fault_text fault.kind) → Ends (end.Protocol fault.at fault.kind) before after
+ends_faulty held engine before now after fault going stops kept given sent =
+    (going.input, faulty_now held engine before now fault going stops, served held engine before now after [] (fault_text fault.kind) going (ap (λ (cs : List Command). until_quit cs) stops.none) kept given sent)
+
+-- its text was written in part
+pub ends_text_cut : (held : Decoding) (engine : Stands) (before now after : Outside) (fault : FaultAt) → Going held engine before now → StopsAt held fault → Keeps now.left after.left → now.given ≡ after.given
+    → WritesFront now.written after.written (fault_text fault.kind) → Rose now.write_faults after.write_faults → Ends end.WriteFault before after
+ends_text_cut held engine before now after fault going stops kept given sent rose = (
+  omega (arith, going.writes, rose),
+  (
+    going.input,
+    inr (
+      fault,
+      sent.front,
+      faulty_now held engine before now fault going stops,
+      record { back = sent.back; whole = sent.whole; proper = sent.proper },
+      served held engine before now after [] sent.front going (ap (λ (cs : List Command). until_quit cs) stops.none) kept given sent.bytes,
+    ),
+  ),
+)
+
+-- at the start
+pub ends_at_once : (now : Outside) → Ends end.NoMemory now now
+unfolding stream_of
+ends_at_once now = (
+  [],
+  [],
+  inl refl,
+  record {
+    entries = [];
+    read = Consumes-nil now.left;
+    due_are = refl;
+    answered = record { after = empty_state; legal = refl; alone = All-nil _; moments = Gives-nil now.given };
+    written = Appends-nil now.written;
+  },
+)
+
+-- the decoder took a command, and it was answered
+module _ (held later : Decoding) (engine engine' : Stands) (before now after : Outside) (words : Command) (reply : List ℕ)
+    (going : Going held engine before now) (answer : Answer words engine engine' now.given after.given reply)
+    (some : 0 < length words) (limits : KeepsLimits words) (bound : engine.next ≤ 2 ^ 62)
+    (taken : stream_of held.left ≡ with_command words (stream_of later.left)) (kept : Keeps now.left after.left) where
+  -- what is due behind it
+  abbrev pub others_of : List Command
+  others_of = cond (is_quit words) [] (until_quit (stream_of later.left).commands)
+
+  abbrev pub entry_of : Entry
+  entry_of = Exec 0 answer.moment words reply
+
+  one_due : until_quit (words ∷ (stream_of later.left).commands) ≡ words ∷ others_of
+  one_due = by_test (is_quit words)
+    where
+      by_test : (b : Bool) → cond b (words ∷ []) (words ∷ until_quit (stream_of later.left).commands) ≡ words ∷ cond b [] (until_quit (stream_of later.left).commands)
+      by_test true = refl
+      by_test false = refl
+
+  taken_commands : (stream_of held.left).commands ≡ words ∷ (stream_of later.left).commands
+  taken_commands = ap (λ (s : Stream). s.commands) (taken ∙ taken_first words (stream_of later.left) some)
+
+  due_more : due going.input ≡ map words_of (going.entries ++ entry_of ∷ []) ++ others_of
+  due_more =
+      due_split held engine before now going
+      ∙ (ap (λ (cs : List Command). map words_of going.entries ++ until_quit cs) taken_commands
+      ∙ (ap (λ (cs : List Command). map words_of going.entries ++ cs) one_due
+      ∙ (sym (append_assoc (map words_of going.entries) (words ∷ []) others_of)
+      ∙ ap (λ (cs : List Command). cs ++ others_of) (sym (map_push words_of going.entries entry_of)))))
+
+  -- its reply was written in part
+  pub ends_reply_cut : WritesFront now.written after.written reply → Rose now.write_faults after.write_faults → Ends end.WriteFault before after
+  ends_reply_cut sent rose = (
+    omega (arith, going.writes, rose),
+    (
+      going.input,
+      inl (record {
+        entries = going.entries;
+        last = entry_of;
+        others = others_of;
+        front = sent.front;
+        read = Consumes-kept before.left now.left after.left going.input going.read kept;
+        due_are = due_more;
+        answered = answered_more held later engine engine' before now after words reply going answer some limits bound taken kept;
+        cut = record { back = sent.back; whole = sent.whole; proper = sent.proper };
+        written = Appends-trans before.written now.written after.written _ _ going.sent sent.bytes;
+      }),
+    ),
+  )
+
+  -- it is QUIT
+  pub ends_at_quit : is_quit words ≡ true → Appends now.written after.written reply → Ends end.Quit before after
+  ends_at_quit quit sent = (
+    going.input,
+    quits_split held engine before now going ∙ (ap (λ (cs : List Command). quits cs) taken_commands ∙ ap (λ b. b || quits (stream_of later.left).commands) quit),
+    record {
+      entries = going.entries ++ entry_of ∷ [];
+      read = Consumes-kept before.left now.left after.left going.input going.read kept;
+      due_are = due_more ∙ ap (λ b. map words_of (going.entries ++ entry_of ∷ []) ++ cond b [] (until_quit (stream_of later.left).commands)) quit;
+      answered = answered_more held later engine engine' before now after words reply going answer some limits bound taken kept;
+      written = subst (Appends before.written after.written) (sym (append-nil (replies_of (going.entries ++ entry_of ∷ []))))
+          (sent_more held later engine engine' before now after words reply going answer some limits bound taken kept sent);
+    },
+  )

@@ -1,0 +1,5 @@
+use Rattle.index_commands.proofs.search.answer_query.Given as goal
+
+-- the steps are counted in a ledger of their own
+abbrev pub ghosts-found_in : goal.ghosts-found_in
+ghosts-found_in a = record { name = a.blank.name; parts = a.blank.parts }

@@ -1,0 +1,153 @@
+//! What commands ask.
+use crate::answer::Answer;
+use crate::arguments::{frame_of, word};
+use crate::schemas::{put_fault as put_schema_fault, put_fields, put_index};
+use cmd_parse::{CmdFault, Command, SearchSpec, Verb, read_command};
+use ft_base::{IndexDef, MAX_WORDS, NoMemory, Words};
+use row_text::split_words;
+use std::alloc::Global;
+
+/// The serial of an index that is created.
+const SERIAL: u64 = 7;
+
+/// Words that stand behind a command's name.
+const ZEROS: &[u8; 10] = b" 0 0 0 0 0";
+
+/// Writes the answer of a call, and tells whether it is of this file.
+pub fn put(alloc: Global, call: &str, words: &[Vec<u8>], out: &mut Answer) -> bool {
+    let done = match call {
+        "command" => put_asked(alloc, words, out),
+        "arities" => put_arities(alloc, word(words, 0), word(words, 1), out),
+        _ => return false,
+    };
+    out.note(done);
+    true
+}
+
+fn put_asked(alloc: Global, words: &[Vec<u8>], out: &mut Answer) -> Result<(), NoMemory> {
+    match frame_of(alloc, words)? {
+        Some(frame) => put_read(alloc, frame.words(), out),
+        None => Ok(()),
+    }
+}
+
+fn put_read(alloc: Global, words: Words<'_>, out: &mut Answer) -> Result<(), NoMemory> {
+    if words.len() == 0 || MAX_WORDS < words.len() {
+        return Ok(());
+    }
+    match read_command(alloc, words, SERIAL) {
+        Ok(command) => put_command(alloc, &command, out),
+        Err(fault) => {
+            put_fault(fault, out);
+            Ok(())
+        }
+    }
+}
+
+fn put_command(alloc: Global, command: &Command<'_>, out: &mut Answer) -> Result<(), NoMemory> {
+    match command {
+        Command::Plain { verb, args } => {
+            put_verb(alloc, *verb, out)?;
+            put_args(args, out);
+        }
+        Command::Create(index) => put_create(index.get(), out),
+        Command::Alter { index, fields } => {
+            put_named(b"alter ", index, out);
+            put_fields(fields.as_slice(), out);
+        }
+        Command::Info { index } => put_named(b"info ", index, out),
+        Command::Search(spec) => put_search(spec, out),
+    }
+    Ok(())
+}
+
+fn put_verb(alloc: Global, verb: Verb, out: &mut Answer) -> Result<(), NoMemory> {
+    let name = format!(in alloc; "{verb:?}")?;
+    out.put(name.as_bytes());
+    Ok(())
+}
+
+fn put_args(args: &Words<'_>, out: &mut Answer) {
+    for i in 0..args.len() {
+        put_named(b" ", args.word(i), out);
+    }
+}
+
+fn put_named(text: &[u8], word: &[u8], out: &mut Answer) {
+    out.put(text);
+    out.put_word(word);
+}
+
+// The serial, then the index.
+fn put_create(index: &IndexDef, out: &mut Answer) {
+    out.put(b"create ");
+    out.put_number(i64::try_from(index.serial).ok());
+    out.put(b" ");
+    put_index(index, out);
+}
+
+// The index, the query, whether whole hashes are asked for or keys alone, and each parameter.
+fn put_search(spec: &SearchSpec<'_>, out: &mut Answer) {
+    put_named(b"search ", spec.index, out);
+    put_named(b" ", spec.query, out);
+    out.put(if spec.no_content { b" keys" } else { b" all" });
+    for param in spec.params.as_slice() {
+        put_named(b" ", param.name.as_slice(), out);
+        put_named(b"=", param.value.as_slice(), out);
+    }
+}
+
+fn put_fault(fault: CmdFault, out: &mut Answer) {
+    match fault {
+        CmdFault::Unknown => out.put(b"Unknown"),
+        CmdFault::Arity => out.put(b"Arity"),
+        CmdFault::Syntax { at } => out.put_at(b"Syntax", at as usize),
+        CmdFault::NotInteger => out.put(b"NotInteger"),
+        CmdFault::BadDb => out.put(b"BadDb"),
+        CmdFault::NotBuilt => out.put(b"NotBuilt"),
+        CmdFault::Schema(fault) => put_schema_fault(fault, out),
+        CmdFault::NoMemory => out.put(b"NoMemory"),
+    }
+}
+
+// Which of the commands of a name and no to five words `0` are read as this verb: `+`; `-` where the number
+// of words is wrong, and `?` where something else is answered.
+fn put_arities(alloc: Global, name: &[u8], verb: &[u8], out: &mut Answer) -> Result<(), NoMemory> {
+    for count in 0..=5 {
+        let zeros = &ZEROS[..2 * count];
+        out.put(arity_mark(alloc, name, verb, zeros)?);
+    }
+    Ok(())
+}
+
+fn arity_mark(
+    alloc: Global,
+    name: &[u8],
+    verb: &[u8],
+    zeros: &[u8],
+) -> Result<&'static [u8], NoMemory> {
+    let asked = asked_with(alloc, name, zeros)?;
+    if asked.as_slice() == b"Arity".as_slice() {
+        return Ok(b"-");
+    }
+    let same = asked.as_slice().strip_prefix(verb) == Some(zeros);
+    Ok(if same { b"+" } else { b"?" })
+}
+
+fn asked_with(alloc: Global, name: &[u8], zeros: &[u8]) -> Result<Vec<u8>, NoMemory> {
+    let mut out = Answer::new(alloc);
+    put_asked_with(alloc, name, zeros, &mut out)?;
+    out.finish()
+}
+
+fn put_asked_with(
+    alloc: Global,
+    name: &[u8],
+    zeros: &[u8],
+    out: &mut Answer,
+) -> Result<(), NoMemory> {
+    let mut text = Vec::from_slice(alloc, name)?;
+    text.extend_from_slice(zeros)?;
+    let words = split_words(alloc, text.as_slice())?;
+    put_asked(alloc, words.as_slice(), out)
+}

@@ -1,0 +1,159 @@
+//! What holds bytes, items, words and steps.
+ghost use Rattle.std.specs.Prelude.{◌≡◌, ◌<◌};
+
+use crate::answer::Answer;
+use crate::arguments::{count_of, framed, halves, lie_in, rest, word};
+use ft_base::{Boxed, Bytes, ListOf, NoMemory, Span, Steps, Words};
+use std::alloc::Global;
+use std::marker::Brand;
+use std::mem::size_of;
+use std::sync::ledger::{Blank, Ledger};
+
+/// Writes the answer of a call, and tells whether it is of this file.
+pub fn put(alloc: Global, call: &str, words: &[Vec<u8>], out: &mut Answer) -> bool {
+    let first = word(words, 0);
+    let done = match call {
+        "boxed" => put_boxed(alloc, first, out),
+        "bytes" => put_bytes(alloc, first, word(words, 1), out),
+        "list_of" => put_list(alloc, words, out),
+        "words" => put_spans(alloc, first, rest(words, 1), out),
+        "frame" => put_frame(alloc, first, rest(words, 1), out),
+        "steps" => put_steps(out),
+        _ => return false,
+    };
+    out.note(done);
+    true
+}
+
+// A word as its box lends it and hands it out.
+fn put_boxed(alloc: Global, word: &[u8], out: &mut Answer) -> Result<(), NoMemory> {
+    let boxed = Boxed::new(alloc, Bytes::from_slice(alloc, word)?)?;
+    out.put_word(boxed.get().as_slice());
+    out.put(b" ");
+    out.put_word(boxed.into_inner().as_slice());
+    Ok(())
+}
+
+// Bytes with others pushed, and how many they are as they are handed over.
+fn put_bytes(alloc: Global, first: &[u8], more: &[u8], out: &mut Answer) -> Result<(), NoMemory> {
+    let bytes = pushed(alloc, first, more)?;
+    out.put_word(bytes.clone()?.as_slice());
+    out.put(b" ");
+    out.put_count(Bytes::from_vec(bytes.into_vec()).len());
+    Ok(())
+}
+
+fn pushed(alloc: Global, first: &[u8], more: &[u8]) -> Result<Bytes, NoMemory> {
+    let mut bytes = begun(alloc, first)?;
+    for byte in more {
+        bytes.push(*byte)?;
+    }
+    Ok(bytes)
+}
+
+fn begun(alloc: Global, first: &[u8]) -> Result<Bytes, NoMemory> {
+    if first.is_empty() {
+        Ok(Bytes::new(alloc))
+    } else {
+        Bytes::from_slice(alloc, first)
+    }
+}
+
+// Numbers with the one at a place changed, and how many they are as they are handed over.
+fn put_list(alloc: Global, words: &[Vec<u8>], out: &mut Answer) -> Result<(), NoMemory> {
+    let mut list = numbers_of(alloc, rest(words, 2))?;
+    let place = count_of(word(words, 0));
+    if place < list.len() {
+        *list.get_mut(place) = count_of(word(words, 1));
+    }
+    for number in list.as_slice() {
+        out.put_count(*number);
+        out.put(b" ");
+    }
+    out.put(b"of ");
+    out.put_count(ListOf::from_vec(list.into_vec()).len());
+    Ok(())
+}
+
+fn numbers_of(alloc: Global, words: &[Vec<u8>]) -> Result<ListOf<usize>, NoMemory> {
+    let mut list = ListOf::new(alloc);
+    for word in words {
+        list.push(count_of(word.as_slice()))?;
+    }
+    Ok(list)
+}
+
+// The words of a text at places, then the same from the second on.
+fn put_spans(
+    alloc: Global,
+    text: &[u8],
+    places: &[Vec<u8>],
+    out: &mut Answer,
+) -> Result<(), NoMemory> {
+    let spans = spans_at(alloc, places)?;
+    if lie_in(text, spans.as_slice()) {
+        let words = Words::new(text, spans.as_slice());
+        put_all(&words, out);
+        if 0 < words.len() {
+            out.put(b", ");
+            put_all(&words.rest(1), out);
+        }
+    }
+    Ok(())
+}
+
+// The words of a frame.
+fn put_frame(
+    alloc: Global,
+    text: &[u8],
+    places: &[Vec<u8>],
+    out: &mut Answer,
+) -> Result<(), NoMemory> {
+    let text = Vec::from_slice(alloc, text)?;
+    if let Some(frame) = framed(text, spans_at(alloc, places)?) {
+        put_all(&frame.words(), out);
+    }
+    Ok(())
+}
+
+fn put_all(words: &Words<'_>, out: &mut Answer) {
+    out.put_count(words.len());
+    for i in 0..words.len() {
+        out.put(b" ");
+        out.put_word(words.word(i));
+    }
+}
+
+// The spans of places, each written as the first byte of a word, `=` and the first byte behind it.
+fn spans_at(alloc: Global, places: &[Vec<u8>]) -> Result<Vec<Span>, NoMemory> {
+    let mut spans = Vec::new(alloc);
+    for place in places {
+        let (from, to) = halves(place.as_slice());
+        spans.push(Span {
+            from: count_of(from),
+            to: count_of(to),
+        })?;
+    }
+    Ok(spans)
+}
+
+// The bytes that a count of steps takes.
+fn put_steps(out: &mut Answer) -> Result<(), NoMemory> {
+    out.put_count(bytes_of_steps());
+    Ok(())
+}
+
+fn bytes_of_steps() -> usize {
+    count_twice::<Brand>(Blank::new(1))
+}
+
+fn count_twice<L: Ledger>(blank: Blank) -> usize
+    requires name { blank.name ≡ L.name }
+    requires parts { blank.parts ≡ L.parts }
+    requires some { 0 < L.parts }
+{
+    let mut steps = Steps::<L>::new(blank);
+    steps.tick();
+    steps.tick();
+    size_of::<Steps<L>>()
+}

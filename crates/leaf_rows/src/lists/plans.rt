@@ -1,0 +1,238 @@
+//! Plans of queries, over an index of documents: `plan_depth QUERY COUNT:TEXT..` and `plan_parts QUERY COUNT:TEXT..`, where
+//! each `COUNT:TEXT` is so many documents with that text.
+ghost use Rattle.std.specs.Prelude.{◌≡◌, ◌<◌, ◌≤◌, IfOk, IfSome, IsTrue, OnOk};
+ghost use Rattle.ft_meaning.specs.Meaning.{ValuesFit};
+ghost use Rattle.index_lists.specs.Markers.{AreBefore};
+
+use super::numbers::{number, parted, put_number};
+use crate::answer::Answer;
+use crate::arguments::{rest, word};
+use ft_base::{
+    Bytes, Doc, Field, FieldKind, HashRec, IndexDef, ListOf, NoMemory, Query, Steps, StopWords,
+};
+use ft_index::FtIndex;
+use id_iters::{Hints, Iter, Leaf, ListName};
+use inverted_list::Markers;
+use query_parse::parse;
+use query_plan::plan;
+use std::alloc::Global;
+use std::marker::Brand;
+use std::sync::ledger::{Blank, Ledger};
+
+/// Writes the answer of a call, and tells whether it is of this file.
+pub fn put(
+    alloc: Global,
+    call: &str,
+    words: &[Vec<u8>],
+    out: &mut Answer,
+) -> Result<bool, NoMemory> {
+    if call != "plan_depth" && call != "plan_parts" {
+        return Ok(false);
+    }
+    match planned(alloc, word(words, 0), rest(words, 1))? {
+        Some(iter) => put_plan(&iter, call == "plan_parts", out),
+        None => out.put(b"no query"),
+    }
+    Ok(true)
+}
+
+// `plan_parts`: the parts that all have to hold, in the order in which they are asked. `plan_depth`: how many unions lie
+// in one another.
+fn put_plan(iter: &Iter, by_parts: bool, out: &mut Answer) {
+    if by_parts {
+        return put_parts(iter, out);
+    }
+    put_number(depth(iter), out);
+}
+
+// The plan of a query over documents.
+fn planned(alloc: Global, text: &[u8], documents: &[Vec<u8>]) -> Result<Option<Iter>, NoMemory> {
+    let Some(index) = filled(alloc, documents)? else {
+        return Ok(None);
+    };
+    plan_over(alloc, &index, text)
+}
+
+fn plan_over(alloc: Global, index: &FtIndex, text: &[u8]) -> Result<Option<Iter>, NoMemory> {
+    match query_of(alloc, text, index.def())? {
+        Some(query) => Ok(Some(plan_of::<Brand>(alloc, index, &query, Blank::new(1))?)),
+        None => Ok(None),
+    }
+}
+
+// An index of every key, with the TEXT field `t`.
+fn index_def(alloc: Global) -> Result<IndexDef, NoMemory> {
+    let mut fields = ListOf::new(alloc);
+    fields.push(text_field(alloc)?)?;
+    Ok(IndexDef {
+        name: Bytes::new(alloc),
+        serial: 1,
+        prefixes: ListOf::new(alloc),
+        stops: StopWords {
+            words: ListOf::new(alloc),
+        },
+        fields,
+    })
+}
+
+fn text_field(alloc: Global) -> Result<Field, NoMemory> {
+    Ok(Field {
+        name: Bytes::from_slice(alloc, b"t")?,
+        alias: Bytes::from_slice(alloc, b"t")?,
+        kind: FieldKind::Text,
+        sortable: false,
+        unf: false,
+        noindex: false,
+    })
+}
+
+fn begin(alloc: Global, markers: &mut Markers) -> Result<Option<FtIndex>, NoMemory>
+    ensures last { IfOk result (λ begun. IfSome begun (λ index. index.table.last ≡ 0)) }
+    ensures before { IfOk result (λ begun. IfSome begun (λ index. AreBefore markers.new index.lists)) }
+{
+    let def = index_def(alloc)?;
+    if 5 < def.fields.len() {
+        return Ok(None);
+    }
+    Ok(Some(FtIndex::new(alloc, def, markers)?))
+}
+
+// A document with that text.
+fn doc(alloc: Global, id: u64, text: &[u8]) -> Result<Doc, NoMemory>
+    ensures { IfOk result (λ doc. doc.id ≡ id) }
+{
+    let mut hash = HashRec::new(alloc);
+    hash.set(b"t", Bytes::from_slice(alloc, text)?)?;
+    let key = Bytes::new(alloc);
+    Ok(Doc { id, key, hash })
+}
+
+fn values_fit(hash: &HashRec) -> bool
+    ensures { IsTrue result → ValuesFit hash.now }
+{
+    'values: for i in 0..hash.len() {
+        if 100 < hash.at(i).1.as_slice().len() {
+            return false;
+        }
+    }
+    true
+}
+
+fn write(index: &mut FtIndex, markers: &mut Markers, doc: &Doc) -> Result<(), NoMemory>
+    requires id { index.old.table.last < doc.now.id }
+    requires before { AreBefore markers.old index.old.lists }
+    ensures last { index.new.table.last ≤ doc.now.id }
+    ensures before { AreBefore markers.new index.new.lists }
+{
+    if !values_fit(&doc.hash) {
+        return Ok(());
+    }
+    let ready = index.prepare(doc, markers)?;
+    index.commit(ready);
+    Ok(())
+}
+
+// The documents of the row, with the ids from 1 on.
+fn filled(alloc: Global, words: &[Vec<u8>]) -> Result<Option<FtIndex>, NoMemory> {
+    let mut markers = Markers { event: 1, next: 0 };
+    let Some(mut index) = begin(alloc, &mut markers)? else {
+        return Ok(None);
+    };
+    let mut last = 0;
+    'filling: for word in words {
+        let (count, text) = parted(word.as_slice());
+        last = write_some(alloc, &mut index, &mut markers, last, number(count), text)?;
+    }
+    Ok(Some(index))
+}
+
+// Writes so many documents with one text, and answers the last id.
+fn write_some(
+    alloc: Global,
+    index: &mut FtIndex,
+    markers: &mut Markers,
+    last: u64,
+    count: u64,
+    text: &[u8],
+) -> Result<u64, NoMemory>
+    requires last { index.old.table.last ≤ last }
+    requires before { AreBefore markers.old index.old.lists }
+    ensures last { IfOk result (λ id. index.new.table.last ≤ id) }
+    ensures before { OnOk result (AreBefore markers.new index.new.lists) }
+{
+    let mut id = last;
+    'writing: for _ in 0..count {
+        if id < 1_000 {
+            id += 1;
+            write(index, markers, &doc(alloc, id, text)?)?;
+        }
+    }
+    Ok(id)
+}
+
+fn query_of(alloc: Global, text: &[u8], def: &IndexDef) -> Result<Option<Query>, NoMemory> {
+    if 100 < text.len() || 5 < def.fields.len() {
+        return Ok(None);
+    }
+    let params = ListOf::new(alloc);
+    Ok(parse(alloc, text, def, &params).ok())
+}
+
+fn plan_of<L: Ledger>(
+    alloc: Global,
+    index: &FtIndex,
+    query: &Query,
+    blank: Blank,
+) -> Result<Iter, NoMemory>
+    requires name { blank.name ≡ L.name }
+    requires parts { blank.parts ≡ L.parts }
+    requires some { 0 < L.parts }
+{
+    let mut steps = Steps::<L>::new(blank);
+    let hints = Hints(ListOf::new(alloc));
+    plan(alloc, index, query, &hints, 0, &mut steps)
+}
+
+// How many unions lie in one another.
+fn depth(iter: &Iter) -> u64 {
+    let mut deepest = 0;
+    if let Iter::Or(parts) = iter {
+        for part in parts.as_slice() {
+            deepest = depth(&part.iter).max(deepest);
+        }
+        return deepest.saturating_add(1);
+    }
+    0
+}
+
+fn put_parts(iter: &Iter, out: &mut Answer) {
+    let Iter::And(parts) = iter else {
+        return put_kind(iter, out);
+    };
+    for part in parts.as_slice() {
+        out.put(b" ");
+        put_kind(part, out);
+    }
+}
+
+// What a part is; a leaf is written as its word.
+fn put_kind(iter: &Iter, out: &mut Answer) {
+    match iter {
+        Iter::Leaf(leaf) => put_leaf(leaf, out),
+        Iter::And(_) => out.put(b"(and)"),
+        Iter::Or(_) => out.put(b"(or)"),
+        Iter::Not(_) => out.put(b"(not)"),
+        Iter::Optional(_) => out.put(b"(optional)"),
+        Iter::All => out.put(b"(all)"),
+        Iter::Phrase(_) => out.put(b"(phrase)"),
+        Iter::Empty => out.put(b"(none)"),
+    }
+}
+
+fn put_leaf(leaf: &Leaf, out: &mut Answer) {
+    match &leaf.list {
+        ListName::Word { text } => out.put_word(text.as_slice()),
+        ListName::Tag { .. } => out.put(b"(tag)"),
+        ListName::Range { .. } => out.put(b"(range)"),
+    }
+}

@@ -1,0 +1,322 @@
+//! Sessions of commands with the reply that each wants, run through the server and compared.
+//!
+//! Standard input has the sessions. `== NAME` begins one, which runs in a fresh server; each further line is
+//! a row of `row_text`, a command and its reply. A row that begins with `N..M` stands for one row for each of
+//! these numbers, with `{}` in its words and its reply replaced by the number. Each row that is answered
+//! otherwise is told, and the last line counts them.
+#![tactic(auto)]
+
+use fs_ports::{MemLink, ScriptedClock};
+use ft_base::{Bytes, ListOf, NoMemory, put_int, read_int};
+use ft_server::{Exit, run};
+use row_text::{Row, fits, put_lines, read_reply, read_row, wanted_lines};
+use std::alloc::Global;
+use std::io;
+
+/// The most bytes that are shown of what came.
+const MOST_SHOWN: usize = 400;
+
+/// The most bytes that a link takes in one write.
+const WRITE_MAX: usize = 1_000;
+
+/// A name, and the commands of one server from its start.
+#[derive(Drop)]
+struct Session {
+    name: String,
+    rows: Vec<Row>,
+}
+
+/// What was run so far, how many rows were answered otherwise, and what is told of these.
+#[derive(Drop)]
+struct Tally {
+    sessions: u64,
+    rows: u64,
+    differ: u64,
+    told: Vec<u8>,
+}
+
+fn main(rt: HostRuntime) -> io::Result<()> {
+    let text = io::read_to_string(rt.alloc(), rt.reader())?;
+    let tally = run_all(rt.alloc(), text.as_str())?;
+    let told = std::str::from_utf8(tally.told.as_slice()).unwrap_or("?");
+    println!(rt;
+        "{told}{} sessions, {} rows, {} differ",
+        tally.sessions, tally.rows, tally.differ
+    )
+}
+
+// Runs the sessions of a text.
+fn run_all(alloc: Global, text: &str) -> Result<Tally, NoMemory> {
+    let mut session = Session {
+        name: String::new(alloc),
+        rows: Vec::new(alloc),
+    };
+    let mut tally = Tally {
+        sessions: 0,
+        rows: 0,
+        differ: 0,
+        told: Vec::new(alloc),
+    };
+    for line in text.lines() {
+        take_line(alloc, line, &mut session, &mut tally)?;
+    }
+    end_session(alloc, &mut session, &mut tally)?;
+    Ok(tally)
+}
+
+// Begins another session where the line has its name, and else adds the line's rows.
+fn take_line(
+    alloc: Global,
+    line: &str,
+    session: &mut Session,
+    tally: &mut Tally,
+) -> Result<(), NoMemory> {
+    match line.strip_prefix("== ") {
+        Some(name) => begin_session(alloc, name, session, tally),
+        None => put_rows(alloc, line, &mut session.rows),
+    }
+}
+
+fn begin_session(
+    alloc: Global,
+    name: &str,
+    session: &mut Session,
+    tally: &mut Tally,
+) -> Result<(), NoMemory> {
+    end_session(alloc, session, tally)?;
+    session.name.push_str(name)
+}
+
+// Runs a session that has rows, and leaves one without.
+fn end_session(alloc: Global, session: &mut Session, tally: &mut Tally) -> Result<(), NoMemory> {
+    if !session.rows.is_empty() {
+        tally.sessions = tally.sessions.saturating_add(1);
+        run_session(alloc, session, tally)?;
+    }
+    session.name.clear();
+    session.rows.clear();
+    Ok(())
+}
+
+// Appends the rows that a line stands for.
+fn put_rows(alloc: Global, line: &str, rows: &mut Vec<Row>) -> Result<(), NoMemory> {
+    let Some(row) = read_row(alloc, line.as_bytes())? else {
+        return Ok(());
+    };
+    match numbers_of(row.words.as_slice()) {
+        Some((first, last)) => put_numbered(alloc, &row, first, last, rows),
+        None => push_row(row, rows),
+    }
+}
+
+fn push_row(row: Row, rows: &mut Vec<Row>) -> Result<(), NoMemory> {
+    rows.push(row)?;
+    Ok(())
+}
+
+// The numbers that a row begins with.
+fn numbers_of(words: &[Vec<u8>]) -> Option<(i64, i64)> {
+    let (first, last) = cut_at_dots(words.first()?.as_slice())?;
+    Some((read_int(first)?, read_int(last)?))
+}
+
+// What a word has before its two dots, and what behind them.
+fn cut_at_dots(word: &[u8]) -> Option<(&[u8], &[u8])> {
+    let dots = word.iter().position(|byte| *byte == b'.')?;
+    match word.split_at(dots.min(word.len())) {
+        (first, [b'.', b'.', last @ ..]) => Some((first, last)),
+        _ => None,
+    }
+}
+
+// Appends the row of each number.
+fn put_numbered(
+    alloc: Global,
+    row: &Row,
+    first: i64,
+    last: i64,
+    rows: &mut Vec<Row>,
+) -> Result<(), NoMemory> {
+    for number in first..=last {
+        push_row(numbered(alloc, row, number)?, rows)?;
+    }
+    Ok(())
+}
+
+// The row of a number.
+fn numbered(alloc: Global, row: &Row, number: i64) -> Result<Row, NoMemory> {
+    let words = words_with(alloc, row.words.as_slice(), number)?;
+    let want = with_number(alloc, row.want.as_slice(), number)?;
+    Ok(Row { words, want })
+}
+
+// The words behind the numbers that a row begins with.
+fn words_with(alloc: Global, words: &[Vec<u8>], number: i64) -> Result<Vec<Vec<u8>>, NoMemory> {
+    let mut all = Vec::new(alloc);
+    for word in words.iter().skip(1) {
+        all.push(with_number(alloc, word.as_slice(), number)?)?;
+    }
+    Ok(all)
+}
+
+fn with_number(alloc: Global, text: &[u8], number: i64) -> Result<Vec<u8>, NoMemory> {
+    let mut out = Vec::new(alloc);
+    let mut rest = text;
+    for _ in 0..text.len() {
+        rest = put_first(&mut out, rest, number)?;
+    }
+    Ok(out)
+}
+
+// Appends the first byte of a text, or the number for a place that is left for it, and answers the rest.
+fn put_first<'a>(out: &mut Vec<u8>, text: &'a [u8], number: i64) -> Result<&'a [u8], NoMemory> {
+    match text {
+        [b'{', b'}', rest @ ..] => {
+            put_int(out, number)?;
+            Ok(rest)
+        }
+        [byte, rest @ ..] => {
+            out.push(*byte)?;
+            Ok(rest)
+        }
+        [] => Ok(text),
+    }
+}
+
+// Runs a session, and compares its replies one by one.
+fn run_session(alloc: Global, session: &Session, tally: &mut Tally) -> Result<(), NoMemory> {
+    let mut out = Vec::new(alloc);
+    let exit = answer(alloc, session.rows.as_slice(), &mut out)?;
+    check_session(alloc, session, out.as_slice(), exit, tally)
+}
+
+// Appends what the server writes where it is sent the rows, and answers how it ended.
+fn answer(alloc: Global, rows: &[Row], out: &mut Vec<u8>) -> Result<Exit, NoMemory> {
+    let mut link = link_over(alloc, requests_of(alloc, rows)?)?;
+    let exit = script(alloc, &mut link);
+    out.extend_from_slice(link.output())?;
+    Ok(exit)
+}
+
+// All commands of a session as a client sends them.
+fn requests_of(alloc: Global, rows: &[Row]) -> Result<Vec<u8>, NoMemory> {
+    let mut requests = Vec::new(alloc);
+    for row in rows {
+        put_request(&mut requests, row.words.as_slice())?;
+    }
+    Ok(requests)
+}
+
+fn put_request(out: &mut Vec<u8>, words: &[Vec<u8>]) -> Result<(), NoMemory> {
+    put_count(out, b'*', words.len())?;
+    for word in words {
+        put_count(out, b'$', word.len())?;
+        out.extend_from_slice(word.as_slice())?;
+        out.extend_from_slice(b"\r\n")?;
+    }
+    Ok(())
+}
+
+fn put_count(out: &mut Vec<u8>, mark: u8, count: usize) -> Result<(), NoMemory> {
+    out.push(mark)?;
+    put_int(out, i64::try_from(count).unwrap_or(0))?;
+    out.extend_from_slice(b"\r\n")
+}
+
+// A link that gives the requests in one piece, and whose calls do not fail.
+fn link_over(alloc: Global, requests: Vec<u8>) -> Result<MemLink, NoMemory> {
+    let mut pieces = ListOf::new(alloc);
+    pieces.push(Bytes::from_vec(requests))?;
+    let no_reads = ListOf::new(alloc);
+    MemLink::new(alloc, pieces, no_reads, ListOf::new(alloc), WRITE_MAX)
+}
+
+// Serves the link, at a clock that stands still.
+fn script(alloc: Global, link: &mut MemLink) -> Exit {
+    let Ok(words) = words_of(alloc, "script") else {
+        return Exit::NoMemory;
+    };
+    let mut moments = ListOf::new(alloc);
+    if moments.push(5).is_err() {
+        return Exit::NoMemory;
+    }
+    let mut clock = ScriptedClock::new(moments);
+    run(alloc, words.as_slice(), link, &mut clock)
+}
+
+// A command line of one word.
+fn words_of(alloc: Global, word: &str) -> Result<Vec<String>, NoMemory> {
+    let mut words = Vec::new(alloc);
+    words.push(String::from_str(alloc, word)?)?;
+    Ok(words)
+}
+
+// Compares the replies with what the rows want, and how the server ended.
+fn check_session(
+    alloc: Global,
+    session: &Session,
+    replies: &[u8],
+    exit: Exit,
+    tally: &mut Tally,
+) -> Result<(), NoMemory> {
+    let name = session.name.as_bytes();
+    let mut rest = replies;
+    for row in &session.rows {
+        rest = check_row(alloc, name, row, rest, tally)?;
+    }
+    if exit == Exit::Done && rest.is_empty() {
+        return Ok(());
+    }
+    tally.differ = tally.differ.saturating_add(1);
+    tally.told.extend_from_slice(name)?;
+    tally
+        .told
+        .extend_from_slice(b": does not end with its last row\n")
+}
+
+// Compares the first reply with what the row wants, and answers the replies behind it.
+fn check_row<'a>(
+    alloc: Global,
+    name: &[u8],
+    row: &Row,
+    replies: &'a [u8],
+    tally: &mut Tally,
+) -> Result<&'a [u8], NoMemory> {
+    let mut came = Vec::new(alloc);
+    let rest = read_reply(alloc, replies, &mut came)?;
+    tally.rows = tally.rows.saturating_add(1);
+    if !is_wanted(alloc, row.want.as_slice(), came.as_slice())? {
+        tally.differ = tally.differ.saturating_add(1);
+        tell(&mut tally.told, name, row, came.as_slice())?;
+    }
+    Ok(rest)
+}
+
+fn is_wanted(alloc: Global, want: &[u8], came: &[Vec<u8>]) -> Result<bool, NoMemory> {
+    let want = wanted_lines(alloc, want)?;
+    Ok(fits(want.as_slice(), came))
+}
+
+// Tells of a row that was answered otherwise.
+fn tell(out: &mut Vec<u8>, name: &[u8], row: &Row, came: &[Vec<u8>]) -> Result<(), NoMemory> {
+    out.extend_from_slice(name)?;
+    out.extend_from_slice(b": ")?;
+    put_row(out, row)?;
+    out.extend_from_slice(b"\n    came: ")?;
+    put_shown(out, came)?;
+    out.extend_from_slice(b"\n")
+}
+
+fn put_row(out: &mut Vec<u8>, row: &Row) -> Result<(), NoMemory> {
+    put_lines(out, row.words.as_slice())?;
+    out.extend_from_slice(b" | ")?;
+    out.extend_from_slice(row.want.as_slice())
+}
+
+// Appends lines as a row has them, shortened.
+fn put_shown(out: &mut Vec<u8>, lines: &[Vec<u8>]) -> Result<(), NoMemory> {
+    let most = out.len().saturating_add(MOST_SHOWN);
+    put_lines(out, lines)?;
+    out.truncate(most);
+    Ok(())
+}
