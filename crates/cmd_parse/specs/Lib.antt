@@ -2,4 +2,5 @@ pub mod Asking
 pub mod Commands
 pub mod Lawful
 pub mod Read
+pub mod Refusals
 pub mod Search

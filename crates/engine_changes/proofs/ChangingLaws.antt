@@ -11,7 +11,7 @@ use Rattle.ft_base.specs.declared.doc.Doc.{Doc}
 use Rattle.ft_machine.specs.Machine.{State}
 use Rattle.engine_changes.specs.Changing.{HasMore, IsReady, changed, is_change}
 use Rattle.indexed_store.specs.Standing.{AreApart, AreWritten, IndexStands, InStep, markers_at}
-use Rattle.indexed_store.specs.Definitions.{Defined, index_of, with_index, without_index}
+use Rattle.ft_machine.specs.Definitions.{Defined, index_of, with_index, without_index}
 use Rattle.indexed_store.specs.DefinitionsOf.{defined, definitions_of}
 use Rattle.ft_machine.specs.Step.{last_number, next_number}
 use Rattle.engine_changes.specs.declared.change.Change.{Change}

@@ -11,7 +11,7 @@ ghost use Rattle.ft_engine.specs.Quiet.{IsQuiet};
 ghost use Rattle.ft_engine.specs.Stands.{IsIndexed, opened};
 ghost use Rattle.engine_changes.specs.declared.change.Change.TheVariants.{Nothing};
 ghost use Rattle.index_commands.specs.Exactness.{IsRefusal, ReadsFew, TellsExactly};
-ghost use Rattle.ft_machine.specs.Refusals.{out_of_memory};
+ghost use Rattle.ft_base.specs.Memory.{out_of_memory};
 ghost use Rattle.ft_machine.specs.Step.{Answers, At, Does, next_number};
 
 use crate::prepared::Prepared;

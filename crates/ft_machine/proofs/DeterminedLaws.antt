@@ -10,7 +10,7 @@ use Rattle.ft_base.specs.declared.reply.Reply.{Reply}
 use Rattle.ft_base.specs.declared.reply.Reply.TheVariants.{Fault}
 use Rattle.cmd_parse.specs.Read.{Asked, Plain, CreateIndex, AlterIndex, InfoOf, Search, read}
 use Rattle.cmd_parse.specs.declared.command.CmdFault.{CmdFault}
-use Rattle.indexed_store.specs.Definitions.{Defined, index_of}
+use Rattle.ft_machine.specs.Definitions.{Defined, index_of}
 use Rattle.query_lex.specs.Lexemes.{lexemes}
 use Rattle.query_lex.specs.declared.fault.LexFault.{LexFault}
 use Rattle.query_lex.specs.declared.lexeme.Lexeme.{Lexeme}
@@ -20,7 +20,7 @@ use Rattle.query_grammar.specs.declared.fault.QueryFault.TheVariants.{Syntax, Un
 use Rattle.ft_machine.specs.Machine.{Outcome, State, at_moment}
 use Rattle.ft_machine.specs.Informing.{IsInformed}
 use Rattle.ft_machine.specs.Indexes.{unknown_index}
-use Rattle.ft_machine.specs.Refusals.{out_of_memory}
+use Rattle.ft_base.specs.Memory.{out_of_memory}
 use Rattle.ft_machine.specs.Searching.{IsAnswered, IsSearched, answer_reply}
 use Rattle.ft_machine.specs.Step.{Answers, Completes, Does, Gives, Obeys, Says, Takes}
 

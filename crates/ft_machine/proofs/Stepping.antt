@@ -7,7 +7,8 @@ use Rattle.cmd_parse.specs.Read.{Asked, IsReading, read}
 use Rattle.cmd_parse.specs.declared.command.CmdFault.{CmdFault}
 use Rattle.cmd_parse.specs.declared.command.CmdFault.TheVariants.{Unknown, Arity, Syntax, NotInteger, BadDb, NotBuilt, Schema, NoMemory}
 use Rattle.ft_base.specs.declared.reply.Reply.TheVariants.{Fault}
-use Rattle.ft_machine.specs.Refusals.{out_of_memory, refusal}
+use Rattle.cmd_parse.specs.Refusals.{refusal}
+use Rattle.ft_base.specs.Memory.{out_of_memory}
 use Rattle.ft_machine.specs.Machine.{Outcome, State, answered, at_moment}
 use Rattle.ft_machine.specs.Step.{Answers, At, Does, Gives, Obeys, Takes, Told, last_number}
 

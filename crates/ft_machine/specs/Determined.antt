@@ -2,9 +2,9 @@
 use Rattle.std.specs.Prelude.{◌≡◌, ◌≢◌, ℕ, List, None, Ok}
 use Rattle.cmd_parse.specs.Read.{InfoOf, read}
 use Rattle.ft_base.specs.Reply.{spelling}
-use Rattle.indexed_store.specs.Definitions.{index_of}
+use Rattle.ft_machine.specs.Definitions.{index_of}
 use Rattle.ft_machine.specs.Machine.{State}
-use Rattle.ft_machine.specs.Refusals.{out_of_memory}
+use Rattle.ft_base.specs.Memory.{out_of_memory}
 use Rattle.ft_machine.specs.Step.{Answers}
 
 -- Two steps of one command from one state, neither of which tells of want of memory, write one reply and lead to one state.

@@ -4,9 +4,9 @@ use Rattle.ft_base.specs.declared.doc.Doc.{Doc}
 use Rattle.ft_base.specs.declared.reply.Reply.{Reply}
 use Rattle.ft_base.specs.declared.reply.Reply.TheVariants.{Fault}
 use Rattle.ft_meaning.specs.Member.{members}
-use Rattle.index_info.specs.Info.{info_reply}
+use Rattle.ft_machine.specs.Info.{info_reply}
 use Rattle.ft_meaning.specs.Records.{live_records}
-use Rattle.indexed_store.specs.Definitions.{Defined}
+use Rattle.ft_machine.specs.Definitions.{Defined}
 use Rattle.ft_machine.specs.Indexes.{unknown_index}
 
 -- A reply tells of an index its definition, how many members it has, and how often a document failed to be one. It tells a

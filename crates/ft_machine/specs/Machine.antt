@@ -4,8 +4,8 @@ use Rattle.ft_base.specs.Hash.{Hash}
 use Rattle.ft_base.specs.Space.{doc_of}
 use Rattle.ft_base.specs.declared.doc.Doc.{Doc}
 use Rattle.ft_base.specs.declared.reply.Reply.{Reply}
-use Rattle.hash_replies.specs.Reads.{hash_in}
-use Rattle.indexed_store.specs.Definitions.{Defined}
+use Rattle.ft_machine.specs.Reads.{hash_in}
+use Rattle.ft_machine.specs.Definitions.{Defined}
 
 pub record State : Type 0 where
   -- the documents, in order of ids

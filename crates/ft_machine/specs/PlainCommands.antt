@@ -7,8 +7,8 @@ use Rattle.ft_base.specs.Number.{int_of}
 use Rattle.ft_base.specs.Space.{doc_of}
 use Rattle.ft_base.specs.declared.reply.Reply.TheVariants.{Line, Number, Bulk, Array}
 use Rattle.ft_machine.specs.Arguments.{first, second, third}
-use Rattle.hash_replies.specs.Reads.{in_turn, kind_of, names, one_if, present, value_reply, values}
-use Rattle.indexed_store.specs.Definitions.{index_of}
+use Rattle.ft_machine.specs.Reads.{in_turn, kind_of, names, one_if, present, value_reply, values}
+use Rattle.ft_machine.specs.Definitions.{index_of}
 use Rattle.ft_machine.specs.Indexes.{dropped, listed, tag_vals}
 use Rattle.ft_machine.specs.Machine.{Outcome, State, answered, hash_of}
 use Rattle.ft_machine.specs.Writes.{del, hdel, hincrby, hset, hset_unless, number_in, rename}

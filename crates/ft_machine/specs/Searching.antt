@@ -7,13 +7,13 @@ use Rattle.ft_base.specs.declared.query.Query.{Query}
 use Rattle.ft_base.specs.declared.reply.Reply.{Reply}
 use Rattle.ft_base.specs.declared.reply.Reply.TheVariants.{Fault}
 use Rattle.ft_meaning.specs.Holds.{found_of}
-use Rattle.indexed_store.specs.Definitions.{Defined}
+use Rattle.ft_machine.specs.Definitions.{Defined}
 use Rattle.query_grammar.specs.Answer.{IsAnswer}
 use Rattle.query_grammar.specs.declared.fault.QueryFault.{QueryFault}
 use Rattle.query_grammar.specs.declared.fault.QueryFault.TheVariants.{NoMemory}
-use Rattle.search_exec.specs.Replies.{found_reply}
+use Rattle.ft_machine.specs.Replies.{found_reply}
 use Rattle.ft_machine.specs.Indexes.{unknown_index}
-use Rattle.ft_machine.specs.Refusals.{query_refusal}
+use Rattle.query_grammar.specs.Refusals.{query_refusal}
 
 -- what a query's text is answered in an index: by its tree what that finds, by its fault why it is no query
 abbrev pub answer_reply : Bool → IndexDef → List Doc → Result Query QueryFault → Reply

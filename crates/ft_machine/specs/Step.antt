@@ -6,10 +6,11 @@ use Rattle.ft_base.specs.Reply.{spelling}
 use Rattle.ft_base.specs.declared.reply.Reply.{Reply}
 use Rattle.ft_base.specs.declared.reply.Reply.TheVariants.{Fault}
 use Rattle.ft_machine.specs.PlainCommands.{PlainMayWant, plain}
-use Rattle.indexed_store.specs.Definitions.{index_of}
+use Rattle.ft_machine.specs.Definitions.{index_of}
 use Rattle.ft_machine.specs.Informing.{IsInformed}
 use Rattle.ft_machine.specs.Indexes.{altered, created}
-use Rattle.ft_machine.specs.Refusals.{out_of_memory, refusal}
+use Rattle.cmd_parse.specs.Refusals.{refusal}
+use Rattle.ft_base.specs.Memory.{out_of_memory}
 use Rattle.ft_machine.specs.Searching.{IsSearched}
 use Rattle.ft_machine.specs.Machine.{Outcome, State, answered, at_moment}
 

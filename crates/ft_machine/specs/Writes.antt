@@ -8,8 +8,8 @@ use Rattle.ft_base.specs.Number.{int_of, is_i64}
 use Rattle.ft_base.specs.Space.{erase, write}
 use Rattle.ft_base.specs.declared.doc.Doc.{Doc}
 use Rattle.ft_base.specs.declared.reply.Reply.TheVariants.{Line, Fault, Number}
-use Rattle.indexed_store.specs.Definitions.{tried}
-use Rattle.indexed_store.specs.Removing.{without_keys}
+use Rattle.ft_machine.specs.Definitions.{tried}
+use Rattle.ft_machine.specs.Removing.{without_keys}
 use Rattle.ft_machine.specs.Arguments.{first, second}
 use Rattle.ft_machine.specs.Machine.{Outcome, State, answered, hash_of}
 

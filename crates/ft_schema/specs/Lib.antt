@@ -7,4 +7,5 @@ pub mod Limits
 pub mod Names
 pub mod Options
 pub mod Reading
+pub mod Refusals
 pub mod Schema

@@ -24,11 +24,11 @@ use Rattle.ft_base.specs.Reply.{spelling}
 use Rattle.ft_base.specs.Space.{doc_of, erase}
 use Rattle.ft_base.specs.declared.doc.Doc.{Doc}
 use Rattle.ft_base.specs.declared.reply.Reply.TheVariants.{Line, Number}
-use Rattle.indexed_store.specs.Definitions.{Defined}
+use Rattle.ft_machine.specs.Definitions.{Defined}
 use Rattle.hash_commands.specs.Counting.{before, ids_of}
 use Rattle.ft_machine.specs.Machine.{State}
 use Rattle.ft_machine.specs.Step.{Does}
-use Rattle.indexed_store.specs.Removing.{without_keys}
+use Rattle.ft_machine.specs.Removing.{without_keys}
 use Rattle.indexed_store.proofs.StepLaws.{id_of}
 
 before-append : (doc : Option Doc) (front back : List ℕ) → before doc (front ++ back) ≡ before doc front ++ back

@@ -11,7 +11,7 @@ use Rattle.ft_base.specs.declared.doc.Doc.{Doc}
 use Rattle.ft_base.specs.declared.limits.TheConstants.{MAX_WORD_BYTES}
 use Rattle.ft_meaning.specs.Meaning.{ValuesFit}
 use Rattle.cmd_parse.specs.Asking.{AreWords}
-use Rattle.hash_replies.specs.Reads.{hash_in}
+use Rattle.ft_machine.specs.Reads.{hash_in}
 use Rattle.ft_machine.specs.Writes.{set_pairs, without_fields}
 
 abbrev fits_in : List ℕ × List ℕ → Type 0

@@ -10,10 +10,10 @@ ghost use Rattle.engine_changes.specs.Changing.{IsReady, changed, is_change};
 ghost use Rattle.indexed_store.specs.Standing.{InStep};
 ghost use Rattle.indexed_store.specs.DefinitionsOf.{definitions_of};
 ghost use Rattle.engine_changes.specs.States.{state_of};
-ghost use Rattle.ft_machine.specs.Refusals.{out_of_memory};
+ghost use Rattle.ft_base.specs.Memory.{out_of_memory};
 ghost use Rattle.ft_machine.specs.Step.{Does};
 ghost use Rattle.ft_machine.specs.Writes.{fields_gone, without_fields};
-ghost use Rattle.hash_replies.specs.Reads.{hash_in};
+ghost use Rattle.ft_machine.specs.Reads.{hash_in};
 
 use crate::versions::left_of;
 use engine_changes::Change;

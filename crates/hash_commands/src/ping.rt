@@ -3,7 +3,7 @@ ghost use Rattle.reply_buffer.specs.declared.short_reply.TheConstants.{SHORT_REP
 ghost use Rattle.std.specs.Prelude.{◌≡◌, ◌≤◌, ◌⊎◌, ◌++◌, [], vec_capacity, OnOk, OnErr};
 ghost use Rattle.ft_base.specs.Reply.{spelling};
 ghost use Rattle.ft_base.specs.declared.reply.Reply.TheVariants.{Bulk};
-ghost use Rattle.ft_machine.specs.Refusals.{out_of_memory};
+ghost use Rattle.ft_base.specs.Memory.{out_of_memory};
 
 use ft_base::{Bytes, NoMemory, Reply, put_reply};
 use reply_buffer::put_no_memory;

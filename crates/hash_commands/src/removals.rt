@@ -13,7 +13,7 @@ ghost use Rattle.engine_changes.specs.Changing.{IsReady, changed};
 ghost use Rattle.indexed_store.specs.Standing.{InStep};
 ghost use Rattle.indexed_store.specs.DefinitionsOf.{definitions_of};
 ghost use Rattle.ft_machine.specs.Step.{Does};
-ghost use Rattle.indexed_store.specs.Removing.{without_keys};
+ghost use Rattle.ft_machine.specs.Removing.{without_keys};
 ghost use Rattle.ft_index.specs.Index.{Index};
 
 use engine_changes::Change;

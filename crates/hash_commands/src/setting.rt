@@ -11,10 +11,10 @@ ghost use Rattle.indexed_store.specs.Writing.{Waits};
 ghost use Rattle.indexed_store.specs.Standing.{InStep};
 ghost use Rattle.indexed_store.specs.DefinitionsOf.{definitions_of};
 ghost use Rattle.engine_changes.specs.States.{state_of};
-ghost use Rattle.ft_machine.specs.Refusals.{out_of_memory};
+ghost use Rattle.ft_base.specs.Memory.{out_of_memory};
 ghost use Rattle.ft_machine.specs.Step.{Does};
 ghost use Rattle.ft_machine.specs.Writes.{set_pairs};
-ghost use Rattle.hash_replies.specs.Reads.{hash_in};
+ghost use Rattle.ft_machine.specs.Reads.{hash_in};
 
 use crate::versions::{copy_of, set_pairs};
 use engine_changes::Change;

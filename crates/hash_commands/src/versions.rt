@@ -5,7 +5,7 @@ ghost use Rattle.std.specs.Str.{bytes_eq};
 ghost use Rattle.ft_base.specs.Hash.{get_field, set_field};
 ghost use Rattle.ft_base.specs.Space.{doc_of};
 ghost use Rattle.ft_machine.specs.Writes.{number_in, set_pairs, without_fields};
-ghost use Rattle.hash_replies.specs.Reads.{hash_in};
+ghost use Rattle.ft_machine.specs.Reads.{hash_in};
 
 use ft_base::{Bytes, HashRec, NoMemory, Words, read_int};
 use hash_store::HashStore;

@@ -10,7 +10,7 @@ use Rattle.ft_base.specs.declared.reply.Reply.{Reply}
 use Rattle.ft_base.specs.declared.reply.Reply.TheVariants.{Array, Bulk, NullBulk, Number, rolls-Array, rolls-Bulk, rolls-NullBulk, rolls-Number}
 use Rattle.ft_base.specs.declared.reply.Reply.TheFolds.{fold-roll-Reply}
 use Rattle.ft_base.specs.declared.reply.Reply.TheOpen as layer
-use Rattle.hash_replies.specs.Reads.{in_turn, names, value_reply, values}
+use Rattle.ft_machine.specs.Reads.{in_turn, names, value_reply, values}
 
 -- one reply more
 pub grown : (old new before after : List Reply) (said shown : Reply) → new ≡ old ++ said ∷ [] → old ≡ before → said ≡ shown → after ≡ before ++ shown ∷ [] → new ≡ after

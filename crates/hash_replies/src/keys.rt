@@ -1,7 +1,7 @@
 //! Which keys have a hash.
 ghost use Rattle.std.specs.Prelude.{◌≡◌, is_some};
 ghost use Rattle.ft_base.specs.Space.{doc_of};
-ghost use Rattle.hash_replies.specs.Reads.{present};
+ghost use Rattle.ft_machine.specs.Reads.{present};
 
 use ft_base::Words;
 use hash_store::HashStore;

@@ -1,7 +1,7 @@
 //! What the commands that read hashes and keys are answered.
 //!
 //! Each call asks the store for one document at the most, and copies of it only what the reply shows.
-//! Read `specs/Reads.antt` first, which says what is answered, then `listings.rt`.
+//! What is answered is defined in `ft_machine`, `specs/Reads.antt`; read `listings.rt` first.
 #![tactic(auto)]
 
 mod keys;

@@ -4,7 +4,7 @@ ghost use Rattle.ft_base.specs.Reply.{fits_wire};
 ghost use Rattle.ft_base.specs.Space.{doc_of};
 ghost use Rattle.ft_base.specs.declared.reply.Reply.TheVariants.{Array, Bulk};
 ghost use Rattle.hash_store.specs.Store.{after_read};
-ghost use Rattle.hash_replies.specs.Reads.{hash_in, in_turn, names, values};
+ghost use Rattle.ft_machine.specs.Reads.{hash_in, in_turn, names, values};
 
 use ft_base::{Bytes, HashRec, ListOf, NoMemory, Reply};
 use hash_store::HashStore;

@@ -5,7 +5,7 @@ ghost use Rattle.ft_base.specs.Reply.{fits_wire};
 ghost use Rattle.ft_base.specs.Space.{doc_of};
 ghost use Rattle.ft_base.specs.declared.reply.Reply.TheVariants.{Array};
 ghost use Rattle.hash_store.specs.Store.{after_read};
-ghost use Rattle.hash_replies.specs.Reads.{hash_in, value_reply};
+ghost use Rattle.ft_machine.specs.Reads.{hash_in, value_reply};
 
 use ft_base::{HashRec, ListOf, NoMemory, Reply, Words};
 use hash_store::HashStore;

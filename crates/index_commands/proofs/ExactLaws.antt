@@ -7,17 +7,17 @@ use Rattle.ft_base.specs.declared.definition.IndexDef.{IndexDef}
 use Rattle.ft_base.specs.declared.doc.Doc.{Doc}
 use Rattle.ft_base.specs.declared.reply.Reply.{Reply}
 use Rattle.ft_index.specs.Index.{Index}
-use Rattle.ft_machine.specs.Refusals.{want_of_memory}
+use Rattle.ft_base.specs.Memory.{want_of_memory}
 use Rattle.ft_machine.specs.Step.{Told}
 use Rattle.index_commands.specs.Exactness.{IsRefusal, ReadsFew, ReadsRows, TellsEntries, TellsExactly, TellsOf}
-use Rattle.index_info.specs.Info.{info_reply}
-use Rattle.index_info.specs.declared.info.Counts.{Counts}
+use Rattle.ft_machine.specs.Info.{info_reply}
+use Rattle.ft_machine.specs.declared.counts.Counts.{Counts}
 use Rattle.index_lists.specs.Lists.{AllLists}
 use Rattle.index_lists.specs.Records.{all_entries}
 use Rattle.indexed_store.specs.Named.{is_named}
 use Rattle.hash_store.specs.Store.{reads_after}
 use Rattle.search_exec.specs.Ids.{reads_for}
-use Rattle.search_exec.specs.Replies.{found_reply}
+use Rattle.ft_machine.specs.Replies.{found_reply}
 
 -- what a query found was answered, or memory was wanting
 pub reads-found : {E : Type 0} (no_content : Bool) (docs : List Doc) (written : List ℕ) (made : Result Reply E) (old new : ℕ) → IfOk made (λ reply. reply ≡ found_reply no_content docs)

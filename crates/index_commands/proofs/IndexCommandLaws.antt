@@ -23,19 +23,19 @@ use Rattle.ft_schema.specs.Schema.{extended, has_any_alias, is_over}
 use Rattle.ft_schema.specs.declared.fault.SchemaFault.{SchemaFault}
 use Rattle.ft_schema.specs.declared.fault.SchemaFault.TheVariants as schema
 use Rattle.indexed_store.proofs.NamedLaws.{index_of-named}
-use Rattle.indexed_store.specs.Definitions.{Defined, failures_over, index_of, with_index, without_index}
+use Rattle.ft_machine.specs.Definitions.{Defined, failures_over, index_of, with_index, without_index}
 use Rattle.indexed_store.specs.DefinitionsOf.{defined, definitions_of}
 use Rattle.indexed_store.specs.Named.{is_named}
-use Rattle.indexed_store.specs.Removing.{without_members}
+use Rattle.ft_machine.specs.Removing.{without_members}
 use Rattle.inverted_list.specs.Listing.{RisesAbove}
-use Rattle.tag_values.specs.Values.{tag_values}
+use Rattle.ft_machine.specs.TagValues.{tag_values}
 use Rattle.hash_replies.proofs.ReadsLaws.{fits-Bulk, shown-fits}
 use Rattle.ft_machine.proofs.Stepping.{stays, told}
 use Rattle.ft_machine.specs.Arguments.{first, second}
 use Rattle.ft_machine.specs.Indexes.{altered, altered_to, created, defines, dropped, index_over, listed, most_indexes, name_bulk, tag_field, tag_vals, tags_reply, unknown_index}
 use Rattle.ft_machine.specs.Machine.{Outcome, State, answered}
 use Rattle.engine_changes.specs.Changing.{HasMore}
-use Rattle.ft_machine.specs.Refusals.{schema_refusal}
+use Rattle.ft_schema.specs.Refusals.{schema_refusal}
 use Rattle.ft_machine.specs.PlainCommands.{PlainMayWant, plain}
 use Rattle.ft_machine.specs.Step.{Does, Told}
 

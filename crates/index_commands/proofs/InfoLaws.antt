@@ -10,11 +10,11 @@ use Rattle.ft_base.specs.declared.reply.Reply.{Reply}
 use Rattle.ft_base.specs.declared.reply.Reply.TheVariants.{Fault}
 use Rattle.ft_index.specs.Index.{Index, Indexes}
 use Rattle.ft_meaning.specs.Member.{members}
-use Rattle.index_info.specs.Info.{info_reply}
+use Rattle.ft_machine.specs.Info.{info_reply}
 use Rattle.index_lists.specs.Has.{Has}
 use Rattle.index_lists.specs.Lists.{AllLists}
 use Rattle.ft_meaning.specs.Records.{live_records}
-use Rattle.indexed_store.specs.Definitions.{Defined}
+use Rattle.ft_machine.specs.Definitions.{Defined}
 use Rattle.indexed_store.specs.DefinitionsOf.{defined, definitions_of}
 use Rattle.indexed_store.specs.Named.{is_named}
 use Rattle.inverted_list.specs.Listing.{RisesAbove, last_id}

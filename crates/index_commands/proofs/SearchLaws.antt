@@ -16,7 +16,7 @@ use Rattle.ft_index.specs.Index.{Index, IsIndex}
 use Rattle.ft_meaning.specs.Holds.{found_of}
 use Rattle.ft_meaning.specs.Meaning.{ValuesFit}
 use Rattle.ft_meaning.specs.Member.{member, members}
-use Rattle.indexed_store.specs.Definitions.{Defined, index_of}
+use Rattle.ft_machine.specs.Definitions.{Defined, index_of}
 use Rattle.indexed_store.specs.DefinitionsOf.{defined, definitions_of}
 use Rattle.indexed_store.specs.Named.{is_named}
 use Rattle.indexed_store.proofs.NamedLaws.{index_of-named}
@@ -24,10 +24,11 @@ use Rattle.query_grammar.specs.Answer.{IsAnswer}
 use Rattle.query_grammar.specs.declared.fault.QueryFault.{QueryFault}
 use Rattle.query_grammar.specs.declared.fault.QueryFault.TheVariants.{Syntax, UnknownField, WrongKind, NoParam, TooDeep, OutOfScope, NoMemory}
 use Rattle.query_plan.specs.Finds.{IsKept}
-use Rattle.search_exec.specs.Replies.{found_reply}
+use Rattle.ft_machine.specs.Replies.{found_reply}
 use Rattle.ft_machine.specs.Indexes.{unknown_index}
 use Rattle.ft_machine.specs.Machine.{State}
-use Rattle.ft_machine.specs.Refusals.{out_of_memory, query_refusal}
+use Rattle.ft_base.specs.Memory.{out_of_memory}
+use Rattle.query_grammar.specs.Refusals.{query_refusal}
 use Rattle.ft_machine.specs.Searching.{IsAnswered, IsSearched}
 use Rattle.ft_machine.specs.Step.{Does, Told}
 

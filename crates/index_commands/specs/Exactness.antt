@@ -6,14 +6,14 @@ use Rattle.ft_base.specs.declared.doc.Doc.{Doc}
 use Rattle.ft_base.specs.declared.reply.Reply.{Reply}
 use Rattle.ft_base.specs.declared.reply.Reply.TheVariants.{Fault}
 use Rattle.ft_index.specs.Index.{Index}
-use Rattle.ft_machine.specs.Refusals.{out_of_memory}
-use Rattle.index_info.specs.Info.{info_reply}
-use Rattle.index_info.specs.declared.info.Counts.{Counts}
+use Rattle.ft_base.specs.Memory.{out_of_memory}
+use Rattle.ft_machine.specs.Info.{info_reply}
+use Rattle.ft_machine.specs.declared.counts.Counts.{Counts}
 use Rattle.index_lists.specs.Records.{all_entries}
 use Rattle.indexed_store.specs.Named.{is_named}
 use Rattle.hash_store.specs.Store.{reads_after}
 use Rattle.search_exec.specs.Ids.{reads_for}
-use Rattle.search_exec.specs.Replies.{found_reply}
+use Rattle.ft_machine.specs.Replies.{found_reply}
 
 -- a refusal is written, or that memory was wanting
 abbrev pub IsRefusal : List ℕ → Type 0

@@ -12,7 +12,7 @@ ghost use Rattle.ft_index.specs.Index.{Index, IsIndex};
 ghost use Rattle.ft_schema.specs.Gives.{IsFaultOf};
 ghost use Rattle.ft_schema.specs.Lawful.{IsLawful};
 ghost use Rattle.ft_schema.specs.Schema.{extended};
-ghost use Rattle.indexed_store.specs.Definitions.{failures_over};
+ghost use Rattle.ft_machine.specs.Definitions.{failures_over};
 ghost use Rattle.indexed_store.specs.DefinitionsOf.{definitions_of};
 ghost use Rattle.indexed_store.specs.Standing.{AreOfEvent, AreWritten, IndexStands, InStep, markers_at};
 

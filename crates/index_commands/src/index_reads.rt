@@ -13,7 +13,7 @@ ghost use Rattle.ft_machine.specs.Machine.{State};
 ghost use Rattle.ft_machine.specs.Step.{Does};
 ghost use Rattle.ft_index.specs.Index.{Index};
 ghost use Rattle.indexed_store.specs.DefinitionsOf.{definitions_of};
-ghost use Rattle.tag_values.specs.Values.{tag_values};
+ghost use Rattle.ft_machine.specs.TagValues.{tag_values};
 
 use ft_base::{Field, IndexDef, ListOf, NoMemory, Reply, Words};
 use ft_index::FtIndex;

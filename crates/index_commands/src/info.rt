@@ -15,7 +15,8 @@ ghost use Rattle.indexed_store.specs.DefinitionsOf.{defined, definitions_of};
 
 use ft_base::{NoMemory, Reply};
 use ft_index::FtIndex;
-use index_info::{Counts, info_reply};
+use ft_machine::Counts;
+use index_info::info_reply;
 use indexed_store::index_named;
 use reply_buffer::{put_fault, put_made};
 use std::alloc::{AllocError, Global};

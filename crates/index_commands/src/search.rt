@@ -9,7 +9,7 @@ ghost use Rattle.ft_base.specs.declared.doc.Doc.{Doc};
 ghost use Rattle.ft_base.specs.declared.limits.TheConstants.{MAX_WORD_BYTES};
 ghost use Rattle.ft_machine.specs.Machine.{State};
 ghost use Rattle.index_commands.specs.Searchable.{IsSearchable};
-ghost use Rattle.ft_machine.specs.Refusals.{out_of_memory};
+ghost use Rattle.ft_base.specs.Memory.{out_of_memory};
 ghost use Rattle.ft_machine.specs.Step.{Does};
 ghost use Rattle.ft_index.specs.Index.{Indexes, IsIndex};
 ghost use Rattle.ft_meaning.specs.Holds.{found_of};
@@ -18,7 +18,7 @@ ghost use Rattle.indexed_store.specs.DefinitionsOf.{definitions_of};
 ghost use Rattle.index_commands.specs.Exactness.{ReadsRows};
 ghost use Rattle.hash_store.specs.Store.{reads_after};
 ghost use Rattle.search_exec.specs.Ids.{reads_for};
-ghost use Rattle.search_exec.specs.Replies.{found_reply};
+ghost use Rattle.ft_machine.specs.Replies.{found_reply};
 
 use cmd_parse::SearchSpec;
 use ft_base::{ListOf, NoMemory, Query, Reply, Steps};

@@ -2,7 +2,7 @@
 ghost use Rattle.std.specs.Prelude.{◌≡◌, ◌++◌, map, IfOk, IsTrue, OnOk};
 ghost use Rattle.ft_base.specs.Reply.{fits_wire};
 ghost use Rattle.ft_base.specs.declared.reply.Reply.TheVariants.{Array};
-ghost use Rattle.index_info.specs.Info.{attribute, kind_words, names, options};
+ghost use Rattle.ft_machine.specs.Info.{attribute, kind_words, names, options};
 
 use crate::words::{push_pair, push_word, push_word_if};
 use ft_base::{Bytes, Field, FieldKind, ListOf, NoMemory, Reply};

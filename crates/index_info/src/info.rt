@@ -2,22 +2,13 @@
 ghost use Rattle.std.specs.Prelude.{◌≡◌, ◌<◌, ◌^◌, ◌∷◌, ◌++◌, [], codes, map, pos, IfOk, IsTrue, OnOk};
 ghost use Rattle.ft_base.specs.Reply.{fits_wire};
 ghost use Rattle.ft_base.specs.declared.reply.Reply.TheVariants.{Array, Bulk, Number};
-ghost use Rattle.index_info.specs.Info.{attribute, definition, info_reply};
+ghost use Rattle.ft_machine.specs.Info.{attribute, definition, info_reply};
 
 use crate::attributes::attributes;
 use crate::words::push_pair;
 use ft_base::{Bytes, IndexDef, ListOf, NoMemory, Reply};
+use ft_machine::Counts;
 use std::alloc::Global;
-
-/// How many documents an index has, how many entries its lists have, how often a hash failed to be
-/// indexed, and how many cursors are open on it.
-#[derive(Clone, Copy, Debug, PartialEq, Eq)]
-pub struct Counts {
-    pub docs: u64,
-    pub records: u64,
-    pub failures: u64,
-    pub cursors: u64,
-}
 
 /// What FT.INFO tells of an index with these counts.
 pub fn info_reply(alloc: Global, def: &IndexDef, counts: Counts) -> Result<Reply, NoMemory>

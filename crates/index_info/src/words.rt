@@ -1,7 +1,7 @@
 //! Words at the end of a reply that is being made.
 ghost use Rattle.std.specs.Prelude.{◌≡◌, [], ◌∷◌, ◌++◌, OnOk};
 ghost use Rattle.ft_base.specs.declared.reply.Reply.TheVariants.{Bulk};
-ghost use Rattle.index_info.specs.Info.{word_if};
+ghost use Rattle.ft_machine.specs.Info.{word_if};
 
 use ft_base::{Bytes, NoMemory, Reply};
 use std::alloc::Global;

@@ -7,7 +7,7 @@ use Rattle.std.proofs.lemmas.Bool.{cases_Bool}
 use Rattle.std.proofs.lemmas.Bool.Decides.{nat_tests}
 use Rattle.std.proofs.lemmas.List.Elements.{All-cons, All-head, All-tail}
 use Rattle.ft_index.specs.Index.{Index}
-use Rattle.indexed_store.specs.Definitions.{Defined, index_of, with_index, without_index}
+use Rattle.ft_machine.specs.Definitions.{Defined, index_of, with_index, without_index}
 use Rattle.indexed_store.specs.DefinitionsOf.{defined, definitions_of}
 use Rattle.indexed_store.specs.Named.{is_named, without_named}
 

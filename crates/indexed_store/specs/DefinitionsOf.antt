@@ -1,7 +1,7 @@
 -- What the indexes of a server are defined by, without their lists.
 use Rattle.std.specs.Prelude.{List, map}
 use Rattle.ft_index.specs.Index.{Index}
-use Rattle.indexed_store.specs.Definitions.{Defined}
+use Rattle.ft_machine.specs.Definitions.{Defined}
 
 -- the definition of an index, and its count of failures
 abbrev pub defined : Index → Defined

@@ -1,8 +1,6 @@
-pub mod Definitions
 pub mod DefinitionsOf
 pub mod Filling
 pub mod Indexing
 pub mod Named
-pub mod Removing
 pub mod Standing
 pub mod Writing

@@ -3,7 +3,7 @@ ghost use Rattle.std.specs.Prelude.{◌≡◌, ℕ, ◌<◌, ◌≤◌, [], leng
 ghost use Rattle.ft_base.specs.declared.doc.Doc.{Doc};
 ghost use Rattle.hash_store.specs.Store.{reads_after};
 ghost use Rattle.indexed_store.specs.Filling.{beyond, upto};
-ghost use Rattle.indexed_store.specs.Definitions.{failures_over};
+ghost use Rattle.ft_machine.specs.Definitions.{failures_over};
 ghost use Rattle.indexed_store.specs.Standing.{AreOfEvent, AreWritten, IndexStands};
 ghost use Rattle.index_lists.specs.Markers.{AreBefore};
 ghost use Rattle.ft_index.specs.Index.{Indexes, IsIndex};

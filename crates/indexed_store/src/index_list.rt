@@ -3,7 +3,7 @@ ghost use Rattle.std.specs.Prelude.{◌≡◌, ◌<◌, ◌≤◌, ◌++◌, ◌
 ghost use Rattle.std.specs.List.{All, find};
 ghost use Rattle.std.specs.Option.{option_copied};
 ghost use Rattle.hash_store.specs.Store.{Store};
-ghost use Rattle.indexed_store.specs.Definitions.{with_index};
+ghost use Rattle.ft_machine.specs.Definitions.{with_index};
 ghost use Rattle.indexed_store.specs.DefinitionsOf.{defined, definitions_of};
 ghost use Rattle.indexed_store.specs.Named.{is_named, without_named};
 ghost use Rattle.indexed_store.specs.Standing.{AreApart, IndexStands, InStep, markers_at};

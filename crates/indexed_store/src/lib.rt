@@ -3,8 +3,7 @@
 //! A document that is written waits in the store and in each index, and takes its key's old one's place
 //! everywhere at once. A document that is removed leaves the store and each index. An index that is
 //! created takes the documents that are there.
-//! Read first `specs/Standing.antt`, which says how indexes stand for documents, and
-//! `specs/Definitions.antt`; then `writes.rt`.
+//! Read first `specs/Standing.antt`, which says how indexes stand for documents; then `writes.rt`.
 #![tactic(auto)]
 
 mod creation;

@@ -4,7 +4,7 @@ ghost use Rattle.std.specs.Prelude.{◌≡◌, ◌<◌, ◌+◌, ◌-◌, List, 
 ghost use Rattle.ft_base.specs.declared.doc.Doc.{Doc};
 ghost use Rattle.indexed_store.specs.Writing.{Waits, written};
 ghost use Rattle.indexed_store.specs.Standing.{AreWritten, InStep};
-ghost use Rattle.indexed_store.specs.Definitions.{all_tried};
+ghost use Rattle.ft_machine.specs.Definitions.{all_tried};
 ghost use Rattle.indexed_store.specs.DefinitionsOf.{definitions_of};
 ghost use Rattle.ft_meaning.specs.Meaning.{ValuesFit};
 

@@ -4,5 +4,6 @@ pub mod Form
 pub mod Grammar
 pub mod Meaning
 pub mod Reading
+pub mod Refusals
 pub mod Shape
 pub mod Values

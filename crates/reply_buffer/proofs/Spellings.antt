@@ -5,7 +5,7 @@ use denote.Hole.Carrier.{out}
 use Rattle.std.specs.Fmt.{decimal, signed_decimal}
 use Rattle.ft_base.specs.Reply.{line, spelling, spelling_step}
 use Rattle.ft_base.specs.declared.doc.Doc.{Doc}
-use Rattle.hash_replies.specs.Reads.{kind_of}
+use Rattle.ft_machine.specs.Reads.{kind_of}
 use Rattle.ft_base.specs.declared.reply.Reply.TheFolds.{fold_out-Reply}
 use Rattle.ft_base.specs.declared.reply.Reply.TheVariants.{Line, Fault, Number}
 use Rattle.ft_base.specs.declared.reply.Reply.TheViews.{out-Reply}

@@ -1,7 +1,7 @@
 //! Replies whose making or writing may find memory wanting.
 ghost use Rattle.std.specs.Prelude.{◌≡◌, ◌≤◌, ◌⊎◌, [], vec_capacity, IfOk, IsTrue};
 ghost use Rattle.ft_base.specs.Reply.{fits_wire, spelling};
-ghost use Rattle.ft_machine.specs.Refusals.{out_of_memory};
+ghost use Rattle.ft_base.specs.Memory.{out_of_memory};
 ghost use Rattle.ft_machine.specs.Step.{Told};
 
 use crate::short_reply::{SHORT_REPLY, put_no_memory};

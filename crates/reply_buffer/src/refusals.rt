@@ -4,7 +4,9 @@ ghost use Rattle.std.specs.Fmt.{decimal};
 ghost use Rattle.ft_base.specs.Reply.{spelling};
 ghost use Rattle.ft_base.specs.declared.reply.Reply.TheVariants.{Fault};
 ghost use Rattle.cmd_parse.specs.declared.command.CmdFault.TheVariants.{Arity};
-ghost use Rattle.ft_machine.specs.Refusals.{query_refusal, refusal, schema_refusal};
+ghost use Rattle.cmd_parse.specs.Refusals.{refusal};
+ghost use Rattle.ft_schema.specs.Refusals.{schema_refusal};
+ghost use Rattle.query_grammar.specs.Refusals.{query_refusal};
 ghost use Rattle.token_text.specs.Tokens.{lowered};
 
 use crate::short_reply::{SHORT_REPLY, put_fault, put_no_memory, put_short};

@@ -3,8 +3,8 @@ ghost use Rattle.std.specs.Prelude.{◌≡◌, ◌++◌, ◌+◌, ◌≤◌, [],
 ghost use Rattle.ft_base.specs.Reply.{spelling};
 ghost use Rattle.ft_base.specs.declared.doc.Doc.{Doc};
 ghost use Rattle.ft_base.specs.declared.reply.Reply.TheVariants.{Fault, Line, Number};
-ghost use Rattle.ft_machine.specs.Refusals.{out_of_memory};
-ghost use Rattle.hash_replies.specs.Reads.{kind_of, one_if};
+ghost use Rattle.ft_base.specs.Memory.{out_of_memory};
+ghost use Rattle.ft_machine.specs.Reads.{kind_of, one_if};
 
 use itoa::Buffer;
 

@@ -8,7 +8,7 @@ use Rattle.ft_base.specs.declared.doc.Doc.{Doc}
 use Rattle.ft_base.specs.declared.reply.Reply.{Reply}
 use Rattle.ft_base.specs.declared.reply.Reply.TheVariants.{Number}
 use Rattle.hash_replies.proofs.ReadsLaws.{fits-Array, fits-Bulk, fits-Number, in_turn-fits}
-use Rattle.search_exec.specs.Replies.{found_reply, row_of, rows, window}
+use Rattle.ft_machine.specs.Replies.{found_reply, row_of, rows, window}
 
 row-fits : (no_content : Bool) (doc : Doc) (rest : List Reply) → list_all (λ r. fits_wire r) rest ≡ true → list_all (λ r. fits_wire r) (row_of no_content doc ++ rest) ≡ true
 row-fits true doc rest each = rw (fits-Bulk doc.key) each

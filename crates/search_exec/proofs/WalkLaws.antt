@@ -20,7 +20,7 @@ use Rattle.ft_meaning.specs.Holds.{found_of, holds}
 use Rattle.ft_meaning.specs.Member.{member}
 use Rattle.hash_store.proofs.AheadLaws.{ahead-all}
 use Rattle.hash_store.specs.Ahead.{ahead}
-use Rattle.search_exec.specs.Replies.{found_reply}
+use Rattle.ft_machine.specs.Replies.{found_reply}
 use Rattle.search_exec.specs.Pages.{IsOnTheWay, Shows}
 use Rattle.search_exec.specs.declared.page.Page.{Page}
 

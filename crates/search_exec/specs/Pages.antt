@@ -4,7 +4,7 @@ use Rattle.ft_base.specs.declared.definition.IndexDef.{IndexDef}
 use Rattle.ft_base.specs.declared.doc.Doc.{Doc}
 use Rattle.ft_base.specs.declared.query.Query.{Query}
 use Rattle.ft_meaning.specs.Holds.{found_of}
-use Rattle.search_exec.specs.Replies.{rows, window}
+use Rattle.ft_machine.specs.Replies.{rows, window}
 use Rattle.search_exec.specs.declared.page.Page.{Page}
 
 -- the number of documents, and the first of them as they are shown

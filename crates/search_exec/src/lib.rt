@@ -3,7 +3,7 @@
 //! A search asks the iterator of a query for its ids, counts them all, and reads the documents that it shows. The plain
 //! search, which needs no index, reads each document of a store once, in order of ids, and asks of each whether it is a
 //! member that meets the query.
-//! Read `specs/Replies.antt` first, which says what is answered, then `index_search.rt`, `search.rt` and `page.rt`.
+//! What is answered is defined in `ft_machine`, `specs/Replies.antt`; read `index_search.rt` first, then `search.rt` and `page.rt`.
 #![tactic(auto)]
 
 mod index_search;

@@ -3,7 +3,7 @@ ghost use Rattle.std.specs.Prelude.{◌≡◌, ◌<◌, ◌≤◌, ◌+◌, ◌^
 ghost use Rattle.ft_base.specs.Reply.{fits_wire};
 ghost use Rattle.ft_base.specs.declared.doc.Doc.{Doc};
 ghost use Rattle.search_exec.specs.Pages.{Shows};
-ghost use Rattle.search_exec.specs.Replies.{found_reply, row_of, window};
+ghost use Rattle.ft_machine.specs.Replies.{found_reply, row_of, window};
 
 use ft_base::{Bytes, Doc, ListOf, NoMemory, Reply};
 use hash_replies::in_turn;

@@ -9,7 +9,7 @@ ghost use Rattle.ft_meaning.specs.Meaning.{ValuesFit};
 ghost use Rattle.ft_meaning.specs.Member.{member};
 ghost use Rattle.hash_store.specs.Store.{reads_after};
 ghost use Rattle.search_exec.specs.Pages.{IsOnTheWay, Shows};
-ghost use Rattle.search_exec.specs.Replies.{found_reply};
+ghost use Rattle.ft_machine.specs.Replies.{found_reply};
 ghost use Rattle.hash_store.specs.Ahead.{ahead};
 
 use crate::page::Page;

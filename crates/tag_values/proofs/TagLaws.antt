@@ -19,7 +19,7 @@ use Rattle.ft_meaning.specs.Holds.{field_tags}
 use Rattle.ft_meaning.specs.Member.{member, members}
 use Rattle.hash_store.specs.Ahead.{ahead}
 use Rattle.tag_values.specs.Gathered.{seen, with_tags_of}
-use Rattle.tag_values.specs.Values.{all_tags, tag_values, with_tag, with_tags}
+use Rattle.ft_machine.specs.TagValues.{all_tags, tag_values, with_tag, with_tags}
 
 -- the order of keys
 abbrev pub key_cmp : Vec ℕ Global → Vec ℕ Global → Ordering

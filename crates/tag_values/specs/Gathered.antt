@@ -6,7 +6,7 @@ use Rattle.ft_base.specs.declared.definition.Field.{Field}
 use Rattle.ft_base.specs.declared.definition.IndexDef.{IndexDef}
 use Rattle.ft_base.specs.declared.doc.Doc.{Doc}
 use Rattle.ft_meaning.specs.Member.{members}
-use Rattle.tag_values.specs.Values.{all_tags, with_tags}
+use Rattle.ft_machine.specs.TagValues.{all_tags, with_tags}
 
 -- the keys of a set as tags
 abbrev pub seen : List (Vec ℕ Global) → List (List ℕ)

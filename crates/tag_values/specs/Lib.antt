@@ -1,3 +1,2 @@
 -- Which tags a field has over the members of an index, and how far a walk has gathered them.
-pub mod Values
 pub mod Gathered

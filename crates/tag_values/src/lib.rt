@@ -2,7 +2,7 @@
 //!
 //! They are what FT.TAGVALS lists. Each document is read once, in order of ids, and each tag is kept
 //! once in a sorted set, whose tags then become the bulks of a reply.
-//! Read `specs/Values.antt` first, which says what the tags are, then `values.rt`.
+//! Which tags these are is defined in `ft_machine`, `specs/TagValues.antt`; read `values.rt` first.
 #![tactic(auto)]
 
 mod values;

@@ -8,7 +8,7 @@ ghost use Rattle.ft_meaning.specs.Member.{member};
 ghost use Rattle.hash_store.specs.Ahead.{ahead};
 ghost use Rattle.tag_values.specs.Gathered.{seen, with_tags_of};
 ghost use Rattle.hash_store.specs.Store.{reads_after};
-ghost use Rattle.tag_values.specs.Values.{tag_values, with_tags};
+ghost use Rattle.ft_machine.specs.TagValues.{tag_values, with_tags};
 
 use field_text::tags;
 use ft_base::{Bytes, Doc, Field, FieldKind, IndexDef, ListOf, NoMemory, Reply};

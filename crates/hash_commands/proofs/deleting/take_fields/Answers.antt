@@ -1,5 +1,5 @@
 use Rattle.std.proofs.Common.{sym, subst}
-use Rattle.hash_replies.specs.Reads.{hash_in}
+use Rattle.ft_machine.specs.Reads.{hash_in}
 use Rattle.ft_base.specs.Space.{doc_of}
 use Rattle.ft_meaning.specs.Meaning.{ValuesFit}
 use Rattle.hash_commands.proofs.WritesLaws.{found-fits, left-fits}

@@ -1,5 +1,5 @@
 use Rattle.std.specs.Prelude.{◌≡◌, ◌≤◌, take}
-use Rattle.hash_replies.specs.Reads.{present}
+use Rattle.ft_machine.specs.Reads.{present}
 use Rattle.hash_replies.proofs.keys.present.Given as goal
 
 -- the keys so far are counted

@@ -1,5 +1,5 @@
 use Rattle.std.specs.Prelude.{◌≡◌, take}
-use Rattle.hash_replies.specs.Reads.{values}
+use Rattle.ft_machine.specs.Reads.{values}
 use Rattle.hash_replies.proofs.listings.all_values.Given as goal
 
 -- the replies so far

@@ -1,5 +1,5 @@
 use Rattle.std.specs.Prelude.{◌≡◌, take}
-use Rattle.hash_replies.specs.Reads.{in_turn}
+use Rattle.ft_machine.specs.Reads.{in_turn}
 use Rattle.hash_replies.proofs.listings.in_turn.Given as goal
 
 -- the replies so far

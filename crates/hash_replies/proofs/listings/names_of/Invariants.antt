@@ -1,5 +1,5 @@
 use Rattle.std.specs.Prelude.{◌≡◌, take}
-use Rattle.hash_replies.specs.Reads.{names}
+use Rattle.ft_machine.specs.Reads.{names}
 use Rattle.hash_replies.proofs.listings.names_of.Given as goal
 
 -- the replies so far

@@ -1,6 +1,6 @@
 use Rattle.std.specs.Prelude.{◌≡◌, map, take}
 use Rattle.ft_base.specs.Hash.{get_field}
-use Rattle.hash_replies.specs.Reads.{value_reply}
+use Rattle.ft_machine.specs.Reads.{value_reply}
 use Rattle.hash_replies.proofs.values.values_of.Given as goal
 
 -- the replies so far

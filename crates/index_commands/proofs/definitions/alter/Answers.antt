@@ -1,7 +1,7 @@
 use Rattle.std.proofs.Common.{◌∙◌, ap, subst, sym, List}
 use Rattle.std.specs.List.{All}
 use Rattle.ft_base.specs.declared.doc.Doc.{Doc}
-use Rattle.indexed_store.specs.Definitions.{failures_over}
+use Rattle.ft_machine.specs.Definitions.{failures_over}
 use Rattle.indexed_store.specs.DefinitionsOf.{defined}
 use Rattle.indexed_store.proofs.ApartLaws.{new-apart}
 use Rattle.indexed_store.specs.Standing.{AreApart}

@@ -4,7 +4,7 @@ use Rattle.std.proofs.lemmas.List.{length-map}
 use Rattle.std.specs.List.{All}
 use Rattle.ft_base.specs.declared.doc.Doc.{Doc}
 use Rattle.ft_index.specs.Index.{Index}
-use Rattle.indexed_store.specs.Definitions.{Defined, failures_over, index_of}
+use Rattle.ft_machine.specs.Definitions.{Defined, failures_over, index_of}
 use Rattle.indexed_store.specs.DefinitionsOf.{defined}
 use Rattle.indexed_store.proofs.ApartLaws.{new-apart}
 use Rattle.indexed_store.specs.Standing.{AreApart}

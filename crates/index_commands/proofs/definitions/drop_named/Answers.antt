@@ -1,6 +1,6 @@
 use Rattle.std.proofs.Common.{◌∙◌, ap, sym, arith, List, ℕ}
 use Rattle.std.specs.Prelude.{is_some, not}
-use Rattle.indexed_store.specs.Definitions.{index_of}
+use Rattle.ft_machine.specs.Definitions.{index_of}
 use Rattle.indexed_store.specs.DefinitionsOf.{definitions_of}
 use Rattle.index_commands.proofs.IndexCommandLaws.{drop-one, drop-two, drop-unknown, named-known}
 use Rattle.reply_buffer.proofs.Spellings.{ok_written}

@@ -4,9 +4,9 @@ use Rattle.ft_base.specs.declared.definition.Field.{Field}
 use Rattle.ft_base.specs.declared.definition.IndexDef.{IndexDef}
 use Rattle.ft_base.specs.declared.doc.Doc.{Doc}
 use Rattle.ft_base.specs.declared.reply.Reply.TheVariants.{Array, Bulk}
-use Rattle.indexed_store.specs.Definitions.{index_of}
+use Rattle.ft_machine.specs.Definitions.{index_of}
 use Rattle.indexed_store.specs.DefinitionsOf.{defined}
-use Rattle.tag_values.specs.Values.{tag_values}
+use Rattle.ft_machine.specs.TagValues.{tag_values}
 use Rattle.index_commands.proofs.IndexCommandLaws.{named-none, named-some, tags-no_field, tags-told, tags-unknown}
 use Rattle.ft_machine.specs.Arguments.{second}
 use Rattle.ft_machine.specs.Indexes.{tag_field}

@@ -2,9 +2,9 @@ use Rattle.std.proofs.Common.{ℕ, Ok, arith, inl, inr, refl, sym}
 use Rattle.indexed_store.proofs.NamedLaws.{named-has}
 use Rattle.indexed_store.specs.Standing.{IndexStands, markers_at}
 use Rattle.ft_machine.specs.Indexes.{unknown_index}
-use Rattle.ft_machine.specs.Refusals.{query_refusal}
+use Rattle.query_grammar.specs.Refusals.{query_refusal}
 use Rattle.ft_meaning.specs.Holds.{found_of}
-use Rattle.search_exec.specs.Replies.{found_reply}
+use Rattle.ft_machine.specs.Replies.{found_reply}
 use Rattle.index_commands.proofs.SearchLaws.{searches-fault_of, searches-found, searches-none}
 use Rattle.index_commands.proofs.search.answer_search.Goals as goal
 

@@ -1,7 +1,7 @@
 use Rattle.std.specs.Prelude.{◌≡◌, map, take, IsTrue}
 use Rattle.std.specs.List.{list_all}
 use Rattle.ft_base.specs.Reply.{fits_wire}
-use Rattle.index_info.specs.Info.{attribute}
+use Rattle.ft_machine.specs.Info.{attribute}
 use Rattle.index_info.proofs.attributes.attributes.Given as goal
 
 -- the replies so far tell the fields so far, and each fits the wire

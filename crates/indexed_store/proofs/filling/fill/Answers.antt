@@ -2,7 +2,7 @@ use Rattle.std.specs.Prelude.{List, length, refl}
 use Rattle.std.proofs.Common.{ap, sym, subst, arith, rules}
 use Rattle.ft_base.specs.declared.doc.Doc.{Doc}
 use Rattle.ft_index.specs.Index.{Indexes}
-use Rattle.indexed_store.specs.Definitions.{failures_over}
+use Rattle.ft_machine.specs.Definitions.{failures_over}
 use Rattle.indexed_store.specs.Standing.{AreOfEvent}
 use Rattle.indexed_store.proofs.FillingLaws.{upto-none}
 use Rattle.indexed_store.proofs.filling.fill.Goals as goal

@@ -1,5 +1,5 @@
 use Rattle.std.specs.Prelude.{◌≡◌, ◌<◌, ◌≤◌, length}
-use Rattle.indexed_store.specs.Definitions.{failures_over}
+use Rattle.ft_machine.specs.Definitions.{failures_over}
 use Rattle.hash_store.specs.Store.{reads_after}
 use Rattle.indexed_store.specs.Filling.{beyond, upto}
 use Rattle.index_lists.specs.Markers.{AreBefore}

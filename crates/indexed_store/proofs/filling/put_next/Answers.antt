@@ -3,7 +3,7 @@ use Rattle.std.proofs.lemmas.List.Sums.{fold-append}
 use Rattle.ft_base.specs.declared.definition.IndexDef.{IndexDef}
 use Rattle.ft_index.specs.Fits.{fit_of}
 use Rattle.ft_meaning.specs.Member.{failures_with}
-use Rattle.indexed_store.specs.Definitions.{Defined, failures_over}
+use Rattle.ft_machine.specs.Definitions.{Defined, failures_over}
 use Rattle.indexed_store.proofs.StepLaws.{defined-committed, lists-committed}
 use Rattle.std.proofs.Common.{◌∙◌, ap, sym, subst, inl, inr, arith}
 use Rattle.index_lists.specs.Lists.{AllLists}

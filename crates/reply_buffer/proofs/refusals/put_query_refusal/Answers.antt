@@ -2,7 +2,7 @@ use Rattle.std.proofs.Common.{◌∙◌, ap, sym}
 use Rattle.ft_base.specs.Reply.{spelling}
 use Rattle.ft_base.specs.declared.reply.Reply.TheVariants.{Fault}
 use Rattle.query_grammar.specs.declared.fault.QueryFault.{QueryFault}
-use Rattle.ft_machine.specs.Refusals.{query_refusal}
+use Rattle.query_grammar.specs.Refusals.{query_refusal}
 use Rattle.reply_buffer.proofs.refusals.put_query_refusal.Goals as goal
 
 pub returns-in-UnknownField-clause-fault : goal.returns-in-UnknownField-clause-fault

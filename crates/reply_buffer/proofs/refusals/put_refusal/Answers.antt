@@ -2,7 +2,7 @@ use Rattle.std.proofs.Common.{◌∙◌, ap, sym}
 use Rattle.cmd_parse.specs.declared.command.CmdFault.{CmdFault}
 use Rattle.ft_base.specs.Reply.{spelling}
 use Rattle.ft_base.specs.declared.reply.Reply.TheVariants.{Fault}
-use Rattle.ft_machine.specs.Refusals.{refusal}
+use Rattle.cmd_parse.specs.Refusals.{refusal}
 use Rattle.reply_buffer.proofs.refusals.put_refusal.Goals as goal
 
 pub returns-in-NotInteger-clause-fault : goal.returns-in-NotInteger-clause-fault

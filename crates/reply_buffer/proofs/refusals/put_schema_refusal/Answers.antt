@@ -1,7 +1,7 @@
 use Rattle.std.proofs.Common.{◌∙◌, ap, sym}
 use Rattle.ft_base.specs.Reply.{spelling}
 use Rattle.ft_base.specs.declared.reply.Reply.TheVariants.{Fault}
-use Rattle.ft_machine.specs.Refusals.{schema_refusal}
+use Rattle.ft_schema.specs.Refusals.{schema_refusal}
 use Rattle.ft_schema.specs.declared.fault.SchemaFault.{SchemaFault}
 use Rattle.reply_buffer.proofs.refusals.put_schema_refusal.Goals as goal
 

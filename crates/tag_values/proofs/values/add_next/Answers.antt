@@ -2,7 +2,7 @@ use Rattle.std.specs.Prelude.{length}
 use Rattle.std.proofs.Common.{◌∙◌, ap, sym, arith}
 use Rattle.hash_store.specs.Ahead.{ahead}
 use Rattle.tag_values.specs.Gathered.{seen, with_tags_of}
-use Rattle.tag_values.specs.Values.{with_tags}
+use Rattle.ft_machine.specs.TagValues.{with_tags}
 use Rattle.hash_store.proofs.AheadLaws.{next-found, none-next}
 use Rattle.tag_values.proofs.TagLaws.{first_added}
 use Rattle.hash_store.proofs.ReadsLaws.{read-few, read-next}

@@ -1,7 +1,7 @@
 use Rattle.std.proofs.Common.{◌∙◌, ap, sym, [], ◌∷◌}
 use Rattle.std.proofs.lemmas.List.Sums.{fold-append}
 use Rattle.tag_values.specs.Gathered.{seen}
-use Rattle.tag_values.specs.Values.{with_tag}
+use Rattle.ft_machine.specs.TagValues.{with_tag}
 use Rattle.tag_values.proofs.TagLaws.{seen-insert}
 use Rattle.tag_values.proofs.values.add_tags.Goals as goal
 

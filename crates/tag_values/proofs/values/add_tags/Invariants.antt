@@ -1,6 +1,6 @@
 use Rattle.std.specs.Prelude.{◌≡◌}
 use Rattle.tag_values.specs.Gathered.{seen}
-use Rattle.tag_values.specs.Values.{with_tags}
+use Rattle.ft_machine.specs.TagValues.{with_tags}
 use Rattle.tag_values.proofs.values.add_tags.Given as goal
 
 abbrev pub invariant-adding : goal.invariant-adding

@@ -4,7 +4,7 @@ use Rattle.ft_base.specs.declared.doc.Doc.{Doc}
 use Rattle.hash_store.specs.Ahead.{ahead}
 use Rattle.tag_values.specs.Gathered.{seen, with_tags_of}
 use Rattle.hash_store.specs.Store.{reads_after}
-use Rattle.tag_values.specs.Values.{tag_values}
+use Rattle.ft_machine.specs.TagValues.{tag_values}
 use Rattle.tag_values.proofs.values.tag_values.Given as goal
 
 -- the tags so far, with those of the documents ahead, are all; and so are the reads

@@ -12,7 +12,7 @@ use Rattle.ft_machine.specs.Step.{next_number}
 use Rattle.engine_changes.specs.Changing.{changed}
 use Rattle.ft_engine.specs.Stands.{Stands, unused}
 use Rattle.engine_changes.specs.States.{state_of}
-use Rattle.indexed_store.specs.Definitions.{Defined}
+use Rattle.ft_machine.specs.Definitions.{Defined}
 use Rattle.indexed_store.specs.DefinitionsOf.{definitions_of}
 use Rattle.engine_changes.proofs.ChangingLaws.{changes-something, next-below}
 use Rattle.ft_engine.proofs.EngineLaws.{indexed}

@@ -5,7 +5,7 @@ use Rattle.ft_engine.specs.Stands.{IsIndexed, Stands}
 use Rattle.std.proofs.Common.{List, ℕ}
 use Rattle.ft_base.specs.Reply.{spelling}
 use Rattle.ft_base.specs.declared.reply.Reply.TheVariants.{Fault}
-use Rattle.ft_machine.specs.Refusals.{refusal}
+use Rattle.cmd_parse.specs.Refusals.{refusal}
 use Rattle.ft_machine.proofs.Stepping.{refused-at}
 use Rattle.ft_engine.proofs.EngineLaws.{begun, indexed}
 use Rattle.ft_engine.proofs.engine.Engine.refuse.Goals as goal

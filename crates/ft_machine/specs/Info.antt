@@ -6,7 +6,7 @@ use Rattle.ft_base.specs.declared.definition.FieldKind.TheVariants.{Text, Tag, N
 use Rattle.ft_base.specs.declared.definition.IndexDef.{IndexDef}
 use Rattle.ft_base.specs.declared.reply.Reply.{Reply}
 use Rattle.ft_base.specs.declared.reply.Reply.TheVariants.{Array, Bulk, Number}
-use Rattle.index_info.specs.declared.info.Counts.{Counts}
+use Rattle.ft_machine.specs.declared.counts.Counts.{Counts}
 
 -- a word where something is declared
 abbrev pub word_if : Bool → List ℕ → List Reply

@@ -4,7 +4,7 @@ use Rattle.std.specs.List.{flat_map}
 use Rattle.ft_base.specs.declared.doc.Doc.{Doc}
 use Rattle.ft_base.specs.declared.reply.Reply.{Reply}
 use Rattle.ft_base.specs.declared.reply.Reply.TheVariants.{Array, Bulk, Number}
-use Rattle.hash_replies.specs.Reads.{in_turn}
+use Rattle.ft_machine.specs.Reads.{in_turn}
 
 -- how many documents a search shows at the most
 abbrev pub window : ℕ

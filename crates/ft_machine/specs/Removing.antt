@@ -4,7 +4,7 @@ use Rattle.ft_base.specs.Space.{erase}
 use Rattle.ft_base.specs.declared.definition.IndexDef.{IndexDef}
 use Rattle.ft_base.specs.declared.doc.Doc.{Doc}
 use Rattle.ft_meaning.specs.Member.{members}
-use Rattle.indexed_store.specs.Definitions.{Defined}
+use Rattle.ft_machine.specs.Definitions.{Defined}
 
 -- the documents but those of the keys
 abbrev pub without_keys : List Doc → List (List ℕ) → List Doc
