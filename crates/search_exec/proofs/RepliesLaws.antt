@@ -26,3 +26,9 @@ found-fits no_content docs =
     fits-Array (number ∷ shown)
     ∙ (list_all-map (λ (fits : Bool). fits) fits_wire (number ∷ shown)
     ∙ rw (fits-Number (pos (length docs))) (rows-fit no_content (take window docs)))
+
+-- the reply that is made of a page that shows all
+pub made-found : {E : Type 0} (made : Result Reply E) (page : Page) (no_content : Bool) (docs : List Doc) → IfOk made (λ reply. (shown : List Doc) → Shows shown page → reply ≡ found_reply page.no_content shown)
+    → Shows docs page → page.no_content ≡ no_content → IfOk made (λ reply. reply ≡ found_reply no_content docs)
+made-found made page no_content docs each shows kind =
+    IfOk-weaker made _ _ (λ reply same. same docs shows ∙ ap (λ (kind : Bool). found_reply kind docs) kind) each
