@@ -1,11 +1,12 @@
 -- What the definition says of a few commands.
 use Rattle.std.proofs.Common.{◌≡◌, ℕ, List, [], ◌∷◌, true, false, Ok, Err, Some, None, refl, pos, lit<}
-use Rattle.std.specs.Prelude.{codes}
+use Rattle.std.specs.Prelude.{codes, Bool}
+use Rattle.ft_base.specs.declared.query.Param.{Param}
 use Rattle.std.proofs.lemmas.Fmt.{decimal_digit}
 use Rattle.ft_base.specs.Number.{int_of}
-use Rattle.cmd_parse.specs.Read.{InfoOf, Plain, Search, read}
+use Rattle.cmd_parse.specs.Read.{Asked, Plain, Search, read}
 use Rattle.cmd_parse.specs.declared.command.CmdFault.TheVariants.{Arity, BadDb, NotBuilt, NotInteger, Syntax, Unknown}
-use Rattle.cmd_parse.specs.declared.command.Verb.TheVariants.{DropIndex, Flushall, Hget, Hset, Hvals, Select}
+use Rattle.cmd_parse.specs.declared.command.Verb.TheVariants.{DropIndex, Flushall, Hget, Hset, Hvals, Info, Select}
 
 -- the words of the examples
 abbrev key : List ℕ
@@ -16,6 +17,10 @@ field = codes "f"
 
 abbrev value : List ℕ
 value = codes "v"
+
+-- a search of the index ix
+abbrev searching : List ℕ → Bool → List Param → Asked
+searching query no_content params = Search (record { index = codes "ix"; query = query; no_content = no_content; params = params })
 
 -- a name in small letters, and arguments without it
 small_letters : read 0 (codes "hget" ∷ key ∷ field ∷ []) ≡ Ok (Plain Hget (key ∷ field ∷ []))
@@ -46,7 +51,7 @@ surplus_word : read 0 (codes "DBSIZE" ∷ key ∷ []) ≡ Err Arity
 surplus_word = refl
 
 -- FT.INFO has one index
-told : read 0 (codes "ft.info" ∷ key ∷ []) ≡ Ok (InfoOf key)
+told : read 0 (codes "ft.info" ∷ key ∷ []) ≡ Ok (Plain Info (key ∷ []))
 told = refl
 
 not_told : read 0 (codes "FT.INFO" ∷ key ∷ key ∷ []) ≡ Err Arity
@@ -75,10 +80,10 @@ drop_how : read 0 (codes "FT.DROPINDEX" ∷ codes "ix" ∷ codes "KEEPDOCS" ∷ 
 drop_how = refl
 
 -- a search of keys alone, and what is shown otherwise
-capital_query : read 0 (codes "FT.SEARCH" ∷ codes "ix" ∷ codes "World" ∷ codes "nocontent" ∷ []) ≡ Ok (Search (codes "ix") (codes "World") true [])
+capital_query : read 0 (codes "FT.SEARCH" ∷ codes "ix" ∷ codes "World" ∷ codes "nocontent" ∷ []) ≡ Ok (searching (codes "World") true [])
 capital_query = refl
 
-with_content : read 0 (codes "ft.search" ∷ codes "ix" ∷ codes "hello world" ∷ []) ≡ Ok (Search (codes "ix") (codes "hello world") false [])
+with_content : read 0 (codes "ft.search" ∷ codes "ix" ∷ codes "hello world" ∷ []) ≡ Ok (searching (codes "hello world") false [])
 with_content = refl
 
 -- a search has a query
@@ -127,7 +132,7 @@ digit_4 = rw (decimal_digit 4 (lit< tt)) refl
 
 -- a search with a parameter
 one_param : read 0 (codes "FT.SEARCH" ∷ codes "ix" ∷ codes "$k" ∷ codes "PARAMS" ∷ codes "2" ∷ key ∷ value ∷ [])
-    ≡ Ok (Search (codes "ix") (codes "$k") false (record { name = key; value = value } ∷ []))
+    ≡ Ok (searching (codes "$k") false (record { name = key; value = value } ∷ []))
 one_param = rw digit_2 refl
 
 -- the number of words is even

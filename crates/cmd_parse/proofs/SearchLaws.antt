@@ -86,7 +86,7 @@ params_behind-Ok words all among params e = by_test (is_no_content words) words 
 from_params : (words : List (List ℕ)) (index query : List ℕ) (no_content : Bool) (read : Result (List Param) CmdFault) (asked : Asked) → index ≡ get_or words 1 [] → query ≡ get_or words 2 []
     → ((params : List Param) → read ≡ Ok params → AreParams words params) → searched index query no_content read ≡ Ok asked → IsLawful words asked
 from_params words index query no_content (Ok params) asked i q are e =
-    let same : Search index query no_content params ≡ asked = cc in
+    let same : Search (record { index = index; query = query; no_content = no_content; params = params }) ≡ asked = cc in
     subst (λ a. IsLawful words a) same (i, q, are params refl)
 from_params words index query no_content (Err fault) asked i q are e = absurd (cc)
 

@@ -2,9 +2,9 @@
 use Rattle.std.specs.Prelude.{ℕ, List, [], ◌∷◌, Option, codes, option_map}
 use Rattle.std.specs.List.{find}
 use Rattle.ft_base.specs.Names.{is_name}
-use Rattle.cmd_parse.specs.declared.command.Verb.TheVariants.{Ping, Echo, Select, Quit, Hset, Hsetnx, Hget, Hmget, Hgetall, Hdel, Hlen, Hexists, Hincrby, Hkeys, Hvals, Del, Exists, TypeOf, Dbsize, Rename, Flushall, DropIndex, ListIndexes, TagVals}
+use Rattle.cmd_parse.specs.declared.command.Verb.TheVariants.{Ping, Echo, Select, Quit, Hset, Hsetnx, Hget, Hmget, Hgetall, Hdel, Hlen, Hexists, Hincrby, Hkeys, Hvals, Del, Exists, TypeOf, Dbsize, Rename, Flushall, DropIndex, ListIndexes, Info, TagVals}
 use Rattle.cmd_parse.specs.declared.table.Form.{Form}
-use Rattle.cmd_parse.specs.declared.table.Form.TheVariants.{Between, AtLeast, InPairs, Create, Alter, Search, Info, Unbuilt}
+use Rattle.cmd_parse.specs.declared.table.Form.TheVariants.{Between, AtLeast, InPairs, Create, Alter, Search, Unbuilt}
 
 -- The table of commands. The numbers are numbers of words, the name among them; in pairs only even ones are lawful.
 abbrev pub commands : List (List ℕ × Form)
@@ -34,7 +34,7 @@ commands =
     ∷ (codes "FT.ALTER", Alter)
     ∷ (codes "FT.DROPINDEX", Between DropIndex 2 3)
     ∷ (codes "FT._LIST", Between ListIndexes 1 1)
-    ∷ (codes "FT.INFO", Info)
+    ∷ (codes "FT.INFO", Between Info 2 2)
     ∷ (codes "FT.TAGVALS", Between TagVals 3 3)
     ∷ (codes "FT.SEARCH", Search)
     ∷ (codes "FT.AGGREGATE", Unbuilt)

@@ -5,12 +5,11 @@ use Rattle.std.specs.Str.{bytes_eq}
 use Rattle.ft_base.specs.Number.{int_of}
 use Rattle.ft_base.specs.declared.query.Param.{Param}
 use Rattle.ft_schema.specs.Lawful.{IsLawful as AreLawful}
-use Rattle.cmd_parse.specs.Read.{Asked, Plain, CreateIndex, AlterIndex, InfoOf, Search}
+use Rattle.cmd_parse.specs.Read.{Asked, Plain, CreateIndex, AlterIndex, Search}
 use Rattle.cmd_parse.specs.declared.command.Verb.{Verb}
-use Rattle.cmd_parse.specs.declared.command.Verb.TheVariants.{Ping, Echo, Select, Quit, Hset, Hsetnx, Hget, Hmget, Hgetall, Hdel, Hlen, Hexists, Hincrby, Hkeys, Hvals, Del, Exists, TypeOf, Dbsize, Rename, Flushall, DropIndex, ListIndexes, TagVals}
+use Rattle.cmd_parse.specs.declared.command.Verb.TheVariants.{Ping, Echo, Select, Quit, Hset, Hsetnx, Hget, Hmget, Hgetall, Hdel, Hlen, Hexists, Hincrby, Hkeys, Hvals, Del, Exists, TypeOf, Dbsize, Rename, Flushall, DropIndex, ListIndexes, Info, TagVals}
 use Rattle.cmd_parse.specs.declared.table.Form.{Form}
-use Rattle.cmd_parse.specs.declared.table.Form.TheVariants.{Between, AtLeast, InPairs, Create, Alter, Unbuilt}
-use Rattle.cmd_parse.specs.declared.table.Form.TheVariants as form
+use Rattle.cmd_parse.specs.declared.table.Form.TheVariants.{Between, AtLeast, InPairs}
 
 -- how many arguments a verb has
 abbrev pub LawfulNumber : Verb → ℕ → Type 0
@@ -38,6 +37,7 @@ LawfulNumber Rename n = n ≡ 2
 LawfulNumber Flushall n = n ≤ 1
 LawfulNumber DropIndex n = (1 ≤ n) × (n ≤ 2)
 LawfulNumber ListIndexes n = n ≡ 0
+LawfulNumber Info n = n ≡ 1
 LawfulNumber TagVals n = n ≡ 2
 
 -- a row of the table lets through lawful numbers of arguments alone, which are the words but the name
@@ -45,11 +45,7 @@ abbrev pub IsLawfulForm : Form → Type 0
 IsLawfulForm (Between verb least most) = (n : ℕ) → least ≤ n + 1 → n + 1 ≤ most → LawfulNumber verb n
 IsLawfulForm (AtLeast verb least) = (n : ℕ) → least ≤ n + 1 → LawfulNumber verb n
 IsLawfulForm (InPairs verb least) = (n : ℕ) → least ≤ n + 1 → (n + 1) % 2 ≡ 0 → LawfulNumber verb n
-IsLawfulForm Create = Unit {0}
-IsLawfulForm Alter = Unit {0}
-IsLawfulForm form.Search = Unit {0}
-IsLawfulForm form.Info = Unit {0}
-IsLawfulForm Unbuilt = Unit {0}
+IsLawfulForm _ = Unit {0}
 
 -- HINCRBY's increment is a number
 abbrev pub HasNumber : Verb → List (List ℕ) → Type 0
@@ -72,14 +68,10 @@ abbrev pub IsLawful : List (List ℕ) → Asked → Type 0
 IsLawful words (Plain verb args) = (args ≡ drop 1 words) × Lawful verb args
 IsLawful words (CreateIndex index) = AreLawful index.fields
 IsLawful words (AlterIndex index fields) = (index ≡ slice_index_or words 1 []) × AreLawful fields
-IsLawful words (InfoOf index) = index ≡ slice_index_or words 1 []
-IsLawful words (Search index query no_content params) =
-    (index ≡ slice_index_or words 1 []) × (query ≡ slice_index_or words 2 []) × AreParams words params
+IsLawful words (Search what) =
+    (what.index ≡ slice_index_or words 1 []) × (what.query ≡ slice_index_or words 2 []) × AreParams words what.params
 
 -- an index that is created has this serial
 abbrev pub HasSerial : ℕ → Asked → Type 0
 HasSerial serial (CreateIndex index) = index.serial ≡ serial
-HasSerial serial (Plain verb args) = Unit {0}
-HasSerial serial (AlterIndex index fields) = Unit {0}
-HasSerial serial (InfoOf index) = Unit {0}
-HasSerial serial (Search index query no_content params) = Unit {0}
+HasSerial serial _ = Unit {0}

@@ -11,7 +11,7 @@ use Rattle.ft_base.specs.declared.query.Param.{Param}
 use Rattle.ft_schema.specs.Schema.{alter, create}
 use Rattle.ft_schema.specs.declared.fault.SchemaFault.{SchemaFault}
 use Rattle.cmd_parse.specs.Commands.{form_of}
-use Rattle.cmd_parse.specs.Search.{has_params, is_no_content, params_behind}
+use Rattle.cmd_parse.specs.Search.{Searching, has_params, is_no_content, params_behind}
 use Rattle.cmd_parse.specs.declared.command.Verb.{Verb}
 use Rattle.cmd_parse.specs.declared.command.Verb.TheVariants.{Select, Hincrby, Flushall, DropIndex}
 use Rattle.cmd_parse.specs.declared.command.CmdFault.{CmdFault}
@@ -28,8 +28,7 @@ pub data Asked : Type 0 where
   Plain : (verb : Verb) → (args : List (List ℕ)) → Asked
   CreateIndex : (index : IndexDef) → Asked
   AlterIndex : (index : List ℕ) → (fields : List Field) → Asked
-  InfoOf : (index : List ℕ) → Asked
-  Search : (index query : List ℕ) → (no_content : Bool) → (params : List Param) → Asked
+  Search : (what : Searching) → Asked
 
 -- whether a word may stand behind FLUSHALL
 abbrev pub is_flush_word : List ℕ → Bool
@@ -72,17 +71,12 @@ altered index (Err fault) = Err (Schema fault)
 
 -- FT.SEARCH asks for what its query finds, or has the fault of the words behind it.
 abbrev pub searched : List ℕ → List ℕ → Bool → Result (List Param) CmdFault → Result Asked CmdFault
-searched index query no_content (Ok params) = Ok (Search index query no_content params)
+searched index query no_content (Ok params) = Ok (Search (record { index = index; query = query; no_content = no_content; params = params }))
 searched index query no_content (Err fault) = Err fault
 
 abbrev pub search : List (List ℕ) → Result Asked CmdFault
 search (index ∷ query ∷ options) = searched index query (is_no_content options) (params_behind options)
 search _ = Err Arity
-
--- FT.INFO has the name of an index behind it, and nothing else.
-abbrev pub told_of : List (List ℕ) → Result Asked CmdFault
-told_of (index ∷ []) = Ok (InfoOf index)
-told_of _ = Err Arity
 
 -- a command of this form, whose words are its name and arguments
 abbrev pub read_as : Option Form → ℕ → List ℕ → List (List ℕ) → Result Asked CmdFault
@@ -96,7 +90,6 @@ read_as (Some Create) serial name args = if nat_le 5 (suc (length args)) then cr
 read_as (Some Alter) serial name args =
     if nat_le 6 (suc (length args)) then altered (slice_index_or args 0 []) (alter (name ∷ args)) else Err Arity
 read_as (Some form.Search) serial name args = search args
-read_as (Some form.Info) serial name args = told_of args
 read_as (Some Unbuilt) serial name args = Err NotBuilt
 
 -- What the words of a command ask, where an index that it creates has this serial.
@@ -117,16 +110,15 @@ takes_memory [] = false
 takes_memory (name ∷ args) = copies_words (form_of name) args
 
 -- what the code's search is among these
-abbrev pub search_of : SearchSpec → Asked
-search_of spec = Search spec.index.now spec.query.now spec.no_content spec.params
+abbrev pub search_of : SearchSpec → Searching
+search_of spec = record { index = spec.index.now; query = spec.query.now; no_content = spec.no_content; params = spec.params }
 
 -- what the code's command is among these
 abbrev pub command_of : Command → Asked
 command_of (command.Plain verb args) = Plain verb args
 command_of (command.Create index) = CreateIndex index
 command_of (command.Alter index fields) = AlterIndex index.now fields
-command_of (command.Info index) = InfoOf index.now
-command_of (command.Search spec) = search_of spec
+command_of (command.Search spec) = Search (search_of spec)
 
 -- A command or a fault is what the words ask. Memory is wanting where they are read with it alone.
 abbrev pub IsReading : ℕ → List (List ℕ) → Result Command CmdFault → Type 0

@@ -9,6 +9,15 @@ use Rattle.ft_base.specs.declared.query.Param.{Param}
 use Rattle.cmd_parse.specs.declared.command.CmdFault.{CmdFault}
 use Rattle.cmd_parse.specs.declared.command.CmdFault.TheVariants.{NotBuilt, Syntax}
 
+-- What a search asks (RediSearch, FT.SEARCH).
+pub record Searching : Type 0 where
+  pub index : List ℕ
+  pub query : List ℕ
+  -- whether documents are shown by their keys alone
+  pub no_content : Bool
+  -- the values of the query's parameters
+  pub params : List Param
+
 -- whether NOCONTENT comes next
 abbrev pub is_no_content : List (List ℕ) → Bool
 is_no_content [] = false

@@ -9,8 +9,8 @@ use std::fmt;
 use std::fmt::{Display, Formatter, Write};
 use thiserror::Error;
 
-/// A command of the connection, of hashes, of keys or of indexes. `TypeOf` is TYPE; the last three are
-/// FT.DROPINDEX, FT._LIST and FT.TAGVALS.
+/// A command of the connection, of hashes, of keys or of indexes. `TypeOf` is TYPE; the last four are
+/// FT.DROPINDEX, FT._LIST, FT.INFO and FT.TAGVALS.
 #[derive(Clone, Copy, Debug, PartialEq, Eq)]
 pub enum Verb {
     Ping,
@@ -36,6 +36,7 @@ pub enum Verb {
     Flushall,
     DropIndex,
     ListIndexes,
+    Info,
     TagVals,
 }
 
@@ -53,10 +54,6 @@ pub enum Command<'a> {
     Alter {
         index: &'a [u8],
         fields: ListOf<Field>,
-    },
-    /// What there is to tell of an index.
-    Info {
-        index: &'a [u8],
     },
     /// The documents of an index that a query finds.
     Search(SearchSpec<'a>),

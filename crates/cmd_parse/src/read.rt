@@ -62,9 +62,6 @@ fn read_as<'a>(
         Form::Create if 5 <= count => create(alloc, words, serial),
         Form::Alter if 6 <= count => alter(alloc, words),
         Form::Search if 3 <= count => search(alloc, words),
-        Form::Info if count == 2 => Ok(Command::Info {
-            index: words.word(1),
-        }),
         Form::Unbuilt => Err(CmdFault::NotBuilt),
         _ => Err(CmdFault::Arity),
     }

@@ -1,6 +1,6 @@
 //! What FT.SEARCH asks: an index, a query, and how its answer is shown.
 ghost use Rattle.std.specs.Prelude.{◌≡◌, ◌≢◌, ◌<◌, ◌≤◌, ◌+◌, ◌%◌, [], length, drop, Err, Ok, IfOk, IfSome, IsTrue, MatchResult};
-ghost use Rattle.cmd_parse.specs.Read.{search, search_of};
+ghost use Rattle.cmd_parse.specs.Read.{Search, search, search_of};
 ghost use Rattle.cmd_parse.specs.Search.{counts_pairs, first_repeat, gives_params, has_params, is_no_content, params_at, params_behind, params_of, unless_repeated};
 ghost use Rattle.cmd_parse.specs.declared.command.CmdFault.TheVariants as faults;
 ghost use Rattle.ft_base.specs.Number.{int_of};
@@ -27,7 +27,7 @@ pub fn read_search<'a>(alloc: Global, words: &Words<'a>) -> Result<SearchSpec<'a
     requires number { 3 ≤ length words.now }
     requires limit { length words.now ≤ MAX_WORDS }
     ensures exact { MatchResult result
-        (λ spec. search (drop 1 words.now) ≡ Ok (search_of spec))
+        (λ spec. search (drop 1 words.now) ≡ Ok (Search (search_of spec)))
         (λ fault. fault ≢ faults.NoMemory → search (drop 1 words.now) ≡ Err fault) }
     ensures memory { result ≡ Err faults.NoMemory → IsTrue (has_params (drop 3 words.now)) }
 {

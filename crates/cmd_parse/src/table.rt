@@ -21,8 +21,6 @@ pub enum Form {
     Alter,
     /// FT.SEARCH.
     Search,
-    /// FT.INFO.
-    Info,
     /// A command that is not built.
     Unbuilt,
 }
@@ -58,7 +56,7 @@ pub fn form_of(name: &[u8]) -> Option<Form>
         (b"FT.ALTER", Form::Alter),
         (b"FT.DROPINDEX", Form::Between(Verb::DropIndex, 2, 3)),
         (b"FT._LIST", Form::Between(Verb::ListIndexes, 1, 1)),
-        (b"FT.INFO", Form::Info),
+        (b"FT.INFO", Form::Between(Verb::Info, 2, 2)),
         (b"FT.TAGVALS", Form::Between(Verb::TagVals, 3, 3)),
         (b"FT.SEARCH", Form::Search),
         (b"FT.AGGREGATE", Form::Unbuilt),

@@ -1,28 +1,228 @@
--- The machine has one answer to a command, where memory is not wanting.
-use Rattle.std.specs.Prelude.{◌≡◌, ◌≢◌, ℕ, List, [], Bool, Option, None, Some, Result, Ok, Err, slice_index_or, refl}
+-- A command that is answered so leads to one state, and has one reply where memory is not wanting.
+use Rattle.std.specs.Prelude.{◌≡◌, ◌≢◌, ◌<◌, ◌⊎◌, ◌+ℤ◌, ℕ, ℤ, nat_le, length, List, [], ◌∷◌, ◌++◌, Bool, true, false, Option, None, Some, Result, Ok, Err, drop, is_some, slice_index_or, refl, if◌then◌else◌, codes}
 use Rattle.std.proofs.Common.{sym, ap, subst, ◌∙◌, inl, inr, arith}
+use Rattle.ft_base.proofs.SpellingLaws.{spelling-Fault, spelling-Line, spelling-Number}
+use Rattle.ft_base.specs.Memory.{out_of_memory, want_of_memory}
+use Rattle.ft_base.specs.Hash.{get_field}
+use Rattle.ft_base.specs.Number.{int_of, is_i64}
+use Rattle.ft_base.specs.Space.{doc_of}
 use Rattle.ft_base.specs.Reply.{spelling}
+use Rattle.ft_base.specs.declared.definition.Field.{Field}
 use Rattle.ft_base.specs.declared.definition.IndexDef.{IndexDef}
 use Rattle.ft_base.specs.declared.doc.Doc.{Doc}
 use Rattle.ft_base.specs.declared.query.Param.{Param}
 use Rattle.ft_base.specs.declared.query.Query.{Query}
 use Rattle.ft_base.specs.declared.reply.Reply.{Reply}
-use Rattle.ft_base.specs.declared.reply.Reply.TheVariants.{Fault}
-use Rattle.cmd_parse.specs.Read.{Asked, Plain, CreateIndex, AlterIndex, InfoOf, Search, read}
+use Rattle.ft_base.specs.declared.reply.Reply.TheVariants.{Fault, Line, Number}
+use Rattle.std.specs.Str.{bytes_eq}
+use Rattle.cmd_parse.specs.Read.{Asked, Plain, CreateIndex, AlterIndex, Search, read, takes_memory}
+use Rattle.cmd_parse.specs.Search.{Searching}
 use Rattle.cmd_parse.specs.declared.command.CmdFault.{CmdFault}
-use Rattle.ft_machine.specs.Definitions.{Defined, index_of}
+use Rattle.cmd_parse.specs.declared.command.Verb.{Verb}
+use Rattle.cmd_parse.specs.declared.command.Verb.TheVariants.{Ping, Echo, Select, Quit, Hset, Hsetnx, Hget, Hmget, Hgetall, Hdel, Hlen, Hexists, Hincrby, Hkeys, Hvals, Del, Exists, TypeOf, Dbsize, Rename, Flushall, DropIndex, ListIndexes, Info, TagVals}
 use Rattle.query_lex.specs.Lexemes.{lexemes}
 use Rattle.query_lex.specs.declared.fault.LexFault.{LexFault}
 use Rattle.query_lex.specs.declared.lexeme.Lexeme.{Lexeme}
 use Rattle.query_grammar.specs.Answer.{Answers as Told, IsFault, IsMeaning, lex_place}
 use Rattle.query_grammar.specs.declared.fault.QueryFault.{QueryFault}
 use Rattle.query_grammar.specs.declared.fault.QueryFault.TheVariants.{Syntax, UnknownField, WrongKind, NoParam, TooDeep, OutOfScope, NoMemory}
-use Rattle.ft_machine.specs.Machine.{Outcome, State, at_moment}
-use Rattle.ft_machine.specs.Informing.{IsInformed}
-use Rattle.ft_machine.specs.Indexes.{unknown_index}
-use Rattle.ft_base.specs.Memory.{out_of_memory}
-use Rattle.ft_machine.specs.Searching.{IsAnswered, IsSearched, answer_reply}
-use Rattle.ft_machine.specs.Step.{Answers, Completes, Does, Gives, Obeys, Says, Takes}
+use Rattle.ft_schema.specs.Schema.{extended}
+use Rattle.ft_schema.specs.declared.fault.SchemaFault.{SchemaFault}
+use Rattle.ft_machine.specs.Arguments.{first, second, third}
+use Rattle.ft_machine.specs.Definitions.{Defined, index_of}
+use Rattle.ft_machine.specs.Determined.{DifferInRecords}
+use Rattle.ft_machine.specs.Indexes.{altered, altered_to, created, defines, dropped, index_over, most_indexes, unknown_index}
+use Rattle.ft_machine.specs.Informing.{informed}
+use Rattle.ft_machine.specs.Machine.{Outcome, State, answered, at_moment, hash_of, just, wanting}
+use Rattle.ft_machine.specs.PlainCommands.{plain}
+use Rattle.ft_machine.specs.Searching.{IsAnswered, answer_reply, searched}
+use Rattle.ft_machine.specs.Step.{Answers, Gives, given, last_number, outcomes, read_gives, words_give}
+use Rattle.ft_machine.specs.Writes.{hincrby, hset_unless, number_in, rename}
+
+-- the byte that a reply begins with
+abbrev mark : List ℕ → ℕ
+mark written = slice_index_or written 0 0
+
+-- An outcome changes nothing, or its reply does not begin as a refusal does.
+abbrev IsSettled : State → Outcome → Type 0
+IsSettled state outcome = (outcome.after ≡ state) ⊎ (mark (spelling outcome.reply) ≢ 45)
+
+number-mark : (n : ℤ) → mark (spelling (Number n)) ≢ 45
+number-mark n e = let is : mark (spelling (Number n)) ≡ 58 = ap mark (spelling-Number n) in absurd (omega (arith, is, e))
+
+line-mark : (text : List ℕ) → mark (spelling (Line text)) ≢ 45
+line-mark text e = let is : mark (spelling (Line text)) ≡ 43 = ap mark (spelling-Line text) in absurd (omega (arith, is, e))
+
+want-mark : (outcome : Outcome) (state : State) → outcome ≡ wanting state → mark (spelling outcome.reply) ≡ 45
+want-mark outcome state e = ap (λ (o : Outcome). mark (spelling o.reply)) e ∙ ap mark (spelling-Fault want_of_memory)
+
+unless-settled : (there : Bool) (args : List (List ℕ)) (number : ℕ) (state : State) → IsSettled state (hset_unless there args number state)
+unless-settled true args number state = inl refl
+unless-settled false args number state = inr (number-mark _)
+
+added-settled : (fits : Bool) (sum : ℤ) (state after : State) (text : List ℕ)
+    → IsSettled state (if fits then record { reply = Number sum; after = after } else answered (Fault text) state)
+added-settled true sum state after text = inr (number-mark sum)
+added-settled false sum state after text = inl refl
+
+incremented-settled : (old by : Option ℤ) (args : List (List ℕ)) (number : ℕ) (state : State) → IsSettled state (hincrby old by args number state)
+incremented-settled old None args number state = inl refl
+incremented-settled None (Some by) args number state = inl refl
+incremented-settled (Some old) (Some by) args number state = added-settled (is_i64 (old +ℤ by)) (old +ℤ by) state _ _
+
+moved-settled : (same : Bool) (state after : State)
+    → IsSettled state (if same then answered (Line (codes "OK")) state else (record { reply = Line (codes "OK"); after = after }))
+moved-settled true state after = inl refl
+moved-settled false state after = inr (line-mark _)
+
+renamed-settled : (doc : Option Doc) (from to : List ℕ) (number : ℕ) (state : State) → IsSettled state (rename doc from to number state)
+renamed-settled None from to number state = inl refl
+renamed-settled (Some doc) from to number state = moved-settled (bytes_eq from to) state _
+
+dropped-settled : (index : Option Defined) (name : List ℕ) (how : List (List ℕ)) (state : State) → IsSettled state (dropped index name how state)
+dropped-settled None name how state = inl refl
+dropped-settled (Some index) name [] state = inr (line-mark _)
+dropped-settled (Some index) name (word ∷ how) state = inr (line-mark _)
+
+altered_to-settled : (failures : ℕ) (def : Result IndexDef SchemaFault) (state : State) → IsSettled state (altered_to failures def state)
+altered_to-settled failures (Err fault) state = inl refl
+altered_to-settled failures (Ok def) state = inr (line-mark _)
+
+altered-settled : (index : Option Defined) (fields : List Field) (state : State) → IsSettled state (altered index fields state)
+altered-settled None fields state = inl refl
+altered-settled (Some index) fields state = altered_to-settled index.failures (extended index.def fields) state
+
+-- the state behind FT.CREATE of an index
+abbrev created_after : IndexDef → State → State
+created_after index state = (defines (state.definitions ++ index_over index state.space 0 ∷ []) state).after
+
+created-settled : (there full : Bool) (state after : State) (text other : List ℕ)
+    → IsSettled state (if there then answered (Fault text) state else (if full then answered (Fault other) state else record { reply = Line (codes "OK"); after = after }))
+created-settled true full state after text other = inl refl
+created-settled false true state after text other = inl refl
+created-settled false false state after text other = inr (line-mark _)
+
+-- One outcome alone may be, and it is settled.
+record One (May : Outcome → Type 0) (state : State) : Type 0 where
+  made : Outcome
+  settled : IsSettled state made
+  only : (outcome : Outcome) → May outcome → outcome ≡ made
+
+one : (made : Outcome) (state : State) → IsSettled state made → One (just made) state
+one made state settled = record { made = made; settled = settled; only = λ outcome e. e }
+
+-- a reply that changes nothing
+told : (reply : Reply) (state : State) → One (just (answered reply state)) state
+told reply state = one (answered reply state) state (inl refl)
+
+-- each plain command but FT.INFO has one outcome
+plain-one : (verb : Verb) (args : List (List ℕ)) (number : ℕ) (state : State) → One (plain verb args number state) state ⊎ (verb ≡ Info)
+plain-one Ping [] number state = inl (told _ state)
+plain-one Ping (message ∷ args) number state = inl (told _ state)
+plain-one Echo args number state = inl (told _ state)
+plain-one Select args number state = inl (told _ state)
+plain-one Quit args number state = inl (told _ state)
+plain-one Hget args number state = inl (told _ state)
+plain-one Hmget args number state = inl (told _ state)
+plain-one Hgetall args number state = inl (told _ state)
+plain-one Hkeys args number state = inl (told _ state)
+plain-one Hvals args number state = inl (told _ state)
+plain-one Hlen args number state = inl (told _ state)
+plain-one Hexists args number state = inl (told _ state)
+plain-one Exists args number state = inl (told _ state)
+plain-one TypeOf args number state = inl (told _ state)
+plain-one Dbsize args number state = inl (told _ state)
+plain-one ListIndexes args number state = inl (told _ state)
+plain-one TagVals args number state = inl (told _ state)
+plain-one Hset args number state = inl (one _ state (inr (number-mark _)))
+plain-one Hsetnx args number state = inl (one _ state (unless-settled (is_some (get_field (hash_of state (first args)) (second args))) args number state))
+plain-one Hdel args number state = inl (one _ state (inr (number-mark _)))
+plain-one Hincrby args number state = inl (one _ state (incremented-settled (number_in (get_field (hash_of state (first args)) (second args))) (int_of (third args)) args number state))
+plain-one Rename args number state = inl (one _ state (renamed-settled (doc_of state.space (first args)) (first args) (second args) number state))
+plain-one Del args number state = inl (one _ state (inr (number-mark _)))
+plain-one DropIndex args number state = inl (one _ state (dropped-settled (index_of state.definitions (first args)) (first args) (drop 1 args) state))
+plain-one Flushall args number state = inl (one _ state (inr (line-mark _)))
+plain-one Info args number state = inr refl
+
+informed-after : (index : Option Defined) (state : State) (outcome : Outcome) → informed index state outcome → outcome.after ≡ state
+informed-after None state outcome e = ap (λ (o : Outcome). o.after) e
+informed-after (Some index) state outcome e = e.1
+
+searched-after : (index : Option Defined) (what : Searching) (state : State) (outcome : Outcome) → searched index what state outcome → outcome.after ≡ state
+searched-after None what state outcome e = ap (λ (o : Outcome). o.after) e
+searched-after (Some index) what state outcome e = e.1
+
+-- FT.INFO, by its verb
+abbrev PlainAfter : Verb → Type 0
+PlainAfter verb = (args : List (List ℕ)) (number : ℕ) (state : State) (outcome : Outcome) → plain verb args number state outcome → outcome.after ≡ state
+
+info-after : (verb : Verb) → verb ≡ Info → PlainAfter verb
+info-after verb is = subst PlainAfter (sym is) (λ args number state outcome x. informed-after (index_of state.definitions (first args)) state outcome x)
+
+same-after : (a b : Outcome) (state : State) → a.after ≡ state → b.after ≡ state → a.after ≡ b.after
+same-after a b state x y = x ∙ sym y
+
+given-state : (asks : Asked) (number : ℕ) (state : State) (a b : Outcome) → given asks number state a → given asks number state b → a.after ≡ b.after
+given-state (Plain verb args) number state a b x y = elim (plain-one verb args number state) [
+  | inl o ↦ ap (λ (o : Outcome). o.after) (o.only a x ∙ sym (o.only b y))
+  | inr is ↦ same-after a b state (info-after verb is args number state a x) (info-after verb is args number state b y)
+]
+given-state (CreateIndex index) number state a b x y = ap (λ (o : Outcome). o.after) (x ∙ sym y)
+given-state (AlterIndex index fields) number state a b x y = ap (λ (o : Outcome). o.after) (x ∙ sym y)
+given-state (Search what) number state a b x y = same-after a b state (searched-after _ what state a x) (searched-after _ what state b y)
+
+by-made : (made outcome : Outcome) (state : State) → outcome ≡ made → IsSettled state made → IsSettled state outcome
+by-made made outcome state is settled = subst (λ (o : Outcome). IsSettled state o) (sym is) settled
+
+given-settled : (asks : Asked) (number : ℕ) (state : State) (a : Outcome) → given asks number state a → IsSettled state a
+given-settled (Plain verb args) number state a x = elim (plain-one verb args number state) [
+  | inl o ↦ by-made o.made a state (o.only a x) o.settled
+  | inr is ↦ inl (info-after verb is args number state a x)
+]
+given-settled (CreateIndex index) number state a x = by-made _ a state x (created-settled (is_some (index_of state.definitions index.name)) (nat_le most_indexes (length state.definitions)) state (created_after index state) (codes "Index already exists") (codes "Too many indexes"))
+given-settled (AlterIndex index fields) number state a x = by-made _ a state x (altered-settled _ fields state)
+given-settled (Search what) number state a x = inl (searched-after _ what state a x)
+
+-- what says that memory is wanting, and what is settled and says so, leave the state
+want-state : (a b : Outcome) (state : State) → IsSettled state a → b ≡ wanting state → spelling a.reply ≡ spelling b.reply → a.after ≡ state
+want-state a b state (inl same) want said = same
+want-state a b state (inr differs) want said = absurd (differs (ap mark said ∙ want-mark b state want))
+
+wanted-after : (b : Outcome) (state : State) → b ≡ wanting state → b.after ≡ state
+wanted-after b state e = ap (λ (o : Outcome). o.after) e
+
+outcomes-settled : (asks : Asked) (number : ℕ) (state : State) (a : Outcome) → outcomes asks number state a → IsSettled state a
+outcomes-settled asks number state a (inl x) = given-settled asks number state a x
+outcomes-settled asks number state a (inr want) = inl (wanted-after a state want.1)
+
+outcomes-state : (asks : Asked) (number : ℕ) (state : State) (a b : Outcome) → outcomes asks number state a → outcomes asks number state b → spelling a.reply ≡ spelling b.reply → a.after ≡ b.after
+outcomes-state asks number state a b (inl x) (inl y) said = given-state asks number state a b x y
+outcomes-state asks number state a b (inl x) (inr want) said = same-after a b state (want-state a b state (given-settled asks number state a x) want.1 said) (wanted-after b state want.1)
+outcomes-state asks number state a b (inr want) (inl y) said = same-after a b state (wanted-after a state want.1) (want-state b a state (given-settled asks number state b y) want.1 (sym said))
+outcomes-state asks number state a b (inr want) (inr wants) said = same-after a b state (wanted-after a state want.1) (wanted-after b state wants.1)
+
+gives-settled : (name : List ℕ) (asked : Result Asked CmdFault) (number : ℕ) (state : State) (a : Outcome) → read_gives name asked number state a → IsSettled state a
+gives-settled name (Ok asks) number state a x = outcomes-settled asks number state a x
+gives-settled name (Err fault) number state a x = inl (ap (λ (o : Outcome). o.after) x)
+
+gives-state : (name : List ℕ) (asked : Result Asked CmdFault) (number : ℕ) (state : State) (a b : Outcome) → read_gives name asked number state a → read_gives name asked number state b
+    → spelling a.reply ≡ spelling b.reply → a.after ≡ b.after
+gives-state name (Ok asks) number state a b x y said = outcomes-state asks number state a b x y said
+gives-state name (Err fault) number state a b x y said = ap (λ (o : Outcome). o.after) (x ∙ sym y)
+
+words-state : (words : List (List ℕ)) (number : ℕ) (state : State) (a b : Outcome) → words_give words number state a → words_give words number state b → spelling a.reply ≡ spelling b.reply → a.after ≡ b.after
+words-state words number state a b (inl x) (inl y) said = gives-state _ (read number words) number state a b x y said
+words-state words number state a b (inl x) (inr want) said = same-after a b state (want-state a b state (gives-settled _ (read number words) number state a x) want.1 said) (wanted-after b state want.1)
+words-state words number state a b (inr want) (inl y) said = same-after a b state (wanted-after a state want.1) (want-state b a state (gives-settled _ (read number words) number state b y) want.1 (sym said))
+words-state words number state a b (inr want) (inr wants) said = same-after a b state (wanted-after a state want.1) (wanted-after b state wants.1)
+
+pub has-one-state : (words : List (List ℕ)) (number moment : ℕ) (old : State) (written : List ℕ) (new next : State)
+    → Answers words number moment old written new → Answers words number moment old written next → new ≡ next
+has-one-state words number moment old written new next (inl x) (inl y) =
+    x.1.after ∙ (words-state words number (at_moment moment old) x.1.outcome y.1.outcome x.1.may y.1.may (sym x.1.reply ∙ y.1.reply) ∙ sym y.1.after)
+has-one-state words number moment old written new next (inl x) (inr y) = absurd (omega (arith, x.0, y.0))
+has-one-state words number moment old written new next (inr x) (inl y) = absurd (omega (arith, x.0, y.0))
+has-one-state words number moment old written new next (inr x) (inr y) = x.2 ∙ sym y.2
 
 -- the laws of the language, as its crate states them
 pub record Laws : Type 0 where
@@ -62,69 +262,101 @@ one-told laws def params end (Err stop) (Ok q) b ka kb x y = absurd x
 one-told laws def params end (Err stop) (Err f) (Ok q) ka kb x y = absurd y
 one-told laws def params end (Err stop) (Err f) (Err g) ka kb x y = ap (λ (f : QueryFault). Err f) (as-lexical def params end stop f ka x ∙ sym (as-lexical def params end stop g kb y))
 
-one-answered : Laws → (def : IndexDef) (query : List ℕ) (no_content : Bool) (params : List Param) (docs : List Doc) (a b : Reply)
-    → IsAnswered def query no_content params docs a → IsAnswered def query no_content params docs b → a ≡ b
-one-answered laws def query no_content params docs a b x y =
-    x.same ∙ (ap (answer_reply no_content def docs) (one-told laws def params _ (lexemes query) x.answer y.answer x.read y.read x.text y.text) ∙ sym y.same)
+one-answered : Laws → (def : IndexDef) (what : Searching) (docs : List Doc) (a b : Reply) → IsAnswered def what docs a → IsAnswered def what docs b → a ≡ b
+one-answered laws def what docs a b x y =
+    x.same ∙ (ap (answer_reply what.no_content def docs) (one-told laws def what.params _ (lexemes what.query) x.answer y.answer x.read y.read x.text y.text) ∙ sym y.same)
 
-one-searched : Laws → (index : Option Defined) (query : List ℕ) (no_content : Bool) (params : List Param) (docs : List Doc) (a b : Reply)
-    → IsSearched index query no_content params docs a → IsSearched index query no_content params docs b → a ≡ b
-one-searched laws None query no_content params docs a b x y = x ∙ sym y
-one-searched laws (Some index) query no_content params docs a b x y = one-answered laws index.def query no_content params docs a b x y
-
-one-given : (a b : Outcome) (written other : List ℕ) (new next : State) → a ≡ b → Gives a written new → Gives b other next → (written ≡ other) × (new ≡ next)
-one-given a b written other new next same x y =
-    (x.0 ∙ (ap (λ (o : Outcome). spelling o.reply) same ∙ sym y.0), x.1 ∙ (ap (λ (o : Outcome). o.after) same ∙ sym y.1))
-
-one-informed : (index : Option Defined) (docs : List Doc) (a b : Reply) → index ≡ None → IsInformed index docs a → IsInformed index docs b → a ≡ b
-one-informed index docs a b away x y =
-    let told : a ≡ Fault unknown_index = subst (λ (i : Option Defined). IsInformed i docs a) away x in
-    let other : b ≡ Fault unknown_index = subst (λ (i : Option Defined). IsInformed i docs b) away y in
-    told ∙ sym other
+one-searched : Laws → (index : Option Defined) (what : Searching) (state : State) (a b : Outcome) → searched index what state a → searched index what state b → a.reply ≡ b.reply
+one-searched laws None what state a b x y = ap (λ (o : Outcome). o.reply) (x ∙ sym y)
+one-searched laws (Some index) what state a b x y = one-answered laws index.def what state.space a.reply b.reply x.0 y.0
 
 -- whether FT.INFO is asked of no index that is there
 abbrev NotInfo : Result Asked CmdFault → State → Type 0
-NotInfo asked old = (index : List ℕ) → asked ≡ Ok (InfoOf index) → index_of old.definitions index ≡ None
+NotInfo asked old = (args : List (List ℕ)) → asked ≡ Ok (Plain Info args) → index_of old.definitions (first args) ≡ None
 
--- two replies that change nothing are one where they say the same
-one-said : (May : Reply → Type 0) → ((a b : Reply) → May a → May b → a ≡ b) → (old : State) (written other : List ℕ) (new next : State)
-    → Says May old written new → Says May old other next → (written ≡ other) × (new ≡ next)
-one-said May one old written other new next x y =
-    one-given (record { reply = x.reply; after = old }) (record { reply = y.reply; after = old }) written other new next
-    (ap (λ (r : Reply). record { reply = r; after = old }) (one x.reply y.reply x.may y.may)) x.gives y.gives
+-- FT.INFO of an index that is not there
+abbrev OneWithout : Verb → Type 0
+OneWithout verb = (args : List (List ℕ)) (number : ℕ) (state : State) (a b : Outcome) → index_of state.definitions (first args) ≡ None
+    → plain verb args number state a → plain verb args number state b → a.reply ≡ b.reply
 
-one-completed : Laws → (asks : Asked) (number : ℕ) (old : State) → NotInfo (Ok asks) old → (written other : List ℕ) (new next : State)
-    → Completes asks number old written new → Completes asks number old other next → (written ≡ other) × (new ≡ next)
-one-completed laws (Plain verb args) number old other_than written other new next x y = one-given _ _ written other new next refl x y
-one-completed laws (CreateIndex index) number old other_than written other new next x y = one-given _ _ written other new next refl x y
-one-completed laws (AlterIndex index fields) number old other_than written other new next x y = one-given _ _ written other new next refl x y
-one-completed laws (InfoOf index) number old other_than written other new next x y =
-    one-said (IsInformed (index_of old.definitions index) old.space)
-    (λ a b s t. one-informed (index_of old.definitions index) old.space a b (other_than index refl) s t) old written other new next x y
-one-completed laws (Search index query no_content params) number old other_than written other new next x y =
-    one-said (IsSearched (index_of old.definitions index) query no_content params old.space)
-    (λ a b s t. one-searched laws (index_of old.definitions index) query no_content params old.space a b s t) old written other new next x y
+info-without : OneWithout Info
+info-without args number state a b away x y =
+    let one : a ≡ answered (Fault unknown_index) state = subst (λ (i : Option Defined). informed i state a) away x in
+    let other : b ≡ answered (Fault unknown_index) state = subst (λ (i : Option Defined). informed i state b) away y in
+    ap (λ (o : Outcome). o.reply) (one ∙ sym other)
 
-one-done : Laws → (asks : Asked) (number : ℕ) (old : State) → NotInfo (Ok asks) old → (written other : List ℕ) (new next : State)
-    → Does asks number old written new → Does asks number old other next → written ≢ spelling out_of_memory → other ≢ spelling out_of_memory → (written ≡ other) × (new ≡ next)
-one-done laws asks number old other_than written other new next (inl x) (inl y) kx ky = one-completed laws asks number old other_than written other new next x y
-one-done laws asks number old other_than written other new next (inr x) y kx ky = absurd (kx x.1)
-one-done laws asks number old other_than written other new next (inl x) (inr y) kx ky = absurd (ky y.1)
+asked-info : (verb : Verb) (args : List (List ℕ)) → verb ≡ Info → let asked : Result Asked CmdFault = Ok (Plain verb args) in asked ≡ Ok (Plain Info args)
+asked-info verb args is = ap (λ (v : Verb). Ok (Plain v args)) is
 
-one-taken : Laws → (name : List ℕ) (asked : Result Asked CmdFault) (number : ℕ) (old : State) → NotInfo asked old → (written other : List ℕ) (new next : State)
-    → Takes name asked number old written new → Takes name asked number old other next → written ≢ spelling out_of_memory → other ≢ spelling out_of_memory → (written ≡ other) × (new ≡ next)
-one-taken laws name (Ok asks) number old other_than written other new next x y kx ky = one-done laws asks number old other_than written other new next x y kx ky
-one-taken laws name (Err fault) number old other_than written other new next x y kx ky = (x.0 ∙ sym y.0, x.1 ∙ sym y.1)
+given-reply : Laws → (asks : Asked) (number : ℕ) (state : State) → NotInfo (Ok asks) state → (a b : Outcome) → given asks number state a → given asks number state b → a.reply ≡ b.reply
+given-reply laws (Plain verb args) number state other_than a b x y = elim (plain-one verb args number state) [
+  | inl o ↦ ap (λ (o : Outcome). o.reply) (o.only a x ∙ sym (o.only b y))
+  | inr is ↦ subst OneWithout (sym is) info-without args number state a b (other_than args (asked-info verb args is)) x y
+]
+given-reply laws (CreateIndex index) number state other_than a b x y = ap (λ (o : Outcome). o.reply) (x ∙ sym y)
+given-reply laws (AlterIndex index fields) number state other_than a b x y = ap (λ (o : Outcome). o.reply) (x ∙ sym y)
+given-reply laws (Search what) number state other_than a b x y = one-searched laws _ what state a b x y
 
-one-obeyed : Laws → (words : List (List ℕ)) (number : ℕ) (old : State) → NotInfo (read number words) old → (written other : List ℕ) (new next : State)
-    → Obeys words number old written new → Obeys words number old other next → written ≢ spelling out_of_memory → other ≢ spelling out_of_memory → (written ≡ other) × (new ≡ next)
-one-obeyed laws words number old other_than written other new next (inl x) (inl y) kx ky = one-taken laws (slice_index_or words 0 []) (read number words) number old other_than written other new next x y kx ky
-one-obeyed laws words number old other_than written other new next (inr x) y kx ky = absurd (kx x.1)
-one-obeyed laws words number old other_than written other new next (inl x) (inr y) kx ky = absurd (ky y.1)
+-- an outcome that does not tell of want of memory
+abbrev Says : Outcome → Type 0
+Says outcome = spelling outcome.reply ≢ spelling out_of_memory
 
-pub determined : Laws → (words : List (List ℕ)) (number moment : ℕ) (old : State) (written other : List ℕ) (new next : State) → NotInfo (read number words) old
-    → Answers words number moment old written new → Answers words number moment old other next → written ≢ spelling out_of_memory → other ≢ spelling out_of_memory → (written ≡ other) × (new ≡ next)
-determined laws words number moment old written other new next other_than (inl x) (inl y) kx ky = one-obeyed laws words number (at_moment moment old) other_than written other new next x.1 y.1 kx ky
-determined laws words number moment old written other new next other_than (inl x) (inr y) kx ky = absurd (omega (arith, x.0, y.0))
-determined laws words number moment old written other new next other_than (inr x) (inl y) kx ky = absurd (omega (arith, x.0, y.0))
-determined laws words number moment old written other new next other_than (inr x) (inr y) kx ky = (x.1 ∙ sym y.1, x.2 ∙ sym y.2)
+never-wanting : (a : Outcome) (state : State) → Says a → a ≡ wanting state → ⊥
+never-wanting a state says e = says (ap (λ (o : Outcome). spelling o.reply) e)
+
+outcomes-reply : Laws → (asks : Asked) (number : ℕ) (state : State) → NotInfo (Ok asks) state → (a b : Outcome) → Says a → Says b → outcomes asks number state a → outcomes asks number state b → a.reply ≡ b.reply
+outcomes-reply laws asks number state other_than a b sa sb (inl x) (inl y) = given-reply laws asks number state other_than a b x y
+outcomes-reply laws asks number state other_than a b sa sb (inr want) y = absurd (never-wanting a state sa want.1)
+outcomes-reply laws asks number state other_than a b sa sb (inl x) (inr want) = absurd (never-wanting b state sb want.1)
+
+gives-reply : Laws → (name : List ℕ) (asked : Result Asked CmdFault) (number : ℕ) (state : State) → NotInfo asked state → (a b : Outcome) → Says a → Says b
+    → read_gives name asked number state a → read_gives name asked number state b → a.reply ≡ b.reply
+gives-reply laws name (Ok asks) number state other_than a b sa sb x y = outcomes-reply laws asks number state other_than a b sa sb x y
+gives-reply laws name (Err fault) number state other_than a b sa sb x y = ap (λ (o : Outcome). o.reply) (x ∙ sym y)
+
+words-reply : Laws → (words : List (List ℕ)) (number : ℕ) (state : State) → NotInfo (read number words) state → (a b : Outcome) → Says a → Says b
+    → words_give words number state a → words_give words number state b → a.reply ≡ b.reply
+words-reply laws words number state other_than a b sa sb (inl x) (inl y) = gives-reply laws _ (read number words) number state other_than a b sa sb x y
+words-reply laws words number state other_than a b sa sb (inr want) y = absurd (never-wanting a state sa want.1)
+words-reply laws words number state other_than a b sa sb (inl x) (inr want) = absurd (never-wanting b state sb want.1)
+
+says : (outcome : Outcome) (written : List ℕ) → written ≡ spelling outcome.reply → written ≢ spelling out_of_memory → Says outcome
+says outcome written is known e = known (is ∙ e)
+
+pub has-one-reply : Laws → (words : List (List ℕ)) (number moment : ℕ) (old : State) (written other : List ℕ) (new next : State) → NotInfo (read number words) old
+    → Answers words number moment old written new → Answers words number moment old other next → written ≢ spelling out_of_memory → other ≢ spelling out_of_memory → written ≡ other
+has-one-reply laws words number moment old written other new next other_than (inl x) (inl y) kx ky =
+    x.1.reply
+    ∙ (ap spelling (words-reply laws words number (at_moment moment old) other_than x.1.outcome y.1.outcome (says x.1.outcome written x.1.reply kx) (says y.1.outcome other y.1.reply ky) x.1.may y.1.may)
+    ∙ sym y.1.reply)
+has-one-reply laws words number moment old written other new next other_than (inl x) (inr y) kx ky = absurd (omega (arith, x.0, y.0))
+has-one-reply laws words number moment old written other new next other_than (inr x) (inl y) kx ky = absurd (omega (arith, x.0, y.0))
+has-one-reply laws words number moment old written other new next other_than (inr x) (inr y) kx ky = x.1 ∙ sym y.1
+
+-- what FT.INFO of an index that is there may give
+info-gives : (args : List (List ℕ)) (index : Defined) (words : List (List ℕ)) (number : ℕ) (state : State) (a : Outcome) → read number words ≡ Ok (Plain Info args)
+    → index_of state.definitions (first args) ≡ Some index → Says a → words_give words number state a → informed (Some index) state a
+info-gives args index words number state a asks there sa (inr want) = absurd (never-wanting a state sa want.1)
+info-gives args index words number state a asks there sa (inl x) =
+    by_part (subst (λ (r : Result Asked CmdFault). read_gives (slice_index_or words 0 []) r number state a) asks x)
+  where
+    by_part : outcomes (Plain Info args) number state a → informed (Some index) state a
+    by_part (inl y) = subst (λ (i : Option Defined). informed i state a) there y
+    by_part (inr want) = absurd (never-wanting a state sa want.1)
+
+pub info-records : (args : List (List ℕ)) (index : Defined) (words : List (List ℕ)) (number moment : ℕ) (old : State) (written other : List ℕ) (new next : State)
+    → number < last_number → read number words ≡ Ok (Plain Info args) → index_of old.definitions (first args) ≡ Some index
+    → Answers words number moment old written new → Answers words number moment old other next
+    → written ≢ spelling out_of_memory → other ≢ spelling out_of_memory → DifferInRecords index.def written other
+info-records args index words number moment old written other new next below asks there (inr x) y kx ky = absurd (omega (arith, x.0, below))
+info-records args index words number moment old written other new next below asks there (inl x) (inr y) kx ky = absurd (omega (arith, y.0, below))
+info-records args index words number moment old written other new next below asks there (inl x) (inl y) kx ky =
+    let state = at_moment moment old in
+    let one = info-gives args index words number state x.1.outcome asks there (says x.1.outcome written x.1.reply kx) x.1.may in
+    let two = info-gives args index words number state y.1.outcome asks there (says y.1.outcome other y.1.reply ky) y.1.may in
+    record {
+      counts = _;
+      records = two.0.records;
+      first_reply = x.1.reply ∙ ap spelling one.0.same;
+      second_reply = y.1.reply ∙ ap spelling two.0.same;
+    }

@@ -1,9 +1,10 @@
 -- A history goes on by an entry.
-use Rattle.std.proofs.Common.{◌≡◌, ℕ, suc, ◌+◌, ◌^◌, ◌≤◌, min, List, [], ◌∷◌, ◌++◌, length, refl, sym, ap, subst, ◌∙◌, arith, append_assoc}
+use Rattle.std.specs.Prelude.{Bool, true, false, cond, nat_eq}
+use Rattle.std.proofs.Common.{◌≡◌, ℕ, suc, ◌+◌, ◌^◌, ◌≤◌, min, List, [], ◌∷◌, ◌++◌, length, refl, sym, ap, subst, ◌∙◌, arith, append_assoc, rules}
 use Rattle.std.proofs.lemmas.List.{append-nil}
 use Rattle.ft_machine.specs.Machine.{State, empty_state}
 use Rattle.ft_machine.specs.Step.{next_number}
-use Rattle.ft_machine.specs.History.{Entry, Exec, Leads, MayFollow, IsLegal, replies_of, reply_of}
+use Rattle.ft_machine.specs.History.{Entry, Exec, Leads, MayFollow, IsLegal, Said, own, replies_of}
 
 -- counting n + 1 on from a number is counting n on from the next, where it stops at a top
 counts_on : (first n number top : ℕ) → number ≡ min (first + suc n) top → number ≡ min (min (first + 1) top + n) top
@@ -45,8 +46,22 @@ pub IsLegal-push : (next : ℕ) (mid new : State) (entries : List Entry) (entry 
     → IsLegal 1 entries mid → next ≡ 1 + length entries → next ≤ 2 ^ 62 → MayFollow next mid entry new → IsLegal 1 (entries ++ entry ∷ []) new
 IsLegal-push next mid new entries entry legal at h may = Leads-push-below MayFollow 1 next empty_state mid new entries entry legal at h may
 
+same-number : (n : ℕ) → nat_eq n n ≡ true
+same-number n = search rules
+
+own-step : (its : Bool) (first last : Said) (more said : List Said) → more ≡ said ++ last ∷ [] → cond its (first ∷ more) more ≡ cond its (first ∷ said) said ++ last ∷ []
+own-step true first last more said e = ap (λ (s : List Said). first ∷ s) e
+own-step false first last more said e = e
+
+-- A caller's command is its last.
+pub own-push : (caller moment : ℕ) (words : List (List ℕ)) (reply : List ℕ) (entries : List Entry)
+    → own caller (entries ++ Exec caller moment words reply ∷ []) ≡ own caller entries ++ record { moment = moment; words = words; reply = reply } ∷ []
+own-push caller moment words reply [] = rw (same-number caller) refl
+own-push caller moment words reply (Exec other at ws r ∷ entries) =
+    own-step (nat_eq caller other) (record { moment = at; words = ws; reply = r }) (record { moment = moment; words = words; reply = reply }) _ _ (own-push caller moment words reply entries)
+
 -- the replies with one more
-pub replies_of-push : (entries : List Entry) (entry : Entry) → replies_of (entries ++ entry ∷ []) ≡ replies_of entries ++ reply_of entry
-replies_of-push [] (Exec caller moment words reply) = append-nil reply
-replies_of-push (Exec caller moment words reply ∷ entries) entry =
-    ap (λ (t : List ℕ). reply ++ t) (replies_of-push entries entry) ∙ sym (append_assoc reply (replies_of entries) (reply_of entry))
+pub replies_of-push : (said : List Said) (one : Said) → replies_of (said ++ one ∷ []) ≡ replies_of said ++ one.reply
+replies_of-push [] one = append-nil one.reply
+replies_of-push (first ∷ said) one =
+    ap (λ (t : List ℕ). first.reply ++ t) (replies_of-push said one) ∙ sym (append_assoc first.reply (replies_of said) one.reply)

@@ -1,5 +1,6 @@
 -- Histories: what happened, entry by entry, each legal in the state before it.
-use Rattle.std.specs.Prelude.{◌≡◌, ◌<◌, ℕ, List, [], ◌∷◌, ◌++◌, length}
+use Rattle.std.specs.Prelude.{◌≡◌, ◌<◌, ℕ, List, [], ◌∷◌, length, map, nat_eq, if◌then◌else◌}
+use Rattle.ft_base.specs.Reply.{joined}
 use Rattle.ft_base.specs.Words.{KeepsLimits}
 use Rattle.ft_machine.specs.Machine.{State, empty_state}
 use Rattle.ft_machine.specs.Step.{Answers, next_number}
@@ -22,20 +23,29 @@ MayFollow number old (Exec caller moment words reply) new = (0 < length words) �
 abbrev pub IsLegal : ℕ → List Entry → State → Type 0
 IsLegal first entries after = Leads MayFollow first empty_state entries after
 
--- the replies of a history, one after another
-abbrev pub replies_of : List Entry → List ℕ
-replies_of [] = []
-replies_of (Exec caller moment words reply ∷ entries) = reply ++ replies_of entries
-
--- the commands, their moments and their callers
-abbrev pub words_of : Entry → List (List ℕ)
-words_of (Exec caller moment words reply) = words
-
-abbrev pub moment_of : Entry → ℕ
-moment_of (Exec caller moment words reply) = moment
-
+-- who made an entry
 abbrev pub caller_of : Entry → ℕ
 caller_of (Exec caller moment words reply) = caller
 
-abbrev pub reply_of : Entry → List ℕ
-reply_of (Exec caller moment words reply) = reply
+-- What a caller's command left: its moment, its words and its reply.
+pub record Said : Type 0 where
+  pub moment : ℕ
+  pub words : List (List ℕ)
+  pub reply : List ℕ
+
+-- The commands of one caller among the entries of all, in their order.
+abbrev pub own : ℕ → List Entry → List Said
+own caller [] = []
+own caller (Exec other moment words reply ∷ entries) =
+    if nat_eq caller other then record { moment = moment; words = words; reply = reply } ∷ own caller entries else own caller entries
+
+-- the words of commands, and their moments
+abbrev pub words_of : List Said → List (List (List ℕ))
+words_of said = map (λ (one : Said). one.words) said
+
+abbrev pub moments_of : List Said → List ℕ
+moments_of said = map (λ (one : Said). one.moment) said
+
+-- the replies of commands, one after another
+abbrev pub replies_of : List Said → List ℕ
+replies_of said = joined (map (λ (one : Said). one.reply) said)

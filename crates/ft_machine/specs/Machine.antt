@@ -1,5 +1,6 @@
 -- The state of the machine: the plain hashes, and what else a reply may depend on.
-use Rattle.std.specs.Prelude.{ℕ, max, List, []}
+use Rattle.std.specs.Prelude.{◌≡◌, ℕ, max, List, []}
+use Rattle.ft_base.specs.Memory.{out_of_memory}
 use Rattle.ft_base.specs.Hash.{Hash}
 use Rattle.ft_base.specs.Space.{doc_of}
 use Rattle.ft_base.specs.declared.doc.Doc.{Doc}
@@ -18,7 +19,7 @@ pub record State : Type 0 where
 abbrev pub empty_state : State
 empty_state = record { space = []; definitions = []; latest = 0 }
 
--- The state at a command's moment, before the command does anything. A moment that is earlier counts as the latest one.
+-- The state at an event's moment, before the event does anything. A moment that is earlier counts as the latest one.
 abbrev pub at_moment : ℕ → State → State
 at_moment moment state = record state { latest = max moment state.latest }
 
@@ -34,3 +35,11 @@ pub record Outcome : Type 0 where
 -- a reply that changes nothing
 abbrev pub answered : Reply → State → Outcome
 answered reply state = record { reply = reply; after = state }
+
+-- the outcome where memory is wanting
+abbrev pub wanting : State → Outcome
+wanting state = answered out_of_memory state
+
+-- this outcome, and no other
+abbrev pub just : Outcome → Outcome → Type 0
+just made outcome = outcome ≡ made

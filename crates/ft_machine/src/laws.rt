@@ -1,13 +1,20 @@
-//! A law of the machine, whatever code obeys it. The function does nothing: its contract is the law.
-ghost use Rattle.ft_machine.specs.Determined.{IsDetermined};
+//! Laws of the machine, whatever code obeys it. The functions do nothing: their contracts are the laws.
+ghost use Rattle.ft_machine.specs.Determined.{HasOneReply, HasOneState, InfoDiffersInRecords};
 
 use query_grammar::{one_fault, one_tree, tree_or_fault};
 
-/// A command has one reply and one next state, but for want of memory and the records that FT.INFO tells.
-pub fn one_answer()
-    ensures { IsDetermined }
+/// A command has one reply, but for want of memory and the records that FT.INFO tells.
+pub fn one_reply()
+    ensures reply { HasOneReply }
+    ensures records { InfoDiffersInRecords }
 {
     one_tree();
     one_fault();
     tree_or_fault();
+}
+
+/// A command that is answered so leads to one state: a history has one state behind it.
+pub fn one_state()
+    ensures { HasOneState }
+{
 }

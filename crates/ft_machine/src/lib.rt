@@ -10,5 +10,5 @@ mod laws;
 
 /// The numbers that FT.INFO tells.
 pub use counts::Counts;
-/// That a command has one answer.
-pub use laws::one_answer;
+/// That a command has one reply, and leads to one state.
+pub use laws::{one_reply, one_state};

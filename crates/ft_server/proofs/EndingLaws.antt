@@ -9,7 +9,7 @@ use Rattle.fs_ports.proofs.MomentLaws.{Gives-nil}
 use Rattle.ft_base.specs.Words.{KeepsLimits, is_quit}
 use Rattle.fs_ports.specs.Causes.{Rose, WritesFront}
 use Rattle.fs_ports.specs.Moments.{Gives}
-use Rattle.ft_machine.specs.History.{Entry, Exec, replies_of, words_of, moment_of}
+use Rattle.ft_machine.specs.History.{Said, moments_of, replies_of, words_of}
 use Rattle.ft_machine.specs.Machine.{empty_state}
 use Rattle.ft_engine.specs.Stands.{Stands}
 use Rattle.resp_wire.specs.Decoding.{Decoding, fed, StopsAt, NextIsLong}
@@ -32,14 +32,14 @@ all_read (Some all) None input read end = absurd read
 all_read (Some all) (Some more) input read end = sym (read ∙ (ap (λ (l : List ℕ). input ++ l) end ∙ append-nil input))
 
 -- the commands that are due, those answered and those of what is left
-pub due_split : (held : Decoding) (engine : Stands) (before now : Outside) (going : Going held engine before now) → due going.input ≡ map words_of going.entries ++ until_quit (stream_of held.left).commands
+pub due_split : (held : Decoding) (engine : Stands) (before now : Outside) (going : Going held engine before now) → due going.input ≡ words_of going.said ++ until_quit (stream_of held.left).commands
 due_split held engine before now going =
-    ap (λ (s : Stream). until_quit s.commands) going.split ∙ due_behind (map words_of going.entries) (stream_of held.left).commands going.no_quit
+    ap (λ (s : Stream). until_quit s.commands) going.split ∙ due_behind (words_of going.said) (stream_of held.left).commands going.no_quit
 
 -- and whether QUIT is among them
 quits_split : (held : Decoding) (engine : Stands) (before now : Outside) (going : Going held engine before now) → quits (stream_of going.input).commands ≡ quits (stream_of held.left).commands
 quits_split held engine before now going =
-    ap (λ (s : Stream). quits s.commands) going.split ∙ quits_behind (map words_of going.entries) (stream_of held.left).commands going.no_quit
+    ap (λ (s : Stream). quits s.commands) going.split ∙ quits_behind (words_of going.said) (stream_of held.left).commands going.no_quit
 
 -- the fault is that of what is left
 fault_split : (held : Decoding) (engine : Stands) (before now : Outside) (going : Going held engine before now) → fault_of going.input ≡ fault_from (fed held) (stream_of held.left).stop
@@ -50,10 +50,10 @@ fault_split held engine before now going =
 pub served : (held : Decoding) (engine : Stands) (before now after : Outside) (others : List Command) (text : List ℕ) (going : Going held engine before now)
     → until_quit (stream_of held.left).commands ≡ others → Keeps now.left after.left → now.given ≡ after.given → Appends now.written after.written text → Served going.input others text before after
 served held engine before now after others text going is kept given sent = record {
-  entries = going.entries;
+  said = going.said;
   read = Consumes-kept before.left now.left after.left going.input going.read kept;
-  due_are = due_split held engine before now going ∙ ap (λ (cs : List Command). map words_of going.entries ++ cs) is;
-  answered = record { after = engine.state; legal = going.legal; alone = going.alone; moments = subst (λ (g : Option (List ℕ)). Gives before.given g (map moment_of going.entries)) given going.moments };
+  due_are = due_split held engine before now going ∙ ap (λ (cs : List Command). words_of going.said ++ cs) is;
+  answered = record { entries = going.entries; after = engine.state; own_are = going.own_are; legal = going.legal; alone = going.alone; moments = subst (λ (g : Option (List ℕ)). Gives before.given g (moments_of going.said)) given going.moments };
   written = Appends-trans before.written now.written after.written _ _ going.sent sent;
 }
 
@@ -94,7 +94,7 @@ ends_reading how held engine before after total faults going more fed_is low why
     wants few = record { is_open = open_now; few = omega (arith, few, fed_is, going.fed_is) }
 
     rest_is : (n : ℕ) → length held.left ≡ n → EndsWith going.input n
-    rest_is n e = ap (λ (s : Stream). length s.rest) (going.split ∙ ap (behind (map words_of going.entries)) more) ∙ e
+    rest_is n e = ap (λ (s : Stream). length s.rest) (going.split ∙ ap (behind (words_of going.said)) more) ∙ e
 
     by_end : (e : End) → NoMore e total held.left after.left faults after.read_faults → Ends e before after
     by_end end.Closed n = (going.input, all_read before.left after.left going.input going.read n.2, wants n.0, rest_is 0 n.1, done)
@@ -149,10 +149,10 @@ ends_at_once now = (
   [],
   inl refl,
   record {
-    entries = [];
+    said = [];
     read = Consumes-nil now.left;
     due_are = refl;
-    answered = record { after = empty_state; legal = refl; alone = All-nil _; moments = Gives-nil now.given };
+    answered = record { entries = []; after = empty_state; legal = refl; own_are = refl; alone = All-nil _; moments = Gives-nil now.given };
     written = Appends-nil now.written;
   },
 )
@@ -166,8 +166,8 @@ module _ (held later : Decoding) (engine engine' : Stands) (before now after : O
   abbrev pub others_of : List Command
   others_of = cond (is_quit words) [] (until_quit (stream_of later.left).commands)
 
-  abbrev pub entry_of : Entry
-  entry_of = Exec 0 answer.moment words reply
+  abbrev pub one_of : Said
+  one_of = record { moment = answer.moment; words = words; reply = reply }
 
   one_due : until_quit (words ∷ (stream_of later.left).commands) ≡ words ∷ others_of
   one_due = by_test (is_quit words)
@@ -179,13 +179,13 @@ module _ (held later : Decoding) (engine engine' : Stands) (before now after : O
   taken_commands : (stream_of held.left).commands ≡ words ∷ (stream_of later.left).commands
   taken_commands = ap (λ (s : Stream). s.commands) (taken ∙ taken_first words (stream_of later.left) some)
 
-  due_more : due going.input ≡ map words_of (going.entries ++ entry_of ∷ []) ++ others_of
+  due_more : due going.input ≡ words_of (going.said ++ one_of ∷ []) ++ others_of
   due_more =
       due_split held engine before now going
-      ∙ (ap (λ (cs : List Command). map words_of going.entries ++ until_quit cs) taken_commands
-      ∙ (ap (λ (cs : List Command). map words_of going.entries ++ cs) one_due
-      ∙ (sym (append_assoc (map words_of going.entries) (words ∷ []) others_of)
-      ∙ ap (λ (cs : List Command). cs ++ others_of) (sym (map_push words_of going.entries entry_of)))))
+      ∙ (ap (λ (cs : List Command). words_of going.said ++ until_quit cs) taken_commands
+      ∙ (ap (λ (cs : List Command). words_of going.said ++ cs) one_due
+      ∙ (sym (append_assoc (words_of going.said) (words ∷ []) others_of)
+      ∙ ap (λ (cs : List Command). cs ++ others_of) (sym (map_push (λ (s : Said). s.words) going.said one_of)))))
 
   -- its reply was written in part
   pub ends_reply_cut : WritesFront now.written after.written reply → Rose now.write_faults after.write_faults → Ends end.WriteFault before after
@@ -194,8 +194,8 @@ module _ (held later : Decoding) (engine engine' : Stands) (before now after : O
     (
       going.input,
       inl (record {
-        entries = going.entries;
-        last = entry_of;
+        said = going.said;
+        last = one_of;
         others = others_of;
         front = sent.front;
         read = Consumes-kept before.left now.left after.left going.input going.read kept;
@@ -213,11 +213,11 @@ module _ (held later : Decoding) (engine engine' : Stands) (before now after : O
     going.input,
     quits_split held engine before now going ∙ (ap (λ (cs : List Command). quits cs) taken_commands ∙ ap (λ b. b || quits (stream_of later.left).commands) quit),
     record {
-      entries = going.entries ++ entry_of ∷ [];
+      said = going.said ++ one_of ∷ [];
       read = Consumes-kept before.left now.left after.left going.input going.read kept;
-      due_are = due_more ∙ ap (λ b. map words_of (going.entries ++ entry_of ∷ []) ++ cond b [] (until_quit (stream_of later.left).commands)) quit;
+      due_are = due_more ∙ ap (λ b. words_of (going.said ++ one_of ∷ []) ++ cond b [] (until_quit (stream_of later.left).commands)) quit;
       answered = answered_more held later engine engine' before now after words reply going answer some limits bound taken kept;
-      written = subst (Appends before.written after.written) (sym (append-nil (replies_of (going.entries ++ entry_of ∷ []))))
+      written = subst (Appends before.written after.written) (sym (append-nil (replies_of (going.said ++ one_of ∷ []))))
           (sent_more held later engine engine' before now after words reply going answer some limits bound taken kept sent);
     },
   )

@@ -8,7 +8,7 @@ use Rattle.std.specs.Io.KnownBytes.{Appends, Consumes, Keeps}
 use Rattle.std.proofs.KnownBytes.{Appends-trans, Appends-nil, Appends-kept, Consumes-nil, Consumes-trans, Consumes-kept}
 use Rattle.ft_base.specs.Words.{KeepsLimits, is_quit}
 use Rattle.fs_ports.specs.Moments.{Gives}
-use Rattle.ft_machine.specs.History.{Entry, Exec, IsLegal, replies_of, words_of, moment_of, caller_of}
+use Rattle.ft_machine.specs.History.{Entry, Exec, IsLegal, Said, caller_of, moments_of, own, replies_of, words_of}
 use Rattle.ft_engine.specs.Stands.{Stands, opened}
 use Rattle.resp_wire.specs.Decoding.{Decoding, fed}
 use Rattle.resp_wire.specs.declared.fault.Stop.TheVariants.{More}
@@ -18,7 +18,7 @@ use Rattle.ft_server.specs.Answer.{Answer}
 use Rattle.ft_server.specs.Reading.{Further}
 use Rattle.ft_server.specs.Session.{Answered, Outside, quits}
 use Rattle.ft_server.proofs.QuitLaws.{quits_behind}
-use Rattle.ft_machine.proofs.HistoryLaws.{IsLegal-push, replies_of-push}
+use Rattle.ft_machine.proofs.HistoryLaws.{IsLegal-push, own-push, replies_of-push}
 use Rattle.fs_ports.proofs.MomentLaws.{Gives-nil, Gives-trans}
 
 -- a stream whose first commands were taken
@@ -29,16 +29,18 @@ behind taken stream = record stream { commands = taken ++ stream.commands }
 pub record Going (held : Decoding) (engine : Stands) (before now : Outside) : Type 0 where
   pub input : List ℕ
   pub entries : List Entry
+  pub said : List Said
+  pub own_are : own 0 entries ≡ said
   pub read : Consumes before.left now.left input
   pub legal : IsLegal 1 entries engine.state
   pub next : engine.next ≡ 1 + length entries
   pub alone : All (λ (entry : Entry). caller_of entry ≡ 0) entries
-  pub split : stream_of input ≡ behind (map words_of entries) (stream_of held.left)
-  pub no_quit : quits (map words_of entries) ≡ false
+  pub split : stream_of input ≡ behind (words_of said) (stream_of held.left)
+  pub no_quit : quits (words_of said) ≡ false
   pub fed_is : fed held ≡ length input
   pub few : length entries ≤ held.taken
-  pub moments : Gives before.given now.given (map moment_of entries)
-  pub sent : Appends before.written now.written (replies_of entries)
+  pub moments : Gives before.given now.given (moments_of said)
+  pub sent : Appends before.written now.written (replies_of said)
   pub reads : before.read_faults ≤ now.read_faults
   pub writes : before.write_faults ≤ now.write_faults
 
@@ -47,6 +49,8 @@ pub begins : (held : Decoding) (now : Outside) → held.taken ≡ 0 → held.lef
 begins held now none empty = record {
   input = [];
   entries = [];
+  said = [];
+  own_are = refl;
   read = Consumes-nil now.left;
   legal = refl;
   next = refl;
@@ -73,33 +77,39 @@ module _ (held later : Decoding) (engine engine' : Stands) (before now after : O
   abbrev pub entry : Entry
   entry = Exec 0 answer.moment words reply
 
+  abbrev pub one : Said
+  one = record { moment = answer.moment; words = words; reply = reply }
+
+  own_more : own 0 (going.entries ++ entry ∷ []) ≡ going.said ++ one ∷ []
+  own_more = own-push 0 answer.moment words reply going.entries ∙ ap (λ (s : List Said). s ++ one ∷ []) going.own_are
+
   legal_more : IsLegal 1 (going.entries ++ entry ∷ []) engine'.state
   legal_more = IsLegal-push engine.next engine.state engine'.state going.entries entry going.legal going.next bound (some, limits, answer.step)
 
   alone_more : All (λ (e : Entry). caller_of e ≡ 0) (going.entries ++ entry ∷ [])
   alone_more = All-push (λ (e : Entry). caller_of e ≡ 0) going.entries entry going.alone refl
 
-  split_more : stream_of going.input ≡ behind (map words_of (going.entries ++ entry ∷ [])) (stream_of later.left)
+  split_more : stream_of going.input ≡ behind (words_of (going.said ++ one ∷ [])) (stream_of later.left)
   split_more =
-      going.split ∙ (ap (behind (map words_of going.entries)) (taken ∙ taken_first words (stream_of later.left) some)
-      ∙ (ap (λ (cs : List Command). with_commands cs) (sym (append_assoc (map words_of going.entries) (words ∷ []) (stream_of later.left).commands))
-      ∙ ap (λ (cs : List Command). behind cs (stream_of later.left)) (sym (map_push words_of going.entries entry))))
+      going.split ∙ (ap (behind (words_of going.said)) (taken ∙ taken_first words (stream_of later.left) some)
+      ∙ (ap (λ (cs : List Command). with_commands cs) (sym (append_assoc (words_of going.said) (words ∷ []) (stream_of later.left).commands))
+      ∙ ap (λ (cs : List Command). behind cs (stream_of later.left)) (sym (map_push (λ (s : Said). s.words) going.said one))))
     where
       with_commands : List Command → Stream
       with_commands cs = record { commands = cs; rest = (stream_of later.left).rest; stop = (stream_of later.left).stop }
 
-  moments_more : Gives before.given after.given (map moment_of (going.entries ++ entry ∷ []))
-  moments_more = subst (Gives before.given after.given) (sym (map_push moment_of going.entries entry)) (Gives-trans before.given now.given after.given _ _ going.moments answer.asked)
+  moments_more : Gives before.given after.given (moments_of (going.said ++ one ∷ []))
+  moments_more = subst (Gives before.given after.given) (sym (map_push (λ (s : Said). s.moment) going.said one)) (Gives-trans before.given now.given after.given _ _ going.moments answer.asked)
 
   -- the words of the entries, one more
-  pub words_more : map words_of (going.entries ++ entry ∷ []) ≡ map words_of going.entries ++ words ∷ []
-  words_more = map_push words_of going.entries entry
+  pub words_more : words_of (going.said ++ one ∷ []) ≡ words_of going.said ++ words ∷ []
+  words_more = map_push (λ (s : Said). s.words) going.said one
 
-  pub answered_more : Answered (going.entries ++ entry ∷ []) before.given after.given
-  answered_more = record { after = engine'.state; legal = legal_more; alone = alone_more; moments = moments_more }
+  pub answered_more : Answered (going.said ++ one ∷ []) before.given after.given
+  answered_more = record { entries = going.entries ++ entry ∷ []; after = engine'.state; legal = legal_more; own_are = own_more; alone = alone_more; moments = moments_more }
 
-  pub sent_more : Appends now.written after.written reply → Appends before.written after.written (replies_of (going.entries ++ entry ∷ []))
-  sent_more sent = subst (Appends before.written after.written) (sym (replies_of-push going.entries entry)) (Appends-trans before.written now.written after.written _ _ going.sent sent)
+  pub sent_more : Appends now.written after.written reply → Appends before.written after.written (replies_of (going.said ++ one ∷ []))
+  sent_more sent = subst (Appends before.written after.written) (sym (replies_of-push going.said one)) (Appends-trans before.written now.written after.written _ _ going.sent sent)
 
   -- the reply was written whole, and the command is not QUIT
   pub goes_by : is_quit words ≡ false → length later.left < length held.left → fed later ≡ fed held → Appends now.written after.written reply → before.read_faults ≤ after.read_faults → before.write_faults ≤ after.write_faults
@@ -107,12 +117,14 @@ module _ (held later : Decoding) (engine engine' : Stands) (before now after : O
   goes_by no_quit shorter same sent reads writes = record {
     input = going.input;
     entries = going.entries ++ entry ∷ [];
+    said = going.said ++ one ∷ [];
+    own_are = own_more;
     read = Consumes-kept before.left now.left after.left going.input going.read kept;
     legal = legal_more;
     next = omega (arith, answer.next, going.next, length_push going.entries entry);
     alone = alone_more;
     split = split_more;
-    no_quit = ap quits words_more ∙ (quits_behind (map words_of going.entries) (words ∷ []) going.no_quit ∙ one_no_quit words no_quit);
+    no_quit = ap quits words_more ∙ (quits_behind (words_of going.said) (words ∷ []) going.no_quit ∙ one_no_quit words no_quit);
     fed_is = omega (arith, same, going.fed_is);
     few = omega (arith, going.few, same, shorter, length_push going.entries entry);
     moments = moments_more;
@@ -136,11 +148,13 @@ pub waits : (held later : Decoding) (engine : Stands) (before now : Outside) →
 waits held later engine before now going more same further = record {
   input = going.input;
   entries = going.entries;
+  said = going.said;
+  own_are = going.own_are;
   read = going.read;
   legal = going.legal;
   next = going.next;
   alone = going.alone;
-  split = going.split ∙ ap (behind (map words_of going.entries)) (more ∙ sym (same_stream held.left later.left more));
+  split = going.split ∙ ap (behind (words_of going.said)) (more ∙ sym (same_stream held.left later.left more));
   no_quit = going.no_quit;
   fed_is = omega (arith, same, going.fed_is);
   few = omega (arith, going.few, further);
@@ -164,15 +178,17 @@ pub reads_on : (held later : Decoding) (engine : Stands) (before now after : Out
 reads_on held later engine before now after going more further kept given reads writes = record {
   input = going.input ++ further.piece;
   entries = going.entries;
+  said = going.said;
+  own_are = going.own_are;
   read = Consumes-trans before.left now.left after.left going.input further.piece going.read further.read;
   legal = going.legal;
   next = going.next;
   alone = going.alone;
-  split = grown (map words_of going.entries) going.input held.left further.piece later.left (going.split ∙ ap (behind (map words_of going.entries)) more) further.longer;
+  split = grown (words_of going.said) going.input held.left further.piece later.left (going.split ∙ ap (behind (words_of going.said)) more) further.longer;
   no_quit = going.no_quit;
   fed_is = omega (arith, going.fed_is, further.taken, ap length further.longer, length-append held.left further.piece, length-append going.input further.piece);
   few = omega (arith, going.few, further.taken);
-  moments = subst (λ (g : Option (List ℕ)). Gives before.given g (map moment_of going.entries)) given going.moments;
+  moments = subst (λ (g : Option (List ℕ)). Gives before.given g (moments_of going.said)) given going.moments;
   sent = Appends-kept before.written now.written after.written _ going.sent kept;
   reads = omega (arith, going.reads, reads);
   writes = omega (arith, going.writes, writes);

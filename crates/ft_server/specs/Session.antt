@@ -1,5 +1,5 @@
 -- What the program promises of one connection: what was written is the replies of a legal history of the commands read.
-use Rattle.std.specs.Prelude.{◌≡◌, ℕ, ◌<◌, ◌^◌, List, [], ◌∷◌, ◌++◌, map, length, Bool, false, None}
+use Rattle.std.specs.Prelude.{◌≡◌, ℕ, ◌<◌, ◌^◌, List, [], ◌∷◌, ◌++◌, length, Bool, false, None}
 use Rattle.std.specs.declared.option.Option.{Option}
 use Rattle.std.specs.Io.KnownBytes.{Appends, Consumes}
 use Rattle.std.specs.List.{All, list_any}
@@ -8,7 +8,7 @@ use Rattle.fs_ports.specs.declared.clock.Clock as Clock
 use Rattle.fs_ports.specs.declared.link.Link as Link
 use Rattle.fs_ports.specs.Moments.{Gives}
 use Rattle.ft_machine.specs.Machine.{State}
-use Rattle.ft_machine.specs.History.{Entry, IsLegal, replies_of, reply_of, words_of, moment_of, caller_of}
+use Rattle.ft_machine.specs.History.{Entry, IsLegal, Said, caller_of, moments_of, own, replies_of, words_of}
 use Rattle.resp_wire.specs.Stream.{Command, stream_of, fault_of, due}
 
 -- whether a QUIT is among the commands
@@ -25,13 +25,15 @@ pub record WantsMore (input : List ℕ) : Type 0 where
   pub is_open : IsOpen input
   pub few : length input < 2 ^ 40
 
--- Commands were answered so: by a legal history of this one caller that begins at number 1 in the empty state, at the
--- moments that the clock gave, in order.
-pub record Answered (entries : List Entry) (given given' : Option (List ℕ)) : Type 0 where
+-- This caller's commands were answered so: they are those of caller 0 in a legal history that begins at number 1 in the
+-- empty state, at the moments that the clock gave, in order. Nobody else has an entry in it.
+pub record Answered (said : List Said) (given given' : Option (List ℕ)) : Type 0 where
+  pub entries : List Entry
   pub after : State
   pub legal : IsLegal 1 entries after
+  pub own_are : own 0 entries ≡ said
   pub alone : All (λ (entry : Entry). caller_of entry ≡ 0) entries
-  pub moments : Gives given given' (map moment_of entries)
+  pub moments : Gives given given' (moments_of said)
 
 -- What a link and a clock tell at one moment.
 pub record Outside : Type 0 where
@@ -54,11 +56,11 @@ told port watch link clock = record {
 -- These bytes were read, and the commands that are due but for these last ones were answered. What was written is the
 -- replies, and this text behind them.
 pub record Served (input : List ℕ) (others : List Command) (text : List ℕ) (before after : Outside) : Type 0 where
-  pub entries : List Entry
+  pub said : List Said
   pub read : Consumes before.left after.left input
-  pub due_are : due input ≡ map words_of entries ++ others
-  pub answered : Answered entries before.given after.given
-  pub written : Appends before.written after.written (replies_of entries ++ text)
+  pub due_are : due input ≡ words_of said ++ others
+  pub answered : Answered said before.given after.given
+  pub written : Appends before.written after.written (replies_of said ++ text)
 
 -- More may be read: what was read leaves the connection open, and each command that it spells whole was answered and its
 -- reply written.
@@ -75,12 +77,12 @@ pub record IsCut (front piece : List ℕ) : Type 0 where
 
 -- Of the reply to the last command that was answered only a front was written, and all before it whole.
 pub record ReplyCut (input : List ℕ) (before after : Outside) : Type 0 where
-  pub entries : List Entry
-  pub last : Entry
+  pub said : List Said
+  pub last : Said
   pub others : List Command
   pub front : List ℕ
   pub read : Consumes before.left after.left input
-  pub due_are : due input ≡ map words_of (entries ++ last ∷ []) ++ others
-  pub answered : Answered (entries ++ last ∷ []) before.given after.given
-  pub cut : IsCut front (reply_of last)
-  pub written : Appends before.written after.written (replies_of entries ++ front)
+  pub due_are : due input ≡ words_of (said ++ last ∷ []) ++ others
+  pub answered : Answered (said ++ last ∷ []) before.given after.given
+  pub cut : IsCut front last.reply
+  pub written : Appends before.written after.written (replies_of said ++ front)

@@ -1,6 +1,8 @@
 //! What the words of the command line ask for.
-ghost use Rattle.std.specs.Prelude.{◌≡◌, ◌↔◌, IsErr};
+ghost use Rattle.std.specs.Prelude.{◌≡◌, ◌↔◌, IsOk};
 ghost use Rattle.ft_server.specs.Script.{IsScript};
+
+use std::alloc::Global;
 
 /// A form of the command line.
 #[derive(Clone, Copy, Debug, PartialEq, Eq)]
@@ -9,15 +11,19 @@ pub enum Form {
     Script,
 }
 
-/// Why words are no form.
+/// Why words give no form.
 #[derive(Clone, Copy, Debug, PartialEq, Eq)]
 pub enum WordFault {
+    /// They are none.
     Usage,
+    /// Memory is wanting for what the form keeps of them.
+    NoMemory,
 }
 
-/// The form of the words behind the program's name. It takes no memory.
-pub fn read_words(words: &[String]) -> Result<Form, WordFault>
-    ensures { IsErr result ↔ (IsScript words.now → ⊥) }
+/// The form of the words behind the program's name. What it keeps of them is allocated: `script` keeps nothing.
+pub fn read_words(_alloc: Global, words: &[String]) -> Result<Form, WordFault>
+    ensures script { IsOk result → IsScript words.now }
+    ensures usage { (result ≡ Err WordFault.Usage) ↔ (IsScript words.now → ⊥) }
 {
     match words {
         [word] if word.as_str() == "script" => Ok(Form::Script),

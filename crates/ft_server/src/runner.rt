@@ -24,8 +24,9 @@ pub fn run<L: Link, C: Clock>(alloc: Global, words: &[String], link: &mut L, clo
     // What the limits of a command are, by which its definition goes.
     ensures limits { HaveNumbers }
 {
-    match read_words(words) {
+    match read_words(alloc, words) {
         Ok(Form::Script) => Exit::at(serve_connection(alloc, link, clock)),
         Err(WordFault::Usage) => Exit::Usage,
+        Err(WordFault::NoMemory) => Exit::NoMemory,
     }
 }

@@ -2,3 +2,4 @@ pub mod ExactLaws
 pub mod IndexCommandLaws
 pub mod InfoLaws
 pub mod SearchLaws
+pub mod TagLaws

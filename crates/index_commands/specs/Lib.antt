@@ -1,2 +1,3 @@
 pub mod Exactness
 pub mod Searchable
+pub mod Gathered

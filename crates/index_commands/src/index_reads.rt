@@ -15,13 +15,14 @@ ghost use Rattle.ft_index.specs.Index.{Index};
 ghost use Rattle.indexed_store.specs.DefinitionsOf.{definitions_of};
 ghost use Rattle.ft_machine.specs.TagValues.{tag_values};
 
+use crate::tag_walk::tag_values;
 use ft_base::{Field, IndexDef, ListOf, NoMemory, Reply, Words};
 use ft_index::FtIndex;
 use hash_store::HashStore;
 use indexed_store::index_named;
 use reply_buffer::{put_fault, put_made};
 use std::alloc::Global;
-use tag_values::tag_values;
+
 
 /// The names of the indexes, in order of creation.
 pub fn names_of_indexes(indexes: &[FtIndex], alloc: Global) -> Result<Reply, NoMemory>

@@ -15,8 +15,9 @@ ghost use Rattle.indexed_store.specs.DefinitionsOf.{defined, definitions_of};
 
 use ft_base::{NoMemory, Reply};
 use ft_index::FtIndex;
+use crate::info_tree::info_reply;
 use ft_machine::Counts;
-use index_info::info_reply;
+
 use indexed_store::index_named;
 use reply_buffer::{put_fault, put_made};
 use std::alloc::{AllocError, Global};

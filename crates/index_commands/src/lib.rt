@@ -4,10 +4,14 @@
 //! defined in `ft_machine`. Read `definitions.rt` first, then `search.rt`, `info.rt` and `index_reads.rt`.
 #![tactic(auto)]
 
+mod attributes;
 mod definitions;
 mod index_reads;
 mod info;
+mod info_tree;
+mod info_words;
 mod search;
+mod tag_walk;
 
 /// FT.CREATE, FT.ALTER and FT.DROPINDEX.
 pub use definitions::{alter, create, drop_named};

@@ -1,29 +1,12 @@
 -- How replies are spelled, one layer at a time.
 use Rattle.std.proofs.Common.{◌≡◌, ℕ, List, [], ◌∷◌, ◌++◌, sym, ap, ◌∙◌, append_assoc, Bool, Option, Some, None}
 use Rattle.std.specs.Prelude.{ℤ, pos, codes, is_some, if◌then◌else◌}
-use denote.Hole.Carrier.{out}
 use Rattle.std.specs.Fmt.{decimal, signed_decimal}
-use Rattle.ft_base.specs.Reply.{line, spelling, spelling_step}
+use Rattle.ft_base.proofs.SpellingLaws.{spelling-Fault, spelling-Line, spelling-Number}
+use Rattle.ft_base.specs.Reply.{spelling}
 use Rattle.ft_base.specs.declared.doc.Doc.{Doc}
 use Rattle.ft_machine.specs.Reads.{kind_of}
-use Rattle.ft_base.specs.declared.reply.Reply.TheFolds.{fold_out-Reply}
 use Rattle.ft_base.specs.declared.reply.Reply.TheVariants.{Line, Fault, Number}
-use Rattle.ft_base.specs.declared.reply.Reply.TheViews.{out-Reply}
-
--- a simple string
-pub spelling-Line : (text : List ℕ) → spelling (Line text) ≡ line 43 text
-unfolding out-Reply out
-spelling-Line text = fold_out-Reply (List ℕ) spelling_step (Line text)
-
--- an error
-pub spelling-Fault : (text : List ℕ) → spelling (Fault text) ≡ line 45 text
-unfolding out-Reply out
-spelling-Fault text = fold_out-Reply (List ℕ) spelling_step (Fault text)
-
--- an integer
-pub spelling-Number : (n : ℤ) → spelling (Number n) ≡ line 58 (signed_decimal n)
-unfolding out-Reply out
-spelling-Number n = fold_out-Reply (List ℕ) spelling_step (Number n)
 
 -- a mark, a text and the end of a line, written one after another to an empty buffer, are an error
 pub fault_written : (first second third text : List ℕ) → first ≡ 45 ∷ [] → second ≡ first ++ text → third ≡ second ++ 13 ∷ 10 ∷ [] → third ≡ spelling (Fault text)

@@ -1,4 +1,3 @@
 pub mod AskLaws
 pub mod FoundLaws
 pub mod RepliesLaws
-pub mod WalkLaws

@@ -1,9 +1,6 @@
 -- What a search keeps of what it found.
-use Rattle.std.specs.Prelude.{◌≡◌, List, ◌++◌, length, take}
-use Rattle.ft_base.specs.declared.definition.IndexDef.{IndexDef}
+use Rattle.std.specs.Prelude.{◌≡◌, List, length, take}
 use Rattle.ft_base.specs.declared.doc.Doc.{Doc}
-use Rattle.ft_base.specs.declared.query.Query.{Query}
-use Rattle.ft_meaning.specs.Holds.{found_of}
 use Rattle.ft_machine.specs.Replies.{rows, window}
 use Rattle.search_exec.specs.declared.page.Page.{Page}
 
@@ -11,9 +8,3 @@ use Rattle.search_exec.specs.declared.page.Page.{Page}
 pub record Shows (docs : List Doc) (page : Page) : Type 0 where
   pub total : page.total ≡ length docs
   pub first : page.rows.items ≡ rows page.no_content (take window docs)
-
--- A page shows what was found so far, and with what the query finds among the documents ahead that is all.
-pub record IsOnTheWay (query : Query) (def : IndexDef) (all ahead : List Doc) (page : Page) : Type 0 where
-  pub so_far : List Doc
-  pub shows : Shows so_far page
-  pub whole : all ≡ so_far ++ found_of query def ahead

@@ -1,8 +1,7 @@
 use Rattle.std.proofs.Common.{◌∙◌}
 use Rattle.hash_replies.proofs.ReadsLaws.{made-fits}
 use Rattle.id_iters.specs.Sets.{in_set}
-use Rattle.search_exec.proofs.RepliesLaws.{found-fits}
-use Rattle.search_exec.proofs.WalkLaws.{made-found}
+use Rattle.search_exec.proofs.RepliesLaws.{found-fits, made-found}
 use Rattle.search_exec.specs.Ids.{docs_in}
 use Rattle.search_exec.proofs.index_search.search_index.Goals as goal
 

@@ -1,0 +1,7 @@
+use Rattle.std.specs.Prelude.{◌≡◌}
+use Rattle.index_commands.specs.Gathered.{seen}
+use Rattle.ft_machine.specs.TagValues.{with_tags}
+use Rattle.index_commands.proofs.tag_walk.add_tags.Given as goal
+
+abbrev pub invariant-adding : goal.invariant-adding
+invariant-adding l = seen l.found.keys ≡ with_tags (seen l.fn.found.keys) l.yielded

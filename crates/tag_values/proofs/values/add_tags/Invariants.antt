@@ -1,7 +1,0 @@
-use Rattle.std.specs.Prelude.{◌≡◌}
-use Rattle.tag_values.specs.Gathered.{seen}
-use Rattle.ft_machine.specs.TagValues.{with_tags}
-use Rattle.tag_values.proofs.values.add_tags.Given as goal
-
-abbrev pub invariant-adding : goal.invariant-adding
-invariant-adding l = seen l.found.keys ≡ with_tags (seen l.fn.found.keys) l.yielded
