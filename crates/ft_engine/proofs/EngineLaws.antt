@@ -6,12 +6,12 @@ use Rattle.std.specs.List.{IsDistinct}
 use Rattle.ft_base.specs.declared.doc.Doc.{Doc}
 use Rattle.indexed_store.specs.Standing.{InStep}
 use Rattle.ft_engine.specs.Stands.{IsEngine, IsIndexed, unused}
-use Rattle.engine_changes.specs.States.{state_of}
+use Rattle.indexed_store.specs.States.{state_of}
 use Rattle.ft_machine.specs.Step.{last_number}
 use Rattle.ft_index.specs.Index.{Index}
 use Rattle.hash_store.specs.Store.{Store}
 use Rattle.indexed_store.proofs.StepLaws.{in_step-later}
-use Rattle.engine_changes.proofs.ChangingLaws.{next-below}
+use Rattle.indexed_store.proofs.ChangingLaws.{next-below}
 
 -- what an engine keeps is what its callers are told
 pub indexed : (store : Store) (indexes : List Index) (latest next : ℕ) (pending : Bool) → IsDistinct bytes_eq (map (λ (doc : Doc). doc.key) store.space) → InStep store indexes (unused pending next)

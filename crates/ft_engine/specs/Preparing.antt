@@ -4,8 +4,8 @@ use Rattle.indexed_store.specs.Standing.{AreWritten}
 use Rattle.ft_machine.specs.Machine.{State}
 use Rattle.ft_engine.specs.Stands.{Stands}
 use Rattle.ft_machine.specs.Step.{last_number}
-use Rattle.engine_changes.specs.declared.change.Change.{Change}
-use Rattle.engine_changes.specs.Changing.{IsReady, changed, is_change}
+use Rattle.indexed_store.specs.declared.change.Change.{Change}
+use Rattle.indexed_store.specs.Changing.{IsReady, changed, is_change}
 
 -- What a contract sees of a prepared command: the latest moment and the change.
 pub record Ahead : Type 0 where

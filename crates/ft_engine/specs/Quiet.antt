@@ -1,8 +1,8 @@
 -- That a search changes nothing.
 use Rattle.std.specs.Prelude.{◌≡◌}
 use Rattle.cmd_parse.specs.Read.{Asked, Plain, CreateIndex, AlterIndex, InfoOf, Search}
-use Rattle.engine_changes.specs.declared.change.Change.{Change}
-use Rattle.engine_changes.specs.declared.change.Change.TheVariants.{Nothing}
+use Rattle.indexed_store.specs.declared.change.Change.{Change}
+use Rattle.indexed_store.specs.declared.change.Change.TheVariants.{Nothing}
 
 -- a search prepares no change
 abbrev pub IsQuiet : Asked → Change → Type 0

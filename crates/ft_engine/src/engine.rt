@@ -6,10 +6,10 @@ ghost use Rattle.cmd_parse.specs.Lawful.{HasSerial};
 ghost use Rattle.cmd_parse.specs.Read.{Asked, IsReading, command_of, read};
 ghost use Rattle.cmd_parse.specs.Asking.{IsAsked};
 ghost use Rattle.ft_engine.specs.Preparing.{IsLast, abandoned, committed};
-ghost use Rattle.engine_changes.specs.Changing.{is_change};
+ghost use Rattle.indexed_store.specs.Changing.{is_change};
 ghost use Rattle.ft_engine.specs.Quiet.{IsQuiet};
 ghost use Rattle.ft_engine.specs.Stands.{IsIndexed, opened};
-ghost use Rattle.engine_changes.specs.declared.change.Change.TheVariants.{Nothing};
+ghost use Rattle.indexed_store.specs.declared.change.Change.TheVariants.{Nothing};
 ghost use Rattle.index_commands.specs.Exactness.{IsRefusal, ReadsFew, TellsExactly};
 ghost use Rattle.ft_base.specs.Memory.{out_of_memory};
 ghost use Rattle.ft_machine.specs.Step.{Answers, At, Does, next_number};
@@ -17,11 +17,10 @@ ghost use Rattle.ft_machine.specs.Step.{Answers, At, Does, next_number};
 use crate::prepared::Prepared;
 use crate::step::prepare_command;
 use cmd_parse::{CmdFault, Command, read_command};
-use engine_changes::{Change, MOST_INDEXES, make};
 use ft_base::{NoMemory, Words};
 use ft_index::FtIndex;
-use hash_commands::MOST_COUNTED;
 use hash_store::HashStore;
+use indexed_store::{Change, MOST_COUNTED, MOST_INDEXES, make};
 use reply_buffer::{put_fault, put_refusal};
 use std::alloc::Global;
 use std::marker::Model;
@@ -50,7 +49,7 @@ pub struct Engine {
 
 impl Model for Engine {
     ghost use Rattle.ft_engine.specs.Stands.{Stands};
-    ghost use Rattle.engine_changes.specs.States.{state_of};
+    ghost use Rattle.indexed_store.specs.States.{state_of};
 
     ghost Value = { Stands };
 

@@ -1,25 +1,25 @@
 //! The plain commands, each given to the call that does it.
-ghost use Rattle.hash_commands.specs.declared.removals.TheConstants.{MOST_COUNTED};
+ghost use Rattle.indexed_store.specs.declared.counting.TheConstants.{MOST_COUNTED};
 ghost use Rattle.reply_buffer.specs.declared.short_reply.TheConstants.{SHORT_REPLY};
 ghost use Rattle.std.specs.Prelude.{◌≤◌, ◌+◌, ◌<◌, ◌^◌, ℕ, ◌≡◌, [], vec_capacity, ◌⊎◌, false};
 ghost use Rattle.ft_base.specs.Reply.{spelling};
 ghost use Rattle.cmd_parse.specs.Lawful.{Lawful};
 ghost use Rattle.cmd_parse.specs.Read.{Plain};
 ghost use Rattle.cmd_parse.specs.Asking.{AreWords};
-ghost use Rattle.engine_changes.specs.Changing.{IsReady, changed, is_change};
+ghost use Rattle.indexed_store.specs.Changing.{IsReady, changed, is_change};
 ghost use Rattle.indexed_store.specs.Standing.{InStep};
 ghost use Rattle.indexed_store.specs.DefinitionsOf.{definitions_of};
-ghost use Rattle.engine_changes.specs.States.{state_of};
+ghost use Rattle.indexed_store.specs.States.{state_of};
 ghost use Rattle.ft_base.specs.Memory.{out_of_memory};
 ghost use Rattle.ft_machine.specs.Step.{Does};
 
 use cmd_parse::Verb;
-use engine_changes::Change;
 use ft_base::Words;
 use ft_index::FtIndex;
 use hash_commands::{answer_plain, del, flush, hdel, hincrby, hset, hsetnx, rename};
 use hash_store::HashStore;
 use index_commands::{answer_tag_vals, drop_named, names_of_indexes};
+use indexed_store::Change;
 use reply_buffer::put_made;
 use std::alloc::Global;
 

@@ -1,8 +1,8 @@
 //! A command that is prepared: its reply is written, and what it changes waits to be committed.
 ghost use Rattle.std.specs.Prelude.{◌≡◌};
-ghost use Rattle.engine_changes.specs.Changing.{is_change};
+ghost use Rattle.indexed_store.specs.Changing.{is_change};
 
-use engine_changes::Change;
+use indexed_store::Change;
 use std::marker::Model;
 
 /// A command that was prepared. It keeps the command's words, so that its end takes no memory.

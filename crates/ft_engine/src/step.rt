@@ -1,14 +1,14 @@
 //! What a command asks is prepared: the reply is written, and what it needs is made ready.
-ghost use Rattle.hash_commands.specs.declared.removals.TheConstants.{MOST_COUNTED};
+ghost use Rattle.indexed_store.specs.declared.counting.TheConstants.{MOST_COUNTED};
 ghost use Rattle.reply_buffer.specs.declared.short_reply.TheConstants.{SHORT_REPLY};
 ghost use Rattle.std.specs.Prelude.{◌≡◌, ◌<◌, ◌≤◌, ◌+◌, ◌^◌, ℕ, [], vec_capacity, ◌⊎◌, false};
 ghost use Rattle.ft_base.specs.Reply.{spelling};
 ghost use Rattle.cmd_parse.specs.Read.{command_of};
 ghost use Rattle.cmd_parse.specs.Asking.{IsAsked};
-ghost use Rattle.engine_changes.specs.Changing.{IsReady, changed, is_change};
+ghost use Rattle.indexed_store.specs.Changing.{IsReady, changed, is_change};
 ghost use Rattle.indexed_store.specs.Standing.{InStep};
 ghost use Rattle.indexed_store.specs.DefinitionsOf.{definitions_of};
-ghost use Rattle.engine_changes.specs.States.{state_of};
+ghost use Rattle.indexed_store.specs.States.{state_of};
 ghost use Rattle.ft_engine.specs.Quiet.{IsQuiet};
 ghost use Rattle.ft_base.specs.Memory.{out_of_memory};
 ghost use Rattle.ft_machine.specs.Step.{Does};
@@ -16,10 +16,10 @@ ghost use Rattle.index_commands.specs.Exactness.{ReadsFew, TellsExactly};
 
 use crate::plain::prepare_plain;
 use cmd_parse::Command;
-use engine_changes::Change;
 use ft_index::FtIndex;
 use hash_store::HashStore;
 use index_commands::{alter, answer_info, answer_search, create};
+use indexed_store::Change;
 use std::alloc::Global;
 
 /// Prepares what is asked in an event with this number, writes the reply, and answers the change.

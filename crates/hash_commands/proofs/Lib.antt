@@ -1,4 +1,2 @@
-pub mod CountingLaws
 pub mod PlainLaws
-pub mod VersionsLaws
-pub mod WritesLaws
+pub mod RemovalLaws

@@ -6,21 +6,19 @@ ghost use Rattle.cmd_parse.specs.declared.command.Verb.TheVariants.{Hdel};
 ghost use Rattle.ft_base.specs.Reply.{spelling};
 ghost use Rattle.ft_base.specs.Space.{doc_of};
 ghost use Rattle.ft_machine.specs.Machine.{State};
-ghost use Rattle.engine_changes.specs.Changing.{IsReady, changed, is_change};
+ghost use Rattle.indexed_store.specs.Changing.{IsReady, changed, is_change};
 ghost use Rattle.indexed_store.specs.Standing.{InStep};
 ghost use Rattle.indexed_store.specs.DefinitionsOf.{definitions_of};
-ghost use Rattle.engine_changes.specs.States.{state_of};
+ghost use Rattle.indexed_store.specs.States.{state_of};
 ghost use Rattle.ft_base.specs.Memory.{out_of_memory};
 ghost use Rattle.ft_machine.specs.Step.{Does};
 ghost use Rattle.ft_machine.specs.Writes.{fields_gone, without_fields};
 ghost use Rattle.ft_machine.specs.Reads.{hash_in};
 
-use crate::versions::left_of;
-use engine_changes::Change;
 use ft_base::{NoMemory, Words};
 use ft_index::FtIndex;
 use hash_store::HashStore;
-use indexed_store::prepare_hash;
+use indexed_store::{Change, left_of, prepare_hash};
 use reply_buffer::{put_no_memory, put_number};
 use std::alloc::Global;
 

@@ -1,8 +1,7 @@
 //! The commands of the connection, of hashes and of keys.
 //!
 //! Each writes its reply and answers what it changes, of which nothing is seen yet. What it gives is defined in
-//! `ft_machine`. Read `reads.rt` first for the commands that change nothing, then `setting.rt` and the others; they share
-//! `versions.rt`, the new versions of a hash.
+//! `ft_machine`. Read `reads.rt` first for the commands that change nothing, then `setting.rt` and the others.
 #![tactic(auto)]
 
 mod deleting;
@@ -12,7 +11,6 @@ mod reads;
 mod removals;
 mod renaming;
 mod setting;
-mod versions;
 
 /// HDEL.
 pub use deleting::hdel;
@@ -23,6 +21,6 @@ pub use setting::{hset, hsetnx};
 /// The commands that change nothing.
 pub use reads::answer_plain;
 /// DEL and FLUSHALL.
-pub use removals::{MOST_COUNTED, del, flush};
+pub use removals::{del, flush};
 /// RENAME.
 pub use renaming::rename;

@@ -6,23 +6,21 @@ ghost use Rattle.cmd_parse.specs.declared.command.Verb.TheVariants.{Hset, Hsetnx
 ghost use Rattle.ft_base.specs.Reply.{spelling};
 ghost use Rattle.ft_base.specs.Space.{doc_of};
 ghost use Rattle.cmd_parse.specs.Asking.{AreWords};
-ghost use Rattle.engine_changes.specs.Changing.{IsReady, changed, is_change};
+ghost use Rattle.indexed_store.specs.Changing.{IsReady, changed, is_change};
 ghost use Rattle.indexed_store.specs.Writing.{Waits};
 ghost use Rattle.indexed_store.specs.Standing.{InStep};
 ghost use Rattle.indexed_store.specs.DefinitionsOf.{definitions_of};
-ghost use Rattle.engine_changes.specs.States.{state_of};
+ghost use Rattle.indexed_store.specs.States.{state_of};
 ghost use Rattle.ft_base.specs.Memory.{out_of_memory};
 ghost use Rattle.ft_machine.specs.Step.{Does};
 ghost use Rattle.ft_machine.specs.Writes.{set_pairs};
 ghost use Rattle.ft_machine.specs.Reads.{hash_in};
 
-use crate::versions::{copy_of, set_pairs};
-use engine_changes::Change;
 use ft_base::{NoMemory, Words};
 use ft_index::FtIndex;
 use hash_replies::hexists;
 use hash_store::{HashStore, ReadyPut};
-use indexed_store::prepare_hash;
+use indexed_store::{Change, copy_of, prepare_hash, set_pairs};
 use reply_buffer::{put_no_memory, put_number};
 use std::alloc::Global;
 

@@ -34,7 +34,7 @@ use Rattle.ft_machine.proofs.Stepping.{stays, told}
 use Rattle.ft_machine.specs.Arguments.{first, second}
 use Rattle.ft_machine.specs.Indexes.{altered, altered_to, created, defines, dropped, index_over, listed, most_indexes, name_bulk, tag_field, tag_vals, tags_reply, unknown_index}
 use Rattle.ft_machine.specs.Machine.{Outcome, State, answered}
-use Rattle.engine_changes.specs.Changing.{HasMore}
+use Rattle.indexed_store.specs.Changing.{HasMore}
 use Rattle.ft_schema.specs.Refusals.{schema_refusal}
 use Rattle.ft_machine.specs.PlainCommands.{PlainMayWant, plain}
 use Rattle.ft_machine.specs.Step.{Does, Told}

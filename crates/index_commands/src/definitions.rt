@@ -6,7 +6,7 @@ ghost use Rattle.cmd_parse.specs.Read.{AlterIndex, CreateIndex, Plain};
 ghost use Rattle.cmd_parse.specs.declared.command.Verb.TheVariants.{DropIndex};
 ghost use Rattle.ft_base.specs.declared.doc.Doc.{Doc};
 ghost use Rattle.ft_machine.specs.Machine.{State};
-ghost use Rattle.engine_changes.specs.Changing.{IsReady, changed};
+ghost use Rattle.indexed_store.specs.Changing.{IsReady, changed};
 ghost use Rattle.ft_machine.specs.Step.{Does};
 ghost use Rattle.ft_index.specs.Index.{Index, IsIndex};
 ghost use Rattle.ft_schema.specs.Gives.{IsFaultOf};
@@ -16,12 +16,11 @@ ghost use Rattle.ft_machine.specs.Definitions.{failures_over};
 ghost use Rattle.indexed_store.specs.DefinitionsOf.{definitions_of};
 ghost use Rattle.indexed_store.specs.Standing.{AreOfEvent, AreWritten, IndexStands, InStep, markers_at};
 
-use engine_changes::{Change, MOST_INDEXES};
 use ft_base::{Field, IndexDef, ListOf, Words};
 use ft_index::FtIndex;
 use ft_schema::{SchemaFault, extend};
 use hash_store::HashStore;
-use indexed_store::{index_named, index_over};
+use indexed_store::{Change, MOST_INDEXES, index_named, index_over};
 use reply_buffer::{put_fault, put_no_memory, put_schema_refusal, put_short};
 use std::alloc::Global;
 

@@ -1,6 +1,12 @@
 pub mod ApartLaws
+pub mod ChangingLaws
+pub mod CountingLaws
 pub mod DroppingLaws
 pub mod FillingLaws
+pub mod HoldingLaws
 pub mod IndexingLaws
 pub mod NamedLaws
+pub mod PreparingLaws
 pub mod StepLaws
+pub mod VersionsLaws
+pub mod WritesLaws

@@ -1,6 +1,11 @@
+pub mod Changing
+pub mod Counting
 pub mod DefinitionsOf
 pub mod Filling
+pub mod Holding
 pub mod Indexing
 pub mod Named
+pub mod Preparing
 pub mod Standing
+pub mod States
 pub mod Writing

@@ -1,13 +1,18 @@
 //! The replies of commands, written to a buffer, most of them without memory.
 //!
 //! A buffer has room for 64 bytes at the least, which a number, a refusal or the text for want of memory always fits.
-//! Read `short_reply.rt` first, then `refusals.rt` for the texts of refusals and `made_reply.rt` for longer replies.
+//! Read `buffer.rt` first, then `short_reply.rt`, `refusals.rt` for the texts of refusals and `made_reply.rt` for longer
+//! replies.
 #![tactic(auto)]
 
+mod buffer;
 mod made_reply;
+mod message;
 mod refusals;
 mod short_reply;
 
+/// One reply after another.
+pub use buffer::ReplyBuffer;
 /// Replies of any length.
 pub use made_reply::put_made;
 /// Why words ask nothing, and why a text is no query.

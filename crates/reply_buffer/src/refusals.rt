@@ -13,7 +13,7 @@ use crate::short_reply::{SHORT_REPLY, put_fault, put_no_memory, put_short};
 use cmd_parse::CmdFault;
 use ft_schema::SchemaFault;
 use itoa::Buffer;
-use query_parse::QueryFault;
+use query_grammar::QueryFault;
 
 /// Writes why the words of a command of this name ask nothing.
 pub fn put_refusal(name: &[u8], fault: CmdFault, out: &mut Vec<u8>)

@@ -1,6 +1,6 @@
 use Rattle.std.proofs.Common.{inr, refl}
 use Rattle.cmd_parse.specs.declared.command.Verb.TheVariants.{Del, DropIndex, Flushall, ListIndexes, TagVals}
-use Rattle.engine_changes.specs.States.{state_of}
+use Rattle.indexed_store.specs.States.{state_of}
 use Rattle.index_commands.proofs.IndexCommandLaws.{ids-above, list-told}
 use Rattle.hash_commands.proofs.PlainLaws.{of_verb}
 use Rattle.indexed_store.proofs.StepLaws.{in_step-later, in_step-read}

@@ -1,7 +1,7 @@
 use Rattle.std.proofs.Common.{arith, refl, subst, sym}
 use Rattle.cmd_parse.specs.Read.{command_of}
 use Rattle.cmd_parse.specs.declared.command.Command.{Command}
-use Rattle.engine_changes.specs.States.{state_of}
+use Rattle.indexed_store.specs.States.{state_of}
 use Rattle.ft_machine.specs.Step.{Does}
 use Rattle.indexed_store.proofs.StepLaws.{in_step-later, in_step-read}
 use Rattle.ft_engine.proofs.step.prepare_command.Goals as goal

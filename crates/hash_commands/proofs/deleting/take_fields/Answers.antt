@@ -2,7 +2,7 @@ use Rattle.std.proofs.Common.{sym, subst}
 use Rattle.ft_machine.specs.Reads.{hash_in}
 use Rattle.ft_base.specs.Space.{doc_of}
 use Rattle.ft_meaning.specs.Meaning.{ValuesFit}
-use Rattle.hash_commands.proofs.WritesLaws.{found-fits, left-fits}
+use Rattle.indexed_store.proofs.WritesLaws.{found-fits, left-fits}
 use Rattle.indexed_store.proofs.StepLaws.{in_step-read}
 use Rattle.hash_commands.proofs.deleting.take_fields.Goals as goal
 

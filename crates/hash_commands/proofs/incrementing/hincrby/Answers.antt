@@ -1,7 +1,7 @@
 use Rattle.std.proofs.Common.{◌∙◌, ap, sym}
 use Rattle.ft_base.specs.Number.{int_of}
 use Rattle.ft_machine.specs.Arguments.{first, second}
-use Rattle.engine_changes.specs.States.{state_of}
+use Rattle.indexed_store.specs.States.{state_of}
 use Rattle.hash_commands.proofs.PlainLaws.{increment-fits, not-number, overflows, same-field, too-wide, value-fits}
 use Rattle.indexed_store.proofs.StepLaws.{in_step-read}
 use Rattle.hash_commands.proofs.incrementing.hincrby.Goals as goal

@@ -1,7 +1,7 @@
 use Rattle.std.proofs.Common.{◌<◌, sym, subst, length}
 use Rattle.ft_base.specs.Hash.{Hash}
 use Rattle.ft_meaning.specs.Meaning.{ValuesFit}
-use Rattle.hash_commands.proofs.WritesLaws.{found-fits, set-filled, set-fits}
+use Rattle.indexed_store.proofs.WritesLaws.{found-fits, set-filled, set-fits}
 use Rattle.indexed_store.proofs.StepLaws.{in_step-read}
 use Rattle.hash_commands.proofs.incrementing.set_number.Goals as goal
 

@@ -1,4 +1,4 @@
-use Rattle.hash_commands.proofs.CountingLaws.{deleted-nothing}
+use Rattle.hash_commands.proofs.RemovalLaws.{deleted-nothing}
 use Rattle.hash_commands.proofs.removals.del.Goals as goal
 
 pub returns-then-count-eq0-clause-does : goal.returns-then-count-eq0-clause-does

@@ -2,7 +2,7 @@ use Rattle.std.proofs.Common.{◌∙◌, ap, arith, inl, refl}
 use Rattle.std.proofs.lemmas.List.{nil_from_length}
 use Rattle.indexed_store.specs.DefinitionsOf.{definitions_of}
 use Rattle.reply_buffer.proofs.Spellings.{ok_written}
-use Rattle.hash_commands.proofs.CountingLaws.{emptied, flushed-nothing}
+use Rattle.hash_commands.proofs.RemovalLaws.{emptied, flushed-nothing}
 use Rattle.hash_commands.proofs.removals.flush.Goals as goal
 
 pub returns-then-is_empty-clause-does : goal.returns-then-is_empty-clause-does

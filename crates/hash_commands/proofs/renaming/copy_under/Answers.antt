@@ -2,7 +2,7 @@ use Rattle.std.specs.Prelude.{◌<◌, length}
 use Rattle.std.proofs.Common.{sym, subst}
 use Rattle.ft_base.specs.Hash.{Hash}
 use Rattle.ft_meaning.specs.Meaning.{ValuesFit}
-use Rattle.hash_commands.proofs.WritesLaws.{found-filled, found-fits}
+use Rattle.indexed_store.proofs.WritesLaws.{found-filled, found-fits}
 use Rattle.indexed_store.proofs.StepLaws.{in_step-read}
 use Rattle.hash_commands.proofs.renaming.copy_under.Goals as goal
 

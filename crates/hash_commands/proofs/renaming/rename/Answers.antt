@@ -2,7 +2,7 @@ use Rattle.std.proofs.Common.{◌≡◌, ◌∙◌, ap, sym, true}
 use Rattle.std.specs.Prelude.{is_some, List, ℕ}
 use Rattle.ft_base.specs.Space.{doc_of}
 use Rattle.ft_machine.specs.Arguments.{first, second}
-use Rattle.engine_changes.specs.States.{state_of}
+use Rattle.indexed_store.specs.States.{state_of}
 use Rattle.hash_commands.proofs.PlainLaws.{moved, renamed, renamed-same, same-words}
 use Rattle.reply_buffer.proofs.Spellings.{ok_written}
 use Rattle.indexed_store.proofs.StepLaws.{in_step-later}

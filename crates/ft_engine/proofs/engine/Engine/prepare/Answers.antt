@@ -9,12 +9,12 @@ use Rattle.cmd_parse.specs.Read.{command_of}
 use Rattle.ft_index.specs.Index.{Index}
 use Rattle.ft_machine.specs.Machine.{State}
 use Rattle.ft_machine.specs.Step.{next_number}
-use Rattle.engine_changes.specs.Changing.{changed}
+use Rattle.indexed_store.specs.Changing.{changed}
 use Rattle.ft_engine.specs.Stands.{Stands, unused}
-use Rattle.engine_changes.specs.States.{state_of}
+use Rattle.indexed_store.specs.States.{state_of}
 use Rattle.ft_machine.specs.Definitions.{Defined}
 use Rattle.indexed_store.specs.DefinitionsOf.{definitions_of}
-use Rattle.engine_changes.proofs.ChangingLaws.{changes-something, next-below}
+use Rattle.indexed_store.proofs.ChangingLaws.{changes-something, next-below}
 use Rattle.ft_engine.proofs.EngineLaws.{indexed}
 use Rattle.ft_machine.proofs.Stepping.{stepped}
 use Rattle.ft_engine.proofs.engine.Engine.prepare.Goals as goal

@@ -1,8 +1,0 @@
-use Rattle.std.proofs.Common.{◌∙◌}
-use Rattle.std.proofs.lemmas.Result.{IfOk-weaker}
-use Rattle.hash_commands.proofs.VersionsLaws.{left-named}
-use Rattle.hash_commands.proofs.versions.without_fields.Goals as goal
-
-pub returns : goal.returns
-returns c =
-    IfOk-weaker c.without.result _ _ (λ left same. same ∙ left-named c.args.hash.now c.in_ok-gone.gone c.args.fields.now c.in_ok-gone.ensures) c.without.ensures

@@ -1,0 +1,123 @@
+//! New versions of a key's hash: a copy with fields set, or without some. The store keeps its own.
+ghost use Rattle.std.specs.Prelude.{◌≡◌, ◌≤◌, ◌-◌, List, ℕ, filter, length, not, is_some, IfOk, OnOk};
+ghost use Rattle.std.specs.List.{list_any};
+ghost use Rattle.std.specs.Str.{bytes_eq};
+ghost use Rattle.ft_base.specs.Hash.{get_field, set_field};
+ghost use Rattle.ft_base.specs.Space.{doc_of};
+ghost use Rattle.ft_machine.specs.Writes.{number_in, set_pairs, without_fields};
+ghost use Rattle.ft_machine.specs.Reads.{hash_in};
+ghost use Rattle.hash_store.specs.Store.{after_read};
+
+use ft_base::{Bytes, HashRec, NoMemory, Words, read_int};
+use hash_store::HashStore;
+use std::alloc::Global;
+
+/// A copy of a key's hash, without fields where there is none.
+pub fn copy_of(store: &mut HashStore, alloc: Global, key: &[u8]) -> Result<HashRec, NoMemory>
+    ensures hash { IfOk result (λ hash. hash ≡ hash_in (doc_of store.old.space key.now)) }
+    ensures space { store.new.space ≡ store.old.space }
+    ensures last { store.new.last ≡ store.old.last }
+    ensures store { store.new ≡ after_read (doc_of store.old.space key.now) store.old }
+{
+    match store.get(key) {
+        Some(doc) => doc.hash.copy(),
+        None => Ok(HashRec::new(alloc)),
+    }
+}
+
+/// Sets pairs of fields and values from the left.
+pub fn set_pairs(hash: &mut HashRec, alloc: Global, pairs: &Words<'_>) -> Result<(), NoMemory>
+    ensures pairs { OnOk result (hash.new ≡ set_pairs hash.old pairs.now) }
+    ensures longer { OnOk result (length hash.old ≤ length hash.new) }
+{
+    for i in 0..pairs.len() / 2 {
+        let value = Bytes::from_slice(alloc, pairs.word(2 * i + 1))?;
+        hash.set(pairs.word(2 * i), value)?;
+    }
+    Ok(())
+}
+
+/// The number of a key's fields, and a copy of its hash without some.
+pub fn left_of(
+    store: &mut HashStore,
+    alloc: Global,
+    key: &[u8],
+    fields: &Words<'_>,
+) -> Result<(usize, HashRec), NoMemory>
+    ensures before { IfOk result (λ made. made.0 ≡ length (hash_in (doc_of store.old.space key.now))) }
+    ensures left { IfOk result (λ made. made.1
+        ≡ without_fields (hash_in (doc_of store.old.space key.now)) fields.now) }
+    ensures fewer { IfOk result (λ made. length made.1 ≤ made.0) }
+    ensures space { store.new.space ≡ store.old.space }
+    ensures last { store.new.last ≡ store.old.last }
+    ensures store { store.new ≡ after_read (doc_of store.old.space key.now) store.old }
+{
+    match store.get(key) {
+        Some(doc) => Ok((doc.hash.len(), without_fields(&doc.hash, alloc, fields)?)),
+        None => Ok((0, HashRec::new(alloc))),
+    }
+}
+
+/// A copy of a hash without some fields.
+fn without_fields(hash: &HashRec, alloc: Global, fields: &Words<'_>) -> Result<HashRec, NoMemory>
+    ensures { IfOk result (λ left. left ≡ without_fields hash.now fields.now) }
+{
+    let gone = set_of(alloc, fields)?;
+    without(hash, alloc, &gone)
+}
+
+/// The fields as those of a hash, by which they are found without a walk.
+fn set_of(alloc: Global, fields: &Words<'_>) -> Result<HashRec, NoMemory>
+    ensures { IfOk result (λ set. (field : List ℕ)
+        → is_some (get_field set field) ≡ list_any (bytes_eq field) fields.now) }
+{
+    let mut set = HashRec::new(alloc);
+    for i in 0..fields.len() {
+        set.set(fields.word(i), Bytes::new(alloc))?;
+    }
+    Ok(set)
+}
+
+/// A copy of a hash without the fields that another has.
+fn without(hash: &HashRec, alloc: Global, gone: &HashRec) -> Result<HashRec, NoMemory>
+    ensures { IfOk result (λ left. left
+        ≡ filter (λ (field : List ℕ × List ℕ). not (is_some (get_field gone.now field.0))) hash.now) }
+{
+    let mut left = HashRec::new(alloc);
+    for i in 0..hash.len() {
+        let (field, value) = hash.at(i);
+        if gone.get(field).is_none() {
+            keep(&mut left, field, value)?;
+        }
+    }
+    Ok(left)
+}
+
+fn keep(left: &mut HashRec, field: &[u8], value: &Bytes) -> Result<(), NoMemory>
+    ensures { OnOk result (left.new ≡ set_field left.old field.now value.now) }
+{
+    left.set(field, value.clone()?)?;
+    Ok(())
+}
+
+/// The number that the value of a key's field is, 0 where it is not there.
+pub fn number_of(store: &mut HashStore, key: &[u8], field: &[u8]) -> Option<i64>
+    ensures number { result ≡ number_in (get_field (hash_in (doc_of store.old.space key.now)) field.now) }
+    ensures space { store.new.space ≡ store.old.space }
+    ensures last { store.new.last ≡ store.old.last }
+    ensures store { store.new ≡ after_read (doc_of store.old.space key.now) store.old }
+{
+    match store.get(key) {
+        Some(doc) => number_in(&doc.hash, field),
+        None => Some(0),
+    }
+}
+
+fn number_in(hash: &HashRec, field: &[u8]) -> Option<i64>
+    ensures { result ≡ number_in (get_field hash.now field.now) }
+{
+    match hash.get(field) {
+        Some(value) => read_int(value.as_slice()),
+        None => Some(0),
+    }
+}
