@@ -1,35 +1,16 @@
 -- What DEL and FLUSHALL give.
-use Rattle.std.proofs.Common.{◌≡◌, ◌<◌, ◌≤◌, ◌+◌, ℕ, suc, Bool, true, false, List, [], ◌∷◌, ◌++◌, length, take, map, Option, Some, None, refl, sym, ap, ◌∙◌, subst, inl, inr, arith}
-use Rattle.std.specs.Prelude.{◌||◌, ◌&&◌, ◌-◌, ◌==◌, filter, not, pos, slice_index_or, codes}
-use Rattle.std.specs.List.{AllByRecursion, IsDistinct, dedup, dedup_from, list_any}
-use Rattle.std.specs.List.Retain.{DiffersFromLast, IsFiltered}
-use Rattle.std.specs.List.Sorted.{IsPermutation, IsSorted, IsStrictlyIncreasing}
-use Rattle.std.specs.Ordering.{eq_by_cmp, nat_cmp}
-use Rattle.std.specs.Map.{keys_of}
-use Rattle.std.specs.Option.{option_map}
-use Rattle.std.specs.Str.{bytes_eq}
-use Rattle.std.proofs.Math.Dec.{eqb}
-use Rattle.std.proofs.lemmas.Bool.{cases_Bool}
+use Rattle.std.proofs.Common.{◌≡◌, ◌+◌, ℕ, Bool, true, List, [], length, refl, sym, ap, ◌∙◌, inl, inr, arith}
+use Rattle.std.specs.Prelude.{◌-◌, ◌==◌, pos, codes}
 use Rattle.std.proofs.lemmas.Bool.Decides.{eqb_tells}
-use Rattle.std.proofs.lemmas.Cmp.{eq_by_cmp_equiv, nat_cmp_total}
-use Rattle.std.proofs.lemmas.List.{append-nil, length-append, length-map, take_more}
-use Rattle.std.proofs.lemmas.List.Filters.{dedup_is, length-filter_both}
-use Rattle.std.proofs.lemmas.List.Sorted.{list_any-IsPermutation}
-use Rattle.std.proofs.lemmas.Map.Keys.{IsDistinct-from_sorted, IsDistinct-head, IsDistinct-tail, IsStrictlyIncreasing-dedup, sorted_from_strictly_increasing}
-use Rattle.std.proofs.lemmas.Map.Made.{IsDistinct-keys_filter, length-from_keys}
-use Rattle.std.proofs.lemmas.Slice.Eq.{bytes_eq-Decides}
 use Rattle.cmd_parse.specs.Read.{Plain}
 use Rattle.cmd_parse.specs.declared.command.Verb.TheVariants.{Del, Flushall}
 use Rattle.ft_base.specs.Reply.{spelling}
-use Rattle.ft_base.specs.Space.{doc_of, erase}
 use Rattle.ft_base.specs.declared.doc.Doc.{Doc}
 use Rattle.ft_base.specs.declared.reply.Reply.TheVariants.{Line, Number}
 use Rattle.ft_machine.specs.Definitions.{Defined}
-use Rattle.indexed_store.specs.Counting.{before, ids_of}
 use Rattle.ft_machine.specs.Machine.{State}
 use Rattle.ft_machine.specs.Step.{Does}
 use Rattle.ft_machine.specs.Removing.{without_keys}
-use Rattle.indexed_store.proofs.StepLaws.{id_of}
 
 -- DEL of keys that have no documents
 pub deleted-nothing : (keys : List (List ℕ)) (number count : ℕ) (state : State) (written : List ℕ) (docs : List Doc) → state.space ≡ docs → count ≡ 0 → without_keys docs keys ≡ docs

@@ -1,5 +1,5 @@
-//! What the commands that read hashes are answered, of the documents that are held with their indexes. Each call counts
-//! as one read of the store.
+//! What the commands that read hashes are answered, of the documents that are held with their indexes. The store counts
+//! each document that is read.
 ghost use Rattle.std.specs.Prelude.{◌≡◌, ◌<◌, [], drop, length, map, slice_index_or, IfOk, IsTrue};
 ghost use Rattle.ft_base.specs.Hash.{get_field};
 ghost use Rattle.ft_base.specs.Reply.{fits_wire};

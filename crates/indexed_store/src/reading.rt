@@ -1,4 +1,4 @@
-//! What is read of the documents that are held with their indexes. Each call counts as a read of the store.
+//! What is read of the documents that are held with their indexes. The store counts each document that is read.
 ghost use Rattle.std.specs.Prelude.{◌≡◌, ◌<◌, ◌≤◌, length, is_some, true, IfOk};
 ghost use Rattle.ft_base.specs.Hash.{get_field};
 ghost use Rattle.ft_base.specs.Space.{doc_of};
