@@ -7,7 +7,7 @@ use Rattle.inverted_list.specs.declared.marker.Marker.{Marker}
 use Rattle.inverted_list.specs.Listing.{Listing, RisesAbove, last_id, with_entry}
 
 module _ {P : Type 0} where
-  last_more : (low high : ℕ) (es : List (ℕ × P)) → low ≤ high → last_id low es ≤ last_id high es
+  pub last_more : (low high : ℕ) (es : List (ℕ × P)) → low ≤ high → last_id low es ≤ last_id high es
   last_more low high [] h = h
   last_more low high (e ∷ es) h = omega arith
 
