@@ -9,6 +9,7 @@ use Rattle.ft_base.specs.declared.doc.Doc.{Doc}
 use Rattle.index_lists.proofs.AliveLaws.{has_id-above}
 use Rattle.index_lists.specs.Lists.{AllLists, has_id}
 use Rattle.inverted_list.specs.Listing.{RisesAbove, last_id}
+use Rattle.numeric_ranges.proofs.HalfLaws.{last_more, rises_low}
 use Rattle.ft_index.specs.Entering.{awaiting}
 use Rattle.ft_index.specs.Index.{commits}
 use Rattle.ft_index.specs.Kept.{AreKept}
@@ -21,27 +22,19 @@ dead-yet table lists id kept later = has_id-above 0 id table.live kept.rise (ome
 pub live-committed : (old table : Table) (doc : Doc) → table ≡ awaiting doc old → (commits table.ready table).live ≡ old.live ++ (doc.id, doc.key) ∷ []
 live-committed old table doc waits = ap (λ (t : Table). (commits t.ready t).live) waits
 
-rises-lower : (low lower : ℕ) (rows : List (ℕ × List ℕ)) → RisesAbove low rows → lower ≤ low → RisesAbove lower rows
-rises-lower low lower [] rises below = tt
-rises-lower low lower (row ∷ rows) rises below = (omega (arith, rises.0, below), rises.1)
-
 pub rises-removed : (low id : ℕ) (rows : List (ℕ × List ℕ)) → RisesAbove low rows → RisesAbove low (remove_entry (nat_eq id) rows)
 rises-removed low id [] rises = tt
 rises-removed low id (row ∷ rows) rises =
     elim (cases_Bool (nat_eq id row.0)) [
-      | inl here ↦ rw here (rises-lower row.0 low rows rises.1 (omega (arith, rises.0)))
+      | inl here ↦ rw here (rises_low low row.0 rows (omega (arith, rises.0)) rises.1)
       | inr away ↦ rw away (rises.0, rises-removed row.0 id rows rises.1)
     ]
-
-last-higher : (low higher : ℕ) (rows : List (ℕ × List ℕ)) → RisesAbove higher rows → low ≤ higher → last_id low rows ≤ last_id higher rows
-last-higher low higher [] rises below = below
-last-higher low higher (row ∷ rows) rises below = omega arith
 
 pub last-removed : (low id : ℕ) (rows : List (ℕ × List ℕ)) → RisesAbove low rows → last_id low (remove_entry (nat_eq id) rows) ≤ last_id low rows
 last-removed low id [] rises = omega arith
 last-removed low id (row ∷ rows) rises =
     elim (cases_Bool (nat_eq id row.0)) [
-      | inl here ↦ rw here (last-higher low row.0 rows rises.1 (omega (arith, rises.0)))
+      | inl here ↦ rw here (last_more low row.0 rows (omega (arith, rises.0)))
       | inr away ↦ rw away (last-removed row.0 id rows rises.1)
     ]
 

@@ -6,8 +6,8 @@ use Rattle.index_lists.specs.Markers.{MarkersDiffer}
 use Rattle.index_lists.specs.UpTo.{AreUpTo}
 use Rattle.inverted_list.specs.Listing.{RisesAbove, last_id}
 
--- Live ids rise, and one that waits is above the live ones. No id is above the last that was prepared, and no two lists
--- have one marker.
+-- Live ids rise, and one that waits is above the live ones. In every list the ids rise. No id is above the last that was
+-- prepared, and no two lists have one marker.
 pub record AreKept (table : Table) (lists : AllLists) : Type 0 where
   pub rise : RisesAbove 0 table.live
   pub end : last_id 0 table.live ≤ table.last

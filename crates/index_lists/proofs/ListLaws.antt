@@ -1,27 +1,26 @@
 -- What an entry more in one list of a dictionary says of all its lists.
-use Rattle.std.specs.Prelude.{◌≡◌, ◌⊎◌, ℕ, ◌+◌, List, [], ◌∷◌, ◌++◌, Option, None, Some, IfSome, is_some, if◌then◌else◌, refl}
+use Rattle.std.specs.Prelude.{◌≡◌, ◌<◌, ◌⊎◌, ℕ, ◌+◌, List, [], ◌∷◌, ◌++◌, Option, None, Some, is_some, if◌then◌else◌, refl}
 use Rattle.std.proofs.Common.{sym, ap, ◌∙◌, inl, inr, arith}
 use Rattle.std.specs.Cmp.Lexicographic.{bytes_decides}
 use Rattle.std.specs.Option.{option_map, unwrap_or}
 use Rattle.std.specs.Str.{bytes_eq}
 use Rattle.std.proofs.lemmas.Bool.{cases_Bool, cond-true, cond-false}
+use Rattle.inverted_list.proofs.ReachLaws.{rises_push}
 use Rattle.inverted_list.specs.Listing.{Listing, RisesAbove, last_id, with_entry, marker_of}
 use Rattle.inverted_list.specs.declared.marker.Marker.{Marker}
 use Rattle.inverted_list.specs.declared.marker.Markers.{Markers}
-use Rattle.term_dict.specs.Terms.{IdsRise, Lists, Sets, list_of, entries_of, list_or_fresh, fresh_list}
+use Rattle.term_dict.specs.Terms.{Lists, Sets, list_of, entries_of, list_or_fresh, fresh_list}
 use Rattle.index_lists.specs.Markers.{IsGiven, marker_in}
+use Rattle.index_lists.specs.UpTo.{RisesUpTo}
 
 module _ {P : Type 0} where
   pub last_id-push : (low id : ℕ) (hit : P) (es : List (ℕ × P)) → last_id low (es ++ (id, hit) ∷ []) ≡ id
   last_id-push low id hit [] = refl
   last_id-push low id hit (e ∷ es) = last_id-push e.0 id hit es
 
-  pub rise-entries : (lists : Lists P) (word : List ℕ) → IdsRise lists → RisesAbove 0 (entries_of lists word)
-  rise-entries lists word rise = by_list (list_of lists word) (rise word)
-    where
-      by_list : (list : Option (Listing P)) → IfSome list (λ l. RisesAbove 0 l.entries) → RisesAbove 0 (unwrap_or (option_map (λ l. l.entries) list) [])
-      by_list None rises = tt
-      by_list (Some l) rises = rises
+  -- an entry of a higher id ends those that rise
+  pub up_to-push : (id : ℕ) (hit : P) (es : List (ℕ × P)) → RisesAbove 0 es → last_id 0 es < id → RisesUpTo id (es ++ (id, hit) ∷ [])
+  up_to-push id hit es rise above = record { rise = rises_push 0 id hit es rise above; end = rw (last_id-push 0 id hit es) (omega arith) }
 
   -- the entries of a list that is there or new
   entries-or_fresh : (lists : Lists P) (word : List ℕ) (markers : Markers) → (list_or_fresh lists word markers).entries ≡ entries_of lists word

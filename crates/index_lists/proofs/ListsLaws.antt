@@ -19,7 +19,7 @@ use Rattle.index_lists.specs.Has.{Has}
 use Rattle.index_lists.specs.Lists.{AllLists, rows_of}
 use Rattle.index_lists.specs.Markers.{AreBefore, GainsMarkers, HasMarker, IsBefore, IsGiven, MarkersDiffer, marker_at, range_marker, tag_marker, word_marker}
 use Rattle.index_lists.specs.Taking.{TakesMarkers}
-use Rattle.index_lists.specs.UpTo.{AreUpTo, RowsUpTo}
+use Rattle.index_lists.specs.UpTo.{AreUpTo, RisesUpTo, RowsUpTo}
 use Rattle.index_lists.specs.Without.{without}
 use Rattle.index_lists.proofs.AliveLaws.{alive-killed, is_other, row_of, rows-without}
 use Rattle.index_lists.proofs.NumberLaws as numbers
@@ -124,20 +124,23 @@ gains-taken from to old new takes marker has = elim (takes.gains has.name marker
 -- ids up to one are below another
 rows-below : (last id : ℕ) (rows : Rows) → last < id → RowsUpTo last rows → IsAbove id rows
 rows-below last id [] less up_to = tt
-rows-below last id (row ∷ rows) less up_to = (omega (arith, less, up_to.0), rows-below last id rows less up_to.1)
+rows-below last id (row ∷ rows) less up_to = (omega (arith, less, up_to.0.end), rows-below last id rows less up_to.1)
 
 pub ranges-below : (last id : ℕ) (rows : Option Rows) → last < id → IfSome rows (RowsUpTo last) → IfSome rows (IsAbove id)
 ranges-below last id None less up_to = tt
 ranges-below last id (Some rows) less up_to = rows-below last id rows less up_to
 
+higher : {P : Type 0} {entries : List (ℕ × P)} (last id : ℕ) → last ≤ id → RisesUpTo last entries → RisesUpTo id entries
+higher last id less up_to = record { rise = up_to.rise; end = omega (arith, less, up_to.end) }
+
 rows-higher : (last id : ℕ) (rows : Rows) → last ≤ id → RowsUpTo last rows → RowsUpTo id rows
 rows-higher last id [] less up_to = tt
-rows-higher last id (row ∷ rows) less up_to = (omega (arith, less, up_to.0), rows-higher last id rows less up_to.1)
+rows-higher last id (row ∷ rows) less up_to = (higher last id less up_to.0, rows-higher last id rows less up_to.1)
 
 pub up_to-higher : (last id : ℕ) (lists : AllLists) → last ≤ id → AreUpTo last lists → AreUpTo id lists
 up_to-higher last id lists less up_to = record {
-  words = λ word. omega (arith, less, up_to.words word);
-  tags = λ field tag. omega (arith, less, up_to.tags field tag);
+  words = λ word. higher last id less (up_to.words word);
+  tags = λ field tag. higher last id less (up_to.tags field tag);
   ranges = λ field. by_rows (rows_of lists.ranges field) (up_to.ranges field);
 }
   where

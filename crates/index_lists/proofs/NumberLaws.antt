@@ -126,8 +126,9 @@ gained-seen def number field doc live docs old new at above gains has =
     record {
       ranged = has.ranged;
       entries = es ++ more;
-      parted = gains.1 es (fitting-parted has.entries old gains.0 has.parted);
-      same = alive-seen live es more doc.id doc.key (fitting-ids has.entries old doc.id gains.0 above has.parted) own
+      partition = gains.0;
+      parted = gains.1 es (fitting-parted has.entries old has.partition has.parted);
+      same = alive-seen live es more doc.id doc.key (fitting-ids has.entries old doc.id has.partition above has.parted) own
           ∙ (ap (λ (entries : Entries). entries ++ more) kept
           ∙ (ap (λ (f : Option Field). number_entries def number docs ++ value_entry doc.id (searched_number f doc)) (sym at) ∙ sym (number_entries-append def number docs doc)));
     }
@@ -152,6 +153,7 @@ rows-unseen def number id live docs value None new dead same has = subst (Number
 rows-unseen def number id live docs value (Some old) None dead gains has = absurd gains
 rows-unseen def number id live docs value (Some old) (Some new) dead gains has = record {
   ranged = has.ranged;
+  partition = gains.0;
   entries = has.entries ++ value_entry id value;
   parted = gains.1 has.entries has.parted;
   same = alive-unseen live has.entries (value_entry id value) id (value-own id value) dead ∙ has.same;
@@ -160,11 +162,11 @@ rows-unseen def number id live docs value (Some old) (Some new) dead gains has =
 -- ranges without entries stand for no document
 pub first-none : (def : IndexDef) (number : ℕ) (rows : Option Rows) → IsFirst (slice_get def.fields number) rows → NumbersHave def [] number [] rows
 first-none def number None first = first
-first-none def number (Some rows) first = record { ranged = first.0; entries = []; parted = first.1; same = refl }
+first-none def number (Some rows) first = record { ranged = first.0; partition = first.1; entries = []; parted = first.2; same = refl }
 
 pub first-up_to : (field : Option Field) (rows : Option Rows) → IsFirst field rows → IfSome rows (RowsUpTo 0)
 first-up_to field None first = tt
-first-up_to field (Some rows) first = first.2
+first-up_to field (Some rows) first = first.3
 
 -- where an id is taken out, its numbers are dead
 numbers-without : (def : IndexDef) (number id : ℕ) (docs : List Doc) → number_entries def number (without id docs) ≡ filter (is_other id) (number_entries def number docs)
@@ -184,6 +186,7 @@ pub rows-without : (def : IndexDef) (number id : ℕ) (live : List (ℕ × List 
 rows-without def number id live docs None rises has = has
 rows-without def number id live docs (Some rows) rises has = record {
   ranged = has.ranged;
+  partition = has.partition;
   entries = has.entries;
   parted = has.parted;
   same = alive-killed id live has.entries rises ∙ (ap (filter (is_other id)) has.same ∙ sym (numbers-without def number id docs));

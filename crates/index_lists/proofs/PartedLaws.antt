@@ -1,9 +1,11 @@
 -- Entries that are parted by ranges: those that lie in none do not matter, and the ids of the others are those of the ranges.
-use Rattle.std.proofs.Common.{◌≡◌, ℕ, ◌<◌, Bool, false, true, ℤ, List, [], ◌∷◌, refl, ap, sym, subst, inl, inr, ◌∙◌, Option, None, Some}
+use Rattle.std.proofs.Common.{◌≡◌, ℕ, ◌<◌, Bool, false, true, ◌&&◌, ℤ, List, [], ◌∷◌, refl, ap, sym, subst, inl, inr, ◌∙◌, Option, None, Some}
 use Rattle.std.specs.Prelude.{int_le, int_lt, negsuc}
+use Rattle.std.proofs.Math.Bool.{and_comm}
 use Rattle.std.proofs.lemmas.Bool.{cases_Bool}
 use Rattle.std.specs.List.{AllByRecursion, filter}
 use Rattle.inverted_list.specs.Listing.{Listing, RisesAbove}
+use Rattle.numeric_ranges.proofs.AddLaws.{filter_both}
 use Rattle.numeric_ranges.proofs.ReachLaws.{le_of_lt}
 use Rattle.numeric_ranges.proofs.ValueLaws.{le_from_not_lt, le_trans}
 use Rattle.numeric_ranges.specs.Ranges.{AreParted, IsAbove, IsPartition, LowsRise, Rows, is_below, lies_in, low_of}
@@ -12,29 +14,13 @@ use Rattle.posting_block.specs.declared.hits.NumHit.{NumHit}
 use Rattle.index_lists.proofs.AliveLaws.{all-below}
 
 module _ {X : Type 0} where
-  pub filter-implied : (p q : X → Bool) (xs : List X) → ((x : X) → p x ≡ true → q x ≡ true) → filter p (filter q xs) ≡ filter p xs
-  filter-implied p q [] implied = refl
-  filter-implied p q (x ∷ xs) implied = elim (cases_Bool (q x)) [
-    | inl y ↦ elim (cases_Bool (p x)) [
-      | inl z ↦ rw (y, z) (ap (λ rest. x ∷ rest) (filter-implied p q xs implied))
-      | inr z ↦ rw (y, z) (filter-implied p q xs implied)
-    ]
-    | inr n ↦ elim (cases_Bool (p x)) [
-      | inl z ↦ absurd (cc (implied x z, n))
-      | inr z ↦ rw (n, z) (filter-implied p q xs implied)
-    ]
-  ]
+  filter-implied : (p q : X → Bool) (xs : List X) → ((x : X) → p x ≡ true → q x ≡ true) → filter p (filter q xs) ≡ filter p xs
+  filter-implied p q xs implied = filter_both p q p (λ x. elim (cases_Bool (p x)) [ inl y ↦ rw (y, implied x y) refl | inr n ↦ rw (n, and_comm (q x) false) refl ]) xs
 
   -- two tests pass over what either of them does, in any order
   pub filter-twice : (p q : X → Bool) (xs : List X) → filter p (filter q xs) ≡ filter q (filter p xs)
-  filter-twice p q [] = refl
-  filter-twice p q (x ∷ xs) = by_tests (p x) (q x) refl refl (filter-twice p q xs)
-    where
-      by_tests : (a b : Bool) → p x ≡ a → q x ≡ b → filter p (filter q xs) ≡ filter q (filter p xs) → filter p (filter q (x ∷ xs)) ≡ filter q (filter p (x ∷ xs))
-      by_tests true true here there rest = rw (here, there, here) (ap (λ others. x ∷ others) rest)
-      by_tests true false here there rest = rw (here, there) rest
-      by_tests false true here there rest = rw (here, there, here) rest
-      by_tests false false here there rest = rw (here, there) rest
+  filter-twice p q xs =
+      filter_both p q (λ x. q x && p x) (λ x. refl) xs ∙ sym (filter_both q p (λ x. q x && p x) (λ x. and_comm (p x) (q x)) xs)
 
   pub filter-all : (q : X → Bool) (xs : List X) → AllByRecursion (λ x. q x ≡ true) xs → filter q xs ≡ xs
   filter-all q [] each = refl

@@ -1,28 +1,28 @@
 -- What a number more does to the ids and the markers of ranges.
-use Rattle.std.proofs.Common.{◌≡◌, ◌⊎◌, ℕ, ◌+◌, ◌-◌, ◌*◌, ◌<◌, ◌≤◌, false, true, ℤ, [], ◌∷◌, ◌++◌, length, refl, ap, sym, inl, inr, ◌∙◌, arith, Option, Some}
+use Rattle.std.proofs.Common.{◌≡◌, ◌⊎◌, ℕ, ◌+◌, ◌-◌, ◌*◌, ◌<◌, ◌≤◌, Bool, false, true, ℤ, [], ◌∷◌, ◌++◌, length, refl, ap, sym, inl, inr, ◌∙◌, arith, Option, Some}
 use Rattle.std.specs.Prelude.{int_le, int_lt}
 use Rattle.std.proofs.lemmas.Bool.{cases_Bool}
-use Rattle.std.specs.List.{AllByRecursion}
+use Rattle.std.specs.List.{AllByRecursion, filter}
 use Rattle.std.specs.Ordering.{int_eq}
 use Rattle.inverted_list.proofs.ReachLaws.{rises_push}
 use Rattle.inverted_list.specs.Listing.{Listing, RisesAbove, last_id, marker_of, with_entry}
 use Rattle.inverted_list.specs.declared.marker.Marker.{Marker}
 use Rattle.inverted_list.specs.declared.marker.Markers.{Markers}
-use Rattle.numeric_ranges.proofs.HalfLaws.{last_filter}
+use Rattle.numeric_ranges.proofs.HalfLaws.{last_filter, rises_filter}
 use Rattle.numeric_ranges.proofs.ValueLaws.{eq_true}
 use Rattle.numeric_ranges.specs.Added.{added, marker_after, parts_of}
 use Rattle.numeric_ranges.specs.Ranges.{IsAbove, Rows, is_below, low_of}
-use Rattle.numeric_ranges.specs.Values.{cut_of, splits, values}
+use Rattle.numeric_ranges.specs.Values.{Entries, cut_of, splits, values}
 use Rattle.posting_block.specs.declared.hits.NumHit.{NumHit}
 use Rattle.index_lists.specs.Markers.{IsGiven, slot_marker}
 use Rattle.index_lists.specs.Taking.{AllBefore, TakesMarkers}
-use Rattle.index_lists.specs.UpTo.{RowsUpTo}
+use Rattle.index_lists.specs.UpTo.{RisesUpTo, RowsUpTo}
 use Rattle.index_lists.proofs.ListLaws.{last_id-push}
 use Rattle.index_lists.proofs.TakingLaws.{before-of, not-again}
 
-pub above-up_to : (id : ℕ) (rows : Rows) → IsAbove id rows → RowsUpTo id rows
-above-up_to id [] above = tt
-above-up_to id (row ∷ rows) above = (omega (arith, above.0), above-up_to id rows above.1)
+pub above-up_to : (id : ℕ) (rows : Rows) → AllByRecursion (λ row. RisesAbove 0 row.1.entries) rows → IsAbove id rows → RowsUpTo id rows
+above-up_to id [] rises above = tt
+above-up_to id (row ∷ rows) rises above = (record { rise = rises.0; end = omega (arith, above.0) }, above-up_to id rows rises.1 above.1)
 
 rows-append : (id : ℕ) (xs ys : Rows) → RowsUpTo id xs → RowsUpTo id ys → RowsUpTo id (xs ++ ys)
 rows-append id [] ys first second = second
@@ -35,20 +35,21 @@ parts-up_to low list id hit markers rises above =
     let more : RisesAbove 0 es = rises_push 0 id hit list.entries rises above in
     let end : last_id 0 es ≡ id = last_id-push 0 id hit list.entries in
     let cut = cut_of (values es) in
-    let left = last_filter (λ (e : ℕ × NumHit). int_lt e.1.value cut) 0 es more in
-    let right = last_filter (λ (e : ℕ × NumHit). int_le cut e.1.value) 0 es more in
     elim (cases_Bool (splits es)) [
-      | inl y ↦ rw y (omega (arith, left, end), (omega (arith, right, end), tt))
-      | inr n ↦ rw n (omega (arith, end), tt)
+      | inl y ↦ rw y (half (λ (e : ℕ × NumHit). int_lt e.1.value cut) es more end, (half (λ (e : ℕ × NumHit). int_le cut e.1.value) es more end, tt))
+      | inr n ↦ rw n (record { rise = more; end = omega (arith, end) }, tt)
     ]
+  where
+    half : (p : ℕ × NumHit → Bool) (es : Entries) → RisesAbove 0 es → last_id 0 es ≡ id → RisesUpTo id (filter p es)
+    half p es more end = record { rise = rises_filter p 0 es more; end = omega (arith, last_filter p 0 es more, end) }
 
--- where ids are below one that is added, none is above it
+-- where ids rise, and are below one that is added, they rise up to it
 pub added-up_to : (rows : Rows) (id : ℕ) (value : ℤ) (markers : Markers) → AllByRecursion (λ row. RisesAbove 0 row.1.entries) rows → IsAbove id rows → RowsUpTo id (added rows id value markers)
 added-up_to [] id value markers rises above = tt
 added-up_to (row ∷ rows) id value markers rises above = elim (cases_Bool (is_below (low_of rows) value)) [
   | inl y ↦ rw y (rows-append id (parts_of row.0 (with_entry row.1 id (record { value = value })) markers) rows
-      (parts-up_to row.0 row.1 id (record { value = value }) markers rises.0 above.0) (above-up_to id rows above.1))
-  | inr n ↦ rw n (omega (arith, above.0), added-up_to rows id value markers rises.1 above.1)
+      (parts-up_to row.0 row.1 id (record { value = value }) markers rises.0 above.0) (above-up_to id rows rises.1 above.1))
+  | inr n ↦ rw n (record { rise = rises.0; end = omega (arith, above.0) }, added-up_to rows id value markers rises.1 above.1)
 ]
 
 -- each range keeps its marker

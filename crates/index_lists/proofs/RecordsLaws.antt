@@ -1,5 +1,5 @@
 -- The lists of an index have an entry for each live record.
-use Rattle.std.proofs.Common.{◌≡◌, ℕ, suc, ◌+◌, ◌<◌, ◌≤◌, false, true, cond, ℤ, List, [], ◌∷◌, ◌++◌, map, drop, length, length-append, slice_index_or, refl, ap, sym, subst, inl, inr, ◌∙◌, arith, Option, None, Some, IfSome, is_some}
+use Rattle.std.proofs.Common.{◌≡◌, ℕ, suc, ◌+◌, ◌<◌, ◌≤◌, false, true, cond, ℤ, List, [], ◌∷◌, ◌++◌, map, drop, length, length-append, slice_index_or, refl, ap, sym, subst, inl, inr, ◌∙◌, arith, Option, None, Some, is_some}
 use Rattle.std.specs.Prelude.{int_le, int_lt, slice_get}
 use Rattle.std.proofs.lemmas.Bool.{cases_Bool}
 use Rattle.std.proofs.lemmas.List.{drop_more, map-append}
@@ -18,7 +18,7 @@ use Rattle.ft_meaning.specs.Holds.{value_tags}
 use Rattle.ft_meaning.specs.Meaning.{field_tokens}
 use Rattle.ft_meaning.specs.Records.{live_records, number_count, tag_count, word_count, words_of}
 use Rattle.ft_meaning.proofs.HoldsLaws.{value_number-none}
-use Rattle.numeric_ranges.specs.Ranges.{AreParted, IsPartition, Rows, entries_in_rows, lies_in, low_of}
+use Rattle.numeric_ranges.specs.Ranges.{AreParted, Rows, entries_in_rows, lies_in, low_of}
 use Rattle.numeric_ranges.specs.Values.{Entries}
 use Rattle.numeric_ranges.proofs.ValueLaws.{le_from_not_lt}
 use Rattle.posting_block.specs.declared.hits.NumHit.{NumHit}
@@ -225,12 +225,12 @@ no-number field doc away = elim (cases_Bool field.noindex) [
 
 -- the ranges of a field have an entry for each document that has a number there
 slot-least : (def : IndexDef) (live : List (ℕ × List ℕ)) (docs : List Doc) (number : ℕ) (field : Field) (slot : Option Rows) → slice_get def.fields number ≡ Some field
-    → NumbersHave def live number docs slot → IfSome slot IsPartition → sum_by (λ doc. number_count doc field) docs ≤ entries_in_slot slot
-slot-least def live docs number field None at has partition =
+    → NumbersHave def live number docs slot → sum_by (λ doc. number_count doc field) docs ≤ entries_in_slot slot
+slot-least def live docs number field None at has =
     omega (arith, sum-none (λ (doc : Doc). number_count doc field) (λ doc. no-number field doc (ap is_ranged (sym at) ∙ has)) docs)
-slot-least def live docs number field (Some rows) at has partition =
+slot-least def live docs number field (Some rows) at has =
     let fit = subst (AllByRecursion (λ (e : ℕ × NumHit). fits e ≡ true)) (sym has.same) (entries-fit def number docs) in
-    omega (arith, number-entries-count def number field docs at, ap length has.same, parted-least live has.entries rows partition.first has.parted fit)
+    omega (arith, number-entries-count def number field docs at, ap length has.same, parted-least live has.entries rows has.partition.first has.parted fit)
 
 -- the ranges of the fields by number are all of them
 numbered-ranges : {F : Type 0} (fields : List F) (ranges : List (Option Rows)) → numbered fields (λ number. entries_in_slot (rows_of ranges number)) ≤ entries_in_ranges ranges
@@ -238,26 +238,25 @@ numbered-ranges [] ranges = omega arith
 numbered-ranges (field ∷ fields) [] = omega (arith, numbered-ranges fields [])
 numbered-ranges (field ∷ fields) (slot ∷ ranges) = omega (arith, numbered-ranges fields ranges, sum_by-cons entries_in_slot slot ranges)
 
-numbers-least : (def : IndexDef) (live : List (ℕ × List ℕ)) (docs : List Doc) (ranges : List (Option Rows)) → RangesHaveAll def ranges live docs → ((number : ℕ) → IfSome (rows_of ranges number) IsPartition)
+numbers-least : (def : IndexDef) (live : List (ℕ × List ℕ)) (docs : List Doc) (ranges : List (Option Rows)) → RangesHaveAll def ranges live docs
     → sum_by (λ (doc : Doc). sum_by (number_count doc) def.fields) docs ≤ entries_in_ranges ranges
-numbers-least def live docs ranges has partitions =
+numbers-least def live docs ranges has =
     omega (
       arith,
       sum-turned number_count docs def.fields,
       numbered-over def.fields (λ field. sum_by (λ doc. number_count doc field) docs) (λ number. entries_in_slot (rows_of ranges number))
-          (λ number field at. slot-least def live docs number field (rows_of ranges number) at (has number) (partitions number)),
+          (λ number field at. slot-least def live docs number field (rows_of ranges number) at (has number)),
       numbered-ranges def.fields ranges,
     )
 
 -- Lists that stand for documents have an entry, at least, for each live record.
-pub records-least : (def : IndexDef) (live : List (ℕ × List ℕ)) (docs : List Doc) (lists : AllLists) → ((number : ℕ) → IfSome (rows_of lists.ranges number) IsPartition)
-    → Has def live lists docs → live_records def docs ≤ all_entries lists
-records-least def live docs lists partitions has =
+pub records-least : (def : IndexDef) (live : List (ℕ × List ℕ)) (docs : List Doc) (lists : AllLists) → Has def live lists docs → live_records def docs ≤ all_entries lists
+records-least def live docs lists has =
     omega (
       arith,
       words-least def live docs lists.words has.words,
       tags-least def live docs lists.tags has.tags,
-      numbers-least def live docs lists.ranges has.numbers partitions,
+      numbers-least def live docs lists.ranges has.numbers,
       sum-plus (λ (doc : Doc). word_count def doc + sum_by (tag_count doc) def.fields) (λ doc. sum_by (number_count doc) def.fields) docs,
       sum-plus (word_count def) (λ (doc : Doc). sum_by (tag_count doc) def.fields) docs,
     )

@@ -14,7 +14,7 @@ use Rattle.ft_base.specs.declared.doc.Doc.{Doc}
 use Rattle.inverted_list.specs.Listing.{last_id}
 use Rattle.inverted_list.specs.declared.marker.Markers.{Markers}
 use Rattle.posting_block.specs.declared.hits.TagHit.{TagHit}
-use Rattle.tag_index.specs.Tags.{FieldTags, SetsTag, TagsRise, entries_in, list_in}
+use Rattle.tag_index.specs.Tags.{FieldTags, SetsTag, entries_in, list_in}
 use Rattle.tag_index.specs.Tags as index
 use Rattle.term_dict.specs.Terms.{Lists, entries_of, list_of}
 use Rattle.index_lists.specs.Adding.{IsSeen, IsUnseen, TagsHave, tag_entry}
@@ -23,11 +23,11 @@ use Rattle.index_lists.specs.Has.{alive}
 use Rattle.index_lists.specs.Markers.{marker_in, tag_marker}
 use Rattle.index_lists.specs.Tagging.{AreApart, TagsGain}
 use Rattle.index_lists.specs.Taking.{AllBefore, TakesMarkers}
-use Rattle.index_lists.specs.UpTo.{TagsUpTo}
+use Rattle.index_lists.specs.UpTo.{RisesUpTo, TagsUpTo}
 use Rattle.index_lists.specs.Without.{without}
 use Rattle.index_lists.proofs.AliveLaws.{AreOf, alive-seen, alive-unseen, all-below, is_other, same-yes}
 use Rattle.index_lists.proofs.FieldLaws.{decided, fields-next, get-taken}
-use Rattle.index_lists.proofs.ListLaws.{added_list, entries-added, last_id-push, list-others, marker-here, rise-entries}
+use Rattle.index_lists.proofs.ListLaws.{added_list, entries-added, list-others, marker-here, up_to-push}
 use Rattle.index_lists.proofs.TakingLaws.{takes-at}
 
 -- the tags of a value differ
@@ -98,15 +98,19 @@ entries-tagged old new field tag markers id hit sets other name = elim (cases_Bo
     by_name true is added = added ∙ cond-true (bytes_eq tag name) _ (entries_in old field name) is
     by_name false is added = added ∙ (cond-false (bytes_eq tag name) _ (entries_in old field name) is ∙ sym (append-nil (entries_in old field name)))
 
--- an entry more ends its list, and the others end where they did
-pub tags-up_to : (id : ℕ) (old new : FieldTags) (has : ℕ → List ℕ → Bool) → TagsUpTo id old
-    → ((other : ℕ) (name : List ℕ) → entries_in new other name ≡ entries_in old other name ++ tag_entry id (has other name)) → TagsUpTo id new
-tags-up_to id old new has end entries other name =
-    subst (λ (es : List (ℕ × TagHit)). last_id 0 es ≤ id) (sym (entries other name)) (by_has (has other name))
-  where
-    by_has : (b : Bool) → last_id 0 (entries_in old other name ++ tag_entry id b) ≤ id
-    by_has true = rw (last_id-push 0 id (record {}) (entries_in old other name)) (omega arith)
-    by_has false = rw append-nil (end other name)
+-- an entry more of a higher id ends its list, and the others end where they did
+pub tags-up_to : (id : ℕ) (old new : FieldTags) (field : ℕ) (tag : List ℕ) → TagsUpTo id old → last_id 0 (entries_in old field tag) < id
+    → ((other : ℕ) (name : List ℕ) → entries_in new other name ≡ entries_in old other name ++ tag_entry id (nat_eq other field && bytes_eq name tag)) → TagsUpTo id new
+tags-up_to id old new field tag up_to later entries other name =
+    subst (RisesUpTo id) (sym (entries other name)) (elim (cases_Bool (nat_eq other field)) [
+      | inl y ↦ elim (cases_Bool (bytes_eq name tag)) [
+        | inl z ↦ rw (y, z) (up_to-push id (record {}) (entries_in old other name) (up_to other name).rise
+            (subst (λ (n : ℕ). last_id 0 (entries_in old n name) < id) (sym (eqb-true other field y))
+            (subst (λ (t : List ℕ). last_id 0 (entries_in old field t) < id) (sym ((bytes_decides name tag).0 z)) later)))
+        | inr n ↦ rw (y, n, append-nil) (up_to other name)
+      ]
+      | inr n ↦ rw (n, append-nil) (up_to other name)
+    ])
 
 -- the markers of one field's tags change at one tag
 pub tags-take : (old new : FieldTags) (field : ℕ) (tag : List ℕ) (from to : Markers) (id : ℕ) (hit : TagHit) → AllBefore from (tag_marker old)
@@ -193,13 +197,13 @@ tag_entries-append def field tag (first ∷ docs) doc = elim (cases_Bool (has_ta
   | inr n ↦ rw n (tag_entries-append def field tag docs doc)
 ]
 
-pub tags-seen : (def : IndexDef) (doc : Doc) (old new : FieldTags) → ((field : ℕ) → TagsRise (index.tags_of old field))
+pub tags-seen : (def : IndexDef) (doc : Doc) (old new : FieldTags) → TagsUpTo doc.id old
     → ((field : ℕ) (tag : List ℕ) → last_id 0 (entries_in old field tag) < doc.id) → TagsGain def.fields doc old new → IsSeen doc (TagsHave def old) (TagsHave def new)
-tags-seen def doc old new rise later added live docs has field tag =
+tags-seen def doc old new up_to later added live docs has field tag =
     let es = entries_in old field tag in
     let more = tag_entry doc.id (has_tag def field tag doc) in
     ap (alive (live ++ (doc.id, doc.key) ∷ [])) (added field tag)
-    ∙ (alive-seen live es more doc.id doc.key (all-below 0 doc.id es (rise-entries (index.tags_of old field) tag (rise field).ids) (later field tag)) (tag-own doc.id (has_tag def field tag doc))
+    ∙ (alive-seen live es more doc.id doc.key (all-below 0 doc.id es (up_to field tag).rise (later field tag)) (tag-own doc.id (has_tag def field tag doc))
     ∙ (ap (λ (entries : List (ℕ × TagHit)). entries ++ more) (has field tag) ∙ sym (tag_entries-append def field tag docs doc)))
 
 pub tags-without : (def : IndexDef) (field : ℕ) (tag : List ℕ) (id : ℕ) (docs : List Doc) → tag_entries def field tag (without id docs) ≡ filter (is_other id) (tag_entries def field tag docs)

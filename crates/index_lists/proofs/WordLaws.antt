@@ -1,8 +1,9 @@
 -- The words of a document, a field at a time, and what is seen of them once they are in the lists.
-use Rattle.std.proofs.Common.{◌≡◌, ℕ, ◌+◌, ◌<◌, ◌≤◌, List, [], ◌∷◌, ◌++◌, map, drop, drop-cons, length, slice_index_or, refl, ap, sym, inl, inr, ◌∙◌, add-one, arith, append_assoc, append-nil, is_some, nat_eq, if◌then◌else◌}
+use Rattle.std.proofs.Common.{◌≡◌, ℕ, ◌+◌, ◌<◌, ◌≤◌, List, [], ◌∷◌, ◌++◌, map, drop, drop-cons, length, slice_index_or, refl, ap, sym, subst, inl, inr, ◌∙◌, add-one, append_assoc, append-nil, is_some, nat_eq, if◌then◌else◌}
 use Rattle.std.proofs.lemmas.Bool.{cases_Bool}
 use Rattle.std.proofs.lemmas.List.{map-append}
 use Rattle.std.proofs.lemmas.List.Elements.{filter-append}
+use Rattle.std.specs.Cmp.Lexicographic.{bytes_decides}
 use Rattle.std.specs.List.{filter}
 use Rattle.std.specs.Str.{bytes_eq}
 use Rattle.ft_base.specs.declared.definition.Field.{Field}
@@ -12,17 +13,17 @@ use Rattle.ft_meaning.specs.Meaning.{field_tokens}
 use Rattle.inverted_list.specs.Listing.{last_id}
 use Rattle.inverted_list.specs.declared.marker.Markers.{Markers}
 use Rattle.posting_block.specs.declared.hits.TextHit.{TextHit}
-use Rattle.term_dict.specs.Terms.{IdsRise, Lists, Sets, entries_of, list_of}
+use Rattle.term_dict.specs.Terms.{Lists, Sets, entries_of, list_of}
 use Rattle.index_lists.specs.Adding.{IsSeen, IsUnseen, WordsHave}
 use Rattle.index_lists.specs.Collected.{GrowBy}
 use Rattle.index_lists.specs.Entries.{codes, codes_among, entry, occurrence, occurrences_from, word_entries}
 use Rattle.index_lists.specs.Has.{alive}
 use Rattle.index_lists.specs.Markers.{marker_in, word_marker}
 use Rattle.index_lists.specs.Taking.{AllBefore, TakesMarkers}
-use Rattle.index_lists.specs.UpTo.{WordsUpTo}
+use Rattle.index_lists.specs.UpTo.{RisesUpTo, WordsUpTo}
 use Rattle.index_lists.specs.Without.{without}
 use Rattle.index_lists.proofs.AliveLaws.{AreOf, alive-seen, alive-unseen, all-below, all-other, is_other, none-other}
-use Rattle.index_lists.proofs.ListLaws.{added_list, entries-added, last_id-push, list-others, marker-here, rise-entries}
+use Rattle.index_lists.proofs.ListLaws.{added_list, entries-added, list-others, marker-here, up_to-push}
 use Rattle.index_lists.proofs.TakingLaws.{takes-at}
 
 pub codes_among-append : (word : List ℕ) (xs ys : List (List ℕ × ℕ)) → codes_among word (xs ++ ys) ≡ codes_among word xs ++ codes_among word ys
@@ -52,13 +53,13 @@ word_entries-append def word (first ∷ docs) doc =
     ap (λ rest. entry first.id (codes def word first) ++ rest) (word_entries-append def word docs doc)
     ∙ sym (append_assoc (entry first.id (codes def word first)) (word_entries def word docs) (entry doc.id (codes def word doc)))
 
-pub words-seen : (def : IndexDef) (doc : Doc) (old new : Lists TextHit) → IdsRise old → ((word : List ℕ) → last_id 0 (entries_of old word) < doc.id)
+pub words-seen : (def : IndexDef) (doc : Doc) (old new : Lists TextHit) → WordsUpTo doc.id old → ((word : List ℕ) → last_id 0 (entries_of old word) < doc.id)
     → ((word : List ℕ) → entries_of new word ≡ entries_of old word ++ entry doc.id (codes def word doc)) → IsSeen doc (WordsHave def old) (WordsHave def new)
-words-seen def doc old new rise later added live docs has word =
+words-seen def doc old new up_to later added live docs has word =
     let es = entries_of old word in
     let more = entry doc.id (codes def word doc) in
     ap (alive (live ++ (doc.id, doc.key) ∷ [])) (added word)
-    ∙ (alive-seen live es more doc.id doc.key (all-below 0 doc.id es (rise-entries old word rise) (later word)) (entry-own doc.id (codes def word doc))
+    ∙ (alive-seen live es more doc.id doc.key (all-below 0 doc.id es (up_to word).rise (later word)) (entry-own doc.id (codes def word doc))
     ∙ (ap (λ (entries : List (ℕ × TextHit)). entries ++ more) (has word) ∙ sym (word_entries-append def word docs doc)))
 
 pub words-without : (def : IndexDef) (word : List ℕ) (id : ℕ) (docs : List Doc) → word_entries def word (without id docs) ≡ filter (is_other id) (word_entries def word docs)
@@ -72,13 +73,14 @@ words-without def word id (doc ∷ docs) =
       | inr apart ↦ rw (apart, parts, all-other id doc.id (entry doc.id (codes def word doc)) own apart) (ap (λ rest. entry doc.id (codes def word doc) ++ rest) others)
     ]
 
--- an entry more ends its list, and the others end where they did
-pub words-up_to : (old new : Lists TextHit) (word : List ℕ) (markers : Markers) (id : ℕ) (hit : TextHit) → WordsUpTo id old → Sets word (added_list old word markers id hit) old new → WordsUpTo id new
-words-up_to old new word markers id hit end sets other =
+-- an entry more of a higher id ends its list, and the others end where they did
+pub words-up_to : (old new : Lists TextHit) (word : List ℕ) (markers : Markers) (id : ℕ) (hit : TextHit) → WordsUpTo id old → last_id 0 (entries_of old word) < id → Sets word (added_list old word markers id hit) old new → WordsUpTo id new
+words-up_to old new word markers id hit up_to later sets other =
     let entries = entries-added old new word markers id hit sets other in
     elim (cases_Bool (bytes_eq word other)) [
-      | inl y ↦ rw (entries, y, last_id-push 0 id hit (entries_of old other)) (omega arith)
-      | inr n ↦ rw (entries, n) (end other)
+      | inl y ↦ rw (entries, y) (subst (λ (name : List ℕ). RisesUpTo id (entries_of old name ++ (id, hit) ∷ [])) ((bytes_decides word other).0 y)
+          (up_to-push id hit (entries_of old word) (up_to word).rise later))
+      | inr n ↦ rw (entries, n) (up_to other)
     ]
 
 pub words-take : (old new : Lists TextHit) (word : List ℕ) (from to : Markers) (id : ℕ) (hit : TextHit) → AllBefore from (word_marker old) → Sets word (added_list old word from id hit) old new

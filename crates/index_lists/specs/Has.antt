@@ -2,7 +2,7 @@
 use Rattle.std.specs.Prelude.{◌≡◌, ℕ, List, map, filter, true, false, Option, Some, None, slice_get}
 use Rattle.ft_base.specs.declared.definition.IndexDef.{IndexDef}
 use Rattle.ft_base.specs.declared.doc.Doc.{Doc}
-use Rattle.numeric_ranges.specs.Ranges.{AreParted, Rows}
+use Rattle.numeric_ranges.specs.Ranges.{AreParted, IsPartition, Rows}
 use Rattle.numeric_ranges.specs.Values.{Entries}
 use Rattle.tag_index.specs.Tags.{entries_in}
 use Rattle.term_dict.specs.Terms.{entries_of}
@@ -13,9 +13,11 @@ use Rattle.index_lists.specs.Lists.{AllLists, has_id, rows_of}
 abbrev pub alive : {P : Type 0} → List (ℕ × List ℕ) → List (ℕ × P) → List (ℕ × P)
 alive live entries = filter (λ e. has_id live e.0) entries
 
--- The ranges part some entries by their numbers, and the live ones of these are those of the documents that have a number.
+-- The ranges are a partition of the numbers, from -2^63 on. They part some entries, so that each lies in the one range of its
+-- number, and the live ones of these are those of the documents that have a number, one for each.
 pub record RangesHave (def : IndexDef) (live : List (ℕ × List ℕ)) (field : ℕ) (docs : List Doc) (rows : Rows) : Type 0 where
   pub ranged : is_ranged (slice_get def.fields field) ≡ true
+  pub partition : IsPartition rows
   pub entries : Entries
   pub parted : AreParted entries rows
   pub same : alive live entries ≡ number_entries def field docs

@@ -11,18 +11,18 @@ use Rattle.index_lists.specs.UpTo.{RowsUpTo}
 -- ranges without entries where a field has ranges, and none where it has none
 abbrev pub IsFirst : Option Field → Option Rows → Type 0
 IsFirst field None = is_ranged field ≡ false
-IsFirst field (Some rows) = (is_ranged field ≡ true) × AreParted [] rows × RowsUpTo 0 rows
+IsFirst field (Some rows) = (is_ranged field ≡ true) × IsPartition rows × AreParted [] rows × RowsUpTo 0 rows
 
 -- the entry of a number, where there is a number
 abbrev pub value_entry : ℕ → Option ℤ → Entries
 value_entry id None = []
 value_entry id (Some value) = (id, record { value = value }) ∷ []
 
--- Ranges that were of some entries are of these and more now. A field without ranges has none.
+-- Ranges are a partition now, and where they were of some entries they are of these and more. A field without ranges has none.
 abbrev pub RowsGain : Entries → Option Rows → Option Rows → Type 0
 RowsGain more None new = new ≡ None
 RowsGain more (Some old) None = ⊥
-RowsGain more (Some old) (Some new) = IsPartition old × ((es : Entries) → AreParted es old → AreParted (es ++ more) new)
+RowsGain more (Some old) (Some new) = IsPartition new × ((es : Entries) → AreParted es old → AreParted (es ++ more) new)
 
 -- A field's ranges get the number of a document, where there is the field and it has one.
 abbrev pub FieldGains : Option Field → Doc → Option Rows → Option Rows → Type 0

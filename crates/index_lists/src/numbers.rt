@@ -1,7 +1,7 @@
 //! The numbers of a document: each goes into a range of its NUMERIC field.
 ghost use Rattle.std.specs.Prelude.{◌≡◌, ◌≢◌, ◌<◌, ◌≤◌, ◌+◌, ◌*◌, ◌^◌, List, ℕ, [], ◌∷◌, None, Some, length, IfOk, IfNone, IfSome, OnOk, OnErr};
 ghost use Rattle.ft_base.specs.declared.definition.IndexDef.{IndexDef};
-ghost use Rattle.numeric_ranges.specs.Ranges.{IsAbove, IsPartition};
+ghost use Rattle.numeric_ranges.specs.Ranges.{IsAbove};
 ghost use Rattle.index_lists.specs.Adding.{IsSeen, IsUnseen, RangesHaveAll};
 ghost use Rattle.index_lists.specs.Entries.{is_ranged, searched_number};
 ghost use Rattle.index_lists.specs.Lists.{rows_of};
@@ -62,7 +62,6 @@ fn has_ranges(field: &Field) -> bool
 pub fn entries_in_ranges(ranges: &[Option<Ranges>]) -> Option<u64>
     ensures some { IfSome result (λ n. n ≡ entries_in_ranges ranges.now) }
     ensures none { IfNone result (2 ^ 64 ≤ entries_in_ranges ranges.now) }
-    ensures partitions { IfSome result (λ _. (field : ℕ) → IfSome (rows_of ranges.now field) IsPartition) }
 {
     let mut total: u64 = 0;
     for slot in ranges {
@@ -75,7 +74,6 @@ pub fn entries_in_ranges(ranges: &[Option<Ranges>]) -> Option<u64>
 fn entries_in_slot(slot: &Option<Ranges>) -> Option<u64>
     ensures some { IfSome result (λ n. n ≡ entries_in_slot slot.now) }
     ensures none { IfNone result (2 ^ 64 ≤ entries_in_slot slot.now) }
-    ensures partition { IfSome slot.now IsPartition }
 {
     match slot {
         Some(rows) => rows.entries(),
@@ -92,6 +90,7 @@ pub fn add_numbers(
     markers: &mut Markers,
 ) -> Result<(), NoMemory>
     requires later { (number : ℕ) → IfSome (rows_of ranges.old number) (IsAbove doc.now.id) }
+    requires up_to { RangesUpTo doc.now.id ranges.old }
     requires before { AllBefore markers.old (range_marker ranges.old) }
     ensures unseen { IsUnseen doc.now.id
         (RangesHaveAll def.now ranges.old) (RangesHaveAll def.now ranges.new) }
@@ -112,6 +111,7 @@ fn add_all(
     markers: &mut Markers,
 ) -> Result<(), NoMemory>
     requires later { (number : ℕ) → IfSome (rows_of ranges.old number) (IsAbove doc.now.id) }
+    requires up_to { RangesUpTo doc.now.id ranges.old }
     requires before { AllBefore markers.old (range_marker ranges.old) }
     ensures ok { OnOk result (RangesGain fields.now doc.now ranges.old ranges.new) }
     ensures unseen { (def : IndexDef) → IsUnseen doc.now.id

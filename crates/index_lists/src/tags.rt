@@ -4,7 +4,7 @@ ghost use Rattle.std.specs.List.{list_any};
 ghost use Rattle.std.specs.Str.{bytes_eq};
 ghost use Rattle.ft_base.specs.declared.definition.IndexDef.{IndexDef};
 ghost use Rattle.inverted_list.specs.Listing.{last_id};
-ghost use Rattle.tag_index.specs.Tags.{TagsRise, entries_in, tags_of};
+ghost use Rattle.tag_index.specs.Tags.{entries_in};
 ghost use Rattle.index_lists.specs.Adding.{IsSeen, IsUnseen, TagsHave, tag_entry};
 ghost use Rattle.index_lists.specs.Entries.{has_tag, searched_tags};
 ghost use Rattle.index_lists.specs.Markers.{tag_marker};
@@ -30,6 +30,7 @@ pub fn add_tags(
 ) -> Result<(), NoMemory>
     requires fields { length def.now.fields ≤ 1_024 }
     requires later { (field : ℕ) (tag : List ℕ) → last_id 0 (entries_in lists.old field tag) < doc.now.id }
+    requires up_to { TagsUpTo doc.now.id lists.old }
     requires before { AllBefore markers.old (tag_marker lists.old) }
     ensures unseen { IsUnseen doc.now.id (TagsHave def.now lists.old) (TagsHave def.now lists.new) }
     ensures seen { OnOk result (IsSeen doc.now (TagsHave def.now lists.old) (TagsHave def.now lists.new)) }
@@ -49,14 +50,13 @@ fn add_all(
 ) -> Result<(), NoMemory>
     requires fields { length fields.now ≤ 1_024 }
     requires later { (field : ℕ) (tag : List ℕ) → last_id 0 (entries_in lists.old field tag) < doc.now.id }
+    requires up_to { TagsUpTo doc.now.id lists.old }
     requires before { AllBefore markers.old (tag_marker lists.old) }
     ensures ok { OnOk result (TagsGain fields.now doc.now lists.old lists.new) }
     ensures unseen { (def : IndexDef) → IsUnseen doc.now.id (TagsHave def lists.old) (TagsHave def lists.new) }
-    ensures rise { (field : ℕ) → TagsRise (tags_of lists.old field) }
     ensures up_to { TagsUpTo doc.now.id lists.new }
     ensures takes { TakesMarkers markers.old markers.new (tag_marker lists.old) (tag_marker lists.new) }
 {
-    let _ = lists.len();
     for (number, field) in fields.iter().enumerate() {
         let found = searched_tags(alloc, field, doc)?;
         add_field(lists, number as u16, found.as_slice(), doc.id, markers)?;

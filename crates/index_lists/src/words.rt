@@ -4,7 +4,7 @@ ghost use Rattle.std.specs.Prelude.{◌≡◌, ◌<◌, ◌≤◌, ◌+◌, ◌*
 ghost use Rattle.std.specs.Str.{bytes_eq};
 ghost use Rattle.ft_meaning.specs.Meaning.{ValuesFit, field_tokens};
 ghost use Rattle.inverted_list.specs.Listing.{last_id};
-ghost use Rattle.term_dict.specs.Terms.{IdsRise, entries_of};
+ghost use Rattle.term_dict.specs.Terms.{entries_of};
 ghost use Rattle.index_lists.specs.Adding.{IsSeen, IsUnseen, WordsHave};
 ghost use Rattle.index_lists.specs.Collected.{AreMet, GrowBy, codes_of};
 ghost use Rattle.index_lists.specs.Entries.{codes, codes_among, entry, occurrence};
@@ -39,6 +39,7 @@ pub fn add_words(
     requires fields { length def.now.fields ≤ 1_024 }
     requires values { ValuesFit doc.now.hash }
     requires later { (word : List ℕ) → last_id 0 (entries_of terms.old word) < doc.now.id }
+    requires up_to { WordsUpTo doc.now.id terms.old }
     requires before { AllBefore markers.old (word_marker terms.old) }
     ensures unseen { IsUnseen doc.now.id (WordsHave def.now terms.old) (WordsHave def.now terms.new) }
     ensures seen { OnOk result (IsSeen doc.now (WordsHave def.now terms.old) (WordsHave def.now terms.new)) }
@@ -138,16 +139,15 @@ fn add_all(
     markers: &mut Markers,
 ) -> Result<(), NoMemory>
     requires later { (word : List ℕ) → last_id 0 (entries_of terms.old word) < id }
+    requires up_to { WordsUpTo id terms.old }
     requires met { AreMet found.entries }
     requires before { AllBefore markers.old (word_marker terms.old) }
     ensures ok { OnOk result ((word : List ℕ) → entries_of terms.new word
         ≡ entries_of terms.old word ++ entry id (codes_of found.entries word)) }
     ensures some { GrowBy id terms.old terms.new }
-    ensures rise { IdsRise terms.old }
     ensures up_to { WordsUpTo id terms.new }
     ensures takes { TakesMarkers markers.old markers.new (word_marker terms.old) (word_marker terms.new) }
 {
-    let _ = terms.len();
     for (word, codes) in found {
         add(terms, word.as_slice(), codes, id, markers)?;
     }

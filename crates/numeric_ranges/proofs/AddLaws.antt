@@ -7,7 +7,7 @@ use Rattle.std.specs.Prelude.{negsuc}
 use Rattle.std.proofs.lemmas.Int.{ints, to_z-of_z}
 use mir.Syntax.{w64}
 use mir.Val.{to_z, of_z, SFits}
-use Rattle.std.proofs.lemmas.List.{map-set, get_or_default}
+use Rattle.std.proofs.lemmas.List.{append-nil, map-set, get_or_default}
 use Rattle.std.proofs.lemmas.List.Elements.{filter-append}
 use Rattle.posting_block.specs.declared.hits.NumHit.{NumHit}
 use Rattle.inverted_list.specs.declared.marker.Markers.{Markers}
@@ -88,12 +88,8 @@ module _ {X : Type 0} where
   pub filter_yes : (p : X → Bool) (xs : List X) (x : X) → p x ≡ true → filter p (xs ++ x ∷ []) ≡ filter p xs ++ x ∷ []
   filter_yes p xs x h = filter-append p xs (x ∷ []) ∙ ap (λ b. filter p xs ++ cond b (x ∷ []) []) h
 
-  append_none : (xs : List X) → xs ++ [] ≡ xs
-  append_none [] = refl
-  append_none (x ∷ xs) = ap (λ rest. x ∷ rest) (append_none xs)
-
   pub filter_no : (p : X → Bool) (xs : List X) (x : X) → p x ≡ false → filter p (xs ++ x ∷ []) ≡ filter p xs
-  filter_no p xs x h = filter-append p xs (x ∷ []) ∙ (ap (λ b. filter p xs ++ cond b (x ∷ []) []) h ∙ append_none (filter p xs))
+  filter_no p xs x h = filter-append p xs (x ∷ []) ∙ (ap (λ b. filter p xs ++ cond b (x ∷ []) []) h ∙ append-nil (filter p xs))
 
 -- ---- rows
 -- An entry goes into rows: what they are then, and what stays true of them.

@@ -1,13 +1,14 @@
 -- The entries of one half, as they come.
-use Rattle.std.proofs.Common.{◌≡◌, ℕ, zero, suc, ◌+◌, ◌<◌, ◌≤◌, Bool, true, false, cond, List, [], ◌∷◌, ◌++◌, length, take, get_or, inl, inr, refl, sym, ap, ◌∙◌, arith}
+use Rattle.std.proofs.Common.{◌≡◌, ℕ, zero, suc, ◌+◌, ◌<◌, ◌≤◌, Bool, true, false, cond, List, [], ◌∷◌, ◌++◌, length, take, get_or, inl, inr, sym, ap, ◌∙◌, arith}
 use Rattle.std.specs.List.{filter}
 use Rattle.std.proofs.lemmas.Bool.{cases_Bool}
+use Rattle.std.proofs.lemmas.List.{append-nil}
 use Rattle.std.proofs.lemmas.List.Elements.{filter_more}
 use Rattle.inverted_list.specs.declared.marker.Marker.{Marker}
 use Rattle.inverted_list.specs.Listing.{Listing, RisesAbove, last_id, with_entry}
 
 module _ {P : Type 0} where
-  last_more : (low high : ℕ) (es : List (ℕ × P)) → low ≤ high → last_id low es ≤ last_id high es
+  pub last_more : (low high : ℕ) (es : List (ℕ × P)) → low ≤ high → last_id low es ≤ last_id high es
   last_more low high [] h = h
   last_more low high (e ∷ es) h = omega arith
 
@@ -65,8 +66,4 @@ module _ {P : Type 0} where
   half_same p es k e l m h is fails same =
       let step : filter p (take (k + 1) es) ≡ filter p (take k es) ++ [] =
       filter_more p es k e h ∙ (ap (λ (x : ℕ × P). filter p (take k es) ++ cond (p x) (x ∷ []) []) (sym is) ∙ ap (λ b. filter p (take k es) ++ cond b (e ∷ []) []) fails) in
-      same ∙ ap (λ (xs : List (ℕ × P)). record { marker = m; entries = xs }) (sym (step ∙ append_nil (filter p (take k es))))
-    where
-      append_nil : (xs : List (ℕ × P)) → xs ++ [] ≡ xs
-      append_nil [] = refl
-      append_nil (x ∷ xs) = ap (λ ys. x ∷ ys) (append_nil xs)
+      same ∙ ap (λ (xs : List (ℕ × P)). record { marker = m; entries = xs }) (sym (step ∙ append-nil (filter p (take k es))))

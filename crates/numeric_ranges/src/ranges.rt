@@ -47,6 +47,7 @@ impl Ranges {
           negsuc 9223372036854775807,
           record { marker = marker_of markers.old; entries = [] },
         ) ∷ []) }
+        ensures partition { IfOk result IsPartition }
         ensures taken { OnOk result (markers.new.next ≡ markers.old.next + 1) }
         ensures event { markers.new.event ≡ markers.old.event }
         ensures rises { markers.old.next ≤ markers.new.next }
@@ -124,6 +125,7 @@ impl Ranges {
         ensures parts { OnOk result ((es : Entries) → AreParted es self.old
             → AreParted (es ++ (id, record { value = value }) ∷ []) self.new) }
         ensures err { OnErr result (self.new ≡ self.old) }
+        ensures partition { IsPartition self.new }
 
         // What becomes of the markers: two are taken where a range splits.
         ensures taken { OnOk result (markers.new.next

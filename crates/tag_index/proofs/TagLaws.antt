@@ -1,26 +1,17 @@
 -- What a look-up and a change in the map say of the tags of its fields.
-use Rattle.std.proofs.Common.{◌≡◌, ℕ, false, List, [], ◌∷◌, Option, Some, refl, sym, ap, subst, ◌∙◌, arith, nat_eq, inl, inr}
+use Rattle.std.proofs.Common.{◌≡◌, ℕ, false, List, [], Option, Some, sym, ap, subst, ◌∙◌, nat_eq, inl, inr}
 use Rattle.std.specs.BTreeMap.{is_at}
 use Rattle.std.specs.List.Sorted.{IsStrictlySortedBy}
 use Rattle.std.specs.Map.{lookup, set_value}
 use Rattle.std.specs.Option.{unwrap_or}
 use Rattle.std.specs.Ordering.{nat_cmp}
 use Rattle.std.proofs.lemmas.Bool.{cases_Bool, eqb-true}
-use Rattle.std.proofs.lemmas.Bool.Decides.{nat_tests}
 use Rattle.std.proofs.lemmas.Map.Steps.{set_value_same}
+use Rattle.ft_base.proofs.RowsLaws.{is_at-nat_eq, lookup-at}
 use Rattle.posting_block.specs.declared.hits.TagHit.{TagHit}
 use Rattle.inverted_list.specs.Listing.{Listing}
 use Rattle.term_dict.specs.Terms.{Lists, Sets}
 use Rattle.tag_index.specs.Tags.{FieldTags, SetsTag, TagsRise, tags_of}
-
--- the map's test of a field is that of the contracts
-is_at-nat_eq : (field other : ℕ) → is_at (nat_cmp field) other ≡ nat_eq field other
-is_at-nat_eq field other = grind (arith, nat_tests)
-
--- so it finds the same dictionary
-pub lookup-at : (field : ℕ) (rows : FieldTags) → lookup (is_at (nat_cmp field)) rows ≡ lookup (nat_eq field) rows
-lookup-at field [] = refl
-lookup-at field (row ∷ rows) = rw (is_at-nat_eq field row.0, lookup-at field rows)
 
 -- what the map lends for a field is the field's dictionary
 pub tags_found : (field : ℕ) (rows : FieldTags) (found : Option (Lists TagHit)) → found ≡ lookup (is_at (nat_cmp field)) rows

@@ -23,7 +23,7 @@ use Rattle.term_dict.specs.Starts.{start_of, words_from, first_with}
 use Rattle.term_dict.specs.Terms.{Lists, WordsRise, is_after, next_word, word_cmp}
 use Rattle.term_dict.proofs.TermLaws.{Row, key_cmp, word_at}
 
-lt_is : (o : Ordering) → is_lt o ≡ true → o ≡ Less
+pub lt_is : (o : Ordering) → is_lt o ≡ true → o ≡ Less
 lt_is Less h = refl
 lt_is Equal h = absurd (false≢true h)
 lt_is Greater h = absurd (false≢true h)

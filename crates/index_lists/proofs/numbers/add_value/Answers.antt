@@ -22,7 +22,7 @@ returns-clause-gains c =
     on_ok_weaker c.add.result (λ parts.
     subst (λ (value : Option ℤ). RowsGain (value_entry c.args.id value) c.args.slot.now (Some c.add.new.self)) (sym c.in-Some-value.is)
     (subst (λ (slot : Option Rows). RowsGain (value_entry c.args.id (Some c.in-Some-value.value)) slot (Some c.add.new.self)) (sym c.in-Some.is) (
-      c.count.ensures.partition,
+      c.add.ensures.partition,
       subst (λ (v : ℤ). (es : Entries) → AreParted es c.in-Some.rows → AreParted (es ++ (c.args.id, record { value = v }) ∷ []) c.add.new.self) same parts,
     )))
     c.add.ensures.parts
@@ -34,7 +34,7 @@ returns-clause-up_to c =
     let above : IsAbove c.args.id c.in-Some.rows = subst (λ (slot : Option Rows). IfSome slot (IsAbove c.args.id)) c.in-Some.is c.requires.above in
     either c.add.result c.add.ensures.ok c.add.ensures.err
     (λ is. subst (RowsUpTo c.args.id) (sym (is ∙ ap (λ (v : ℤ). added c.in-Some.rows c.args.id v c.args.markers.now) same)) (added-up_to c.in-Some.rows c.args.id c.in-Some-value.value c.args.markers.now c.count.ensures.partition.ids above))
-    (λ old. subst (RowsUpTo c.args.id) (sym old) (above-up_to c.args.id c.in-Some.rows above))
+    (λ old. subst (RowsUpTo c.args.id) (sym old) (above-up_to c.args.id c.in-Some.rows c.count.ensures.partition.ids above))
 
 pub returns-clause-takes : goal.returns-clause-takes
 returns-clause-takes c =

@@ -1,9 +1,5 @@
-use Rattle.std.proofs.Common.{◌≡◌, ◌+◌, sym, subst, drop}
-use Rattle.std.proofs.Common.{IfSome, ℕ, Option}
-use Rattle.numeric_ranges.specs.Ranges.{IsPartition, Rows}
-use Rattle.index_lists.specs.Lists.{inner}
+use Rattle.std.proofs.Common.{◌≡◌, ◌+◌, ℕ, sym, subst, drop}
 use Rattle.index_lists.specs.Records.{entries_in_ranges}
-use Rattle.index_lists.proofs.FieldLaws.{fields-next}
 use Rattle.index_lists.proofs.RecordsLaws.{counted-next}
 use Rattle.index_lists.proofs.numbers.entries_in_ranges.Goals as goal
 
@@ -11,9 +7,5 @@ pub loop-slot-preserved : goal.loop-slot-preserved
 loop-slot-preserved c =
     let ranges = c.args.ranges.now in
     let k = c.loop-slot.slot-index in
-    record {
-      counted = subst (λ (total : ℕ). total + entries_in_ranges (drop (k + 1) ranges) ≡ entries_in_ranges ranges) (sym c.in_ok-total.ensures.1)
-          (counted-next ranges k c.slot-item.result c.loop-slot.total c.in_ok-entries_in_slot.field-0 c.loop-slot-test.true (sym c.slot-item.is) c.in_ok-entries_in_slot.ensures.some c.loop-slot.invariant.counted);
-      partitions = fields-next (λ (number : ℕ) (slot : Option (Option Rows)). IfSome (inner slot) IsPartition) ranges k c.slot-item.result c.loop-slot-test.true (sym c.slot-item.is)
-          c.entries_in_slot.ensures.partition (λ other away. c.loop-slot.invariant.partitions other);
-    }
+    subst (λ (total : ℕ). total + entries_in_ranges (drop (k + 1) ranges) ≡ entries_in_ranges ranges) (sym c.in_ok-total.ensures.1)
+    (counted-next ranges k c.slot-item.result c.loop-slot.total c.in_ok-entries_in_slot.field-0 c.loop-slot-test.true (sym c.slot-item.is) c.in_ok-entries_in_slot.ensures.some c.loop-slot.invariant)

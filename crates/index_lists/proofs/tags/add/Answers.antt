@@ -1,6 +1,5 @@
-use Rattle.std.proofs.Common.{ℕ, List, ◌&&◌, nat_eq, sym, subst}
+use Rattle.std.proofs.Common.{sym, subst}
 use Rattle.std.proofs.lemmas.Result.{on_ok_weaker}
-use Rattle.std.specs.Str.{bytes_eq}
 use Rattle.tag_index.specs.Tags.{FieldTags}
 use Rattle.index_lists.specs.Markers.{tag_marker}
 use Rattle.index_lists.specs.Taking.{TakesMarkers}
@@ -17,7 +16,7 @@ returns-clause-ok c =
 pub returns-clause-up_to : goal.returns-clause-up_to
 returns-clause-up_to c =
     either c.add.result c.add.ensures.ok c.add.ensures.err
-    (λ added. tags-up_to c.args.id c.args.lists.now c.add.new.self (λ (other : ℕ) (name : List ℕ). nat_eq other c.args.field && bytes_eq name c.args.tag.now) c.requires.up_to
+    (λ added. tags-up_to c.args.id c.args.lists.now c.add.new.self c.args.field c.args.tag.now c.requires.up_to c.requires.later
     (entries-tagged c.args.lists.now c.add.new.self c.args.field c.args.tag.now c.args.markers.now c.args.id _ added))
     (λ same. subst (TagsUpTo c.args.id) (sym same) c.requires.up_to)
 

@@ -7,6 +7,6 @@ use Rattle.index_lists.proofs.tags.add_tags.Goals as goal
 
 pub returns-clause-seen : goal.returns-clause-seen
 returns-clause-seen c =
-    on_ok_weaker c.add_all.result (λ added. tags-seen c.args.def.now c.args.doc.now c.args.lists.now c.add_all.new.lists c.add_all.ensures.rise c.requires.later
+    on_ok_weaker c.add_all.result (λ added. tags-seen c.args.def.now c.args.doc.now c.args.lists.now c.add_all.new.lists c.requires.up_to c.requires.later
     (subst (λ (fields : List Field). TagsGain fields c.args.doc.now c.args.lists.now c.add_all.new.lists) c.as_slice.ensures added))
     c.add_all.ensures.ok

@@ -12,7 +12,7 @@ use Rattle.index_lists.proofs.words.add.Goals as goal
 pub returns-clause-up_to : goal.returns-clause-up_to
 returns-clause-up_to c =
     either c.add.result c.add.ensures.ok c.add.ensures.err
-    (λ added. words-up_to c.args.terms.now c.add.new.self c.args.word.now c.args.markers.now c.args.id _ c.requires.up_to added)
+    (λ added. words-up_to c.args.terms.now c.add.new.self c.args.word.now c.args.markers.now c.args.id _ c.requires.up_to c.requires.later added)
     (λ same. subst (WordsUpTo c.args.id) (sym same) c.requires.up_to)
 
 pub returns-clause-takes : goal.returns-clause-takes

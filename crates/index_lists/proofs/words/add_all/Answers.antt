@@ -1,11 +1,10 @@
-use Rattle.std.proofs.Common.{◌≡◌, ◌∷◌, ◌++◌, [], if◌then◌else◌, List, ℕ, sym, subst, arith, rules}
+use Rattle.std.proofs.Common.{◌≡◌, ◌∷◌, ◌++◌, [], if◌then◌else◌, List, ℕ, sym, subst, rules}
 use Rattle.std.specs.List.{IsDistinct}
 use Rattle.std.specs.Map.{keys_of}
 use Rattle.index_lists.specs.Collected.{AreAddedBut, AreMet, Collected, GrowBy}
 use Rattle.index_lists.specs.Markers.{word_marker}
 use Rattle.std.specs.Str.{bytes_eq}
 use Rattle.term_dict.specs.Terms.{entries_of}
-use Rattle.index_lists.specs.UpTo.{WordsUpTo}
 use Rattle.index_lists.proofs.AddingLaws.{grown, added-next, rest-distinct, front-later}
 use Rattle.index_lists.proofs.CollectedLaws.{same_key}
 use Rattle.index_lists.proofs.TakingLaws.{before-taken, takes-again, takes-none}
@@ -55,6 +54,5 @@ returns-in_err-add-clause-takes c =
 
 pub loop-word-init : goal.loop-word-init
 loop-word-init c =
-    let up_to : WordsUpTo c.args.id c.args.terms.now = λ word. omega (arith, c.requires.later word) in
     let takes = takes-none c.args.markers.now (word_marker c.args.terms.now) in
-    search (rules, up_to, takes)
+    search (rules, takes)

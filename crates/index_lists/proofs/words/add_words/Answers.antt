@@ -10,6 +10,6 @@ returns-clause-unseen c = words-unseen c.args.def.now c.args.doc.now.id c.args.t
 
 pub returns-clause-seen : goal.returns-clause-seen
 returns-clause-seen c =
-    on_ok_weaker c.add_all.result (λ added. words-seen c.args.def.now c.args.doc.now c.args.terms.now c.add_all.new.terms c.add_all.ensures.rise c.requires.later
+    on_ok_weaker c.add_all.result (λ added. words-seen c.args.def.now c.args.doc.now c.args.terms.now c.add_all.new.terms c.requires.up_to c.requires.later
     (λ word. added word ∙ ap (λ (codes : List ℕ). entries_of c.args.terms.now word ++ entry c.args.doc.now.id codes) (c.in_ok-found.ensures.codes word)))
     c.add_all.ensures.ok

@@ -1,4 +1,7 @@
-use Rattle.std.proofs.Common.{◌≡◌, ◌++◌, ◌∷◌, [], ◌+◌, ◌-◌, ℕ, List, suc, set, true, false, refl, IfSome, IfNone, Option, ap, sym, subst, ◌∙◌, arith, rules}
+-- The row in which the value lies takes the entry, or is split in two with it.
+use Rattle.std.proofs.Common.{◌≡◌, ◌++◌, ◌∷◌, [], ◌+◌, ◌-◌, ℕ, List, suc, set, length, true, false, refl, IfSome, IfNone, Option, ap, subst, sym, ◌∙◌, arith, rules}
+use Rattle.std.proofs.lemmas.List.{length-set}
+use Rattle.std.proofs.lemmas.List.Edits.{length-insert}
 use Rattle.std.specs.List.{insert}
 use mir.Syntax.{w64}
 use mir.Val.{SFits}
@@ -12,169 +15,86 @@ use Rattle.numeric_ranges.proofs.ranges.add_entry.Goals as goal
 pub grown-requires-clause-below : goal.grown-requires-clause-below
 grown-requires-clause-below c =
     let items = c.args.rows.now.items in
-    let id = c.args.id in
-    let hit = c.args.hit.now in
-    let at = c.reach-at.result - 1 in
-    let f : SFits w64 c.args.hit.now.value = search rules in
-    let where_at = reached_at items c.as_slice.result.now c.args.hit.now.value c.reach-at.result c.as_slice.ensures.value c.reach-at.ensures.reach c.reach-at.ensures.within f c.requires.held in
-    let less = where_at.1 in
-    above_at items at c.index.result.now id c.requires.above less c.index.ensures
+    let fits : SFits w64 c.args.hit.now.value = search rules in
+    let place = reached_at items c.as_slice.result.now c.args.hit.now.value c.reach-at.result c.as_slice.ensures.value c.reach-at.ensures.reach c.reach-at.ensures.within fits c.requires.held in
+    above_at items (c.reach-at.result - 1) c.index.result.now c.args.id c.requires.above place.1 c.index.ensures
 
 pub append-requires : goal.append-requires
 append-requires c =
     let items = c.args.rows.now.items in
-    let id = c.args.id in
-    let hit = c.args.hit.now in
-    let at = c.reach-at.result - 1 in
-    let f : SFits w64 c.args.hit.now.value = search rules in
-    let where_at = reached_at items c.as_slice.result.now c.args.hit.now.value c.reach-at.result c.as_slice.ensures.value c.reach-at.ensures.reach c.reach-at.ensures.within f c.requires.held in
-    let less = where_at.1 in
-    above_at items at c.index_mut-row.result.now id c.requires.above less c.index_mut-row.ensures.value
+    let fits : SFits w64 c.args.hit.now.value = search rules in
+    let place = reached_at items c.as_slice.result.now c.args.hit.now.value c.reach-at.result c.as_slice.ensures.value c.reach-at.ensures.reach c.reach-at.ensures.within fits c.requires.held in
+    above_at items (c.reach-at.result - 1) c.index_mut-row.result.now c.args.id c.requires.above place.1 c.index_mut-row.ensures.value
 
 pub halves_of-requires-clause-below : goal.halves_of-requires-clause-below
 halves_of-requires-clause-below c =
     let items = c.args.rows.now.items in
-    let id = c.args.id in
-    let hit = c.args.hit.now in
-    let at = c.reach-at.result - 1 in
-    let f : SFits w64 c.args.hit.now.value = search rules in
-    let where_at = reached_at items c.as_slice.result.now c.args.hit.now.value c.reach-at.result c.as_slice.ensures.value c.reach-at.ensures.reach c.reach-at.ensures.within f c.requires.held in
-    let less = where_at.1 in
-    above_at items at c.index-in-None.result.now id c.requires.above less c.index-in-None.ensures
+    let fits : SFits w64 c.args.hit.now.value = search rules in
+    let place = reached_at items c.as_slice.result.now c.args.hit.now.value c.reach-at.result c.as_slice.ensures.value c.reach-at.ensures.reach c.reach-at.ensures.within fits c.requires.held in
+    above_at items (c.reach-at.result - 1) c.index-in-None.result.now c.args.id c.requires.above place.1 c.index-in-None.ensures
 
 pub halves_of-requires-clause-rises : goal.halves_of-requires-clause-rises
 halves_of-requires-clause-rises c =
     let items = c.args.rows.now.items in
-    let id = c.args.id in
-    let hit = c.args.hit.now in
-    let at = c.reach-at.result - 1 in
-    let f : SFits w64 c.args.hit.now.value = search rules in
-    let where_at = reached_at items c.as_slice.result.now c.args.hit.now.value c.reach-at.result c.as_slice.ensures.value c.reach-at.ensures.reach c.reach-at.ensures.within f c.requires.held in
-    let less = where_at.1 in
-    ids_at items at c.index-in-None.result.now c.requires.held less c.index-in-None.ensures
+    let fits : SFits w64 c.args.hit.now.value = search rules in
+    let place = reached_at items c.as_slice.result.now c.args.hit.now.value c.reach-at.result c.as_slice.ensures.value c.reach-at.ensures.reach c.reach-at.ensures.within fits c.requires.held in
+    ids_at items (c.reach-at.result - 1) c.index-in-None.result.now c.requires.held place.1 c.index-in-None.ensures
 
-pub returns-in_ok-append-in-Some-clause-ok : goal.returns-in_ok-append-in-Some-clause-ok
-returns-in_ok-append-in-Some-clause-ok c =
+pub returns-in_ok-append-in-Some : goal.returns-in_ok-append-in-Some
+returns-in_ok-append-in-Some c =
     let items = c.args.rows.now.items in
     let id = c.args.id in
     let hit = c.args.hit.now in
     let at = c.reach-at.result - 1 in
-    let f : SFits w64 c.args.hit.now.value = search rules in
-    let where_at = reached_at items c.as_slice.result.now c.args.hit.now.value c.reach-at.result c.as_slice.ensures.value c.reach-at.ensures.reach c.reach-at.ensures.within f c.requires.held in
-    let less = where_at.1 in
+    let fits : SFits w64 c.args.hit.now.value = search rules in
+    let place = reached_at items c.as_slice.result.now c.args.hit.now.value c.reach-at.result c.as_slice.ensures.value c.reach-at.ensures.reach c.reach-at.ensures.within fits c.requires.held in
     let row = c.index_mut-row.result.now in
-    let same = row_same items at c.index.result.now row less c.index.ensures c.index_mut-row.ensures.value in
+    let same = row_same items at c.index.result.now row place.1 c.index.ensures c.index_mut-row.ensures.value in
     let whole = subst (λ (o : Option Spread). IfSome o (λ _. splits (c.index.result.now.list.entries ++ (id, hit) ∷ []) ≡ false)) c.in-Some.is c.in_ok-spread.ensures.whole in
     let knows = subst (λ (o : Option Spread). IfSome o (λ s. Knows s (c.index.result.now.list.entries ++ (id, hit) ∷ []))) c.in-Some.is c.in_ok-spread.ensures.some in
     let new : Row = record { low = row.low; list = c.append.new.self; spread = c.in-Some.spread } in
-    let well = add_plain items at id hit c.args.markers.now row new c.requires.held where_at.0 less c.index_mut-row.ensures.value
+    let well = add_plain items at id hit c.args.markers.now row new c.requires.held place.0 place.1 c.index_mut-row.ensures.value
     (subst (λ (r : Row). splits (r.list.entries ++ (id, hit) ∷ []) ≡ false) same whole)
-    (above_at items at row id c.requires.above less c.index_mut-row.ensures.value) refl c.in_ok-append-in-Some.ensures.ok
+    (above_at items at row id c.requires.above place.1 c.index_mut-row.ensures.value) refl c.in_ok-append-in-Some.ensures.ok
     (subst (λ (r : Row). Knows c.in-Some.spread (r.list.entries ++ (id, hit) ∷ [])) same knows) in
-    well.ok
+    record {
+      ok = well.ok;
+      err = search rules;
+      held = well.held;
+      parts = well.parts;
+      taken = search rules;
+      event = search rules;
+      rises = search rules;
+      twice = search rules;
+    }
 
-pub returns-in_ok-append-in-Some-clause-held : goal.returns-in_ok-append-in-Some-clause-held
-returns-in_ok-append-in-Some-clause-held c =
+pub returns-in_ok-put_halves-in-None : goal.returns-in_ok-put_halves-in-None
+returns-in_ok-put_halves-in-None c =
     let items = c.args.rows.now.items in
     let id = c.args.id in
     let hit = c.args.hit.now in
     let at = c.reach-at.result - 1 in
-    let f : SFits w64 c.args.hit.now.value = search rules in
-    let where_at = reached_at items c.as_slice.result.now c.args.hit.now.value c.reach-at.result c.as_slice.ensures.value c.reach-at.ensures.reach c.reach-at.ensures.within f c.requires.held in
-    let less = where_at.1 in
-    let row = c.index_mut-row.result.now in
-    let same = row_same items at c.index.result.now row less c.index.ensures c.index_mut-row.ensures.value in
-    let whole = subst (λ (o : Option Spread). IfSome o (λ _. splits (c.index.result.now.list.entries ++ (id, hit) ∷ []) ≡ false)) c.in-Some.is c.in_ok-spread.ensures.whole in
-    let knows = subst (λ (o : Option Spread). IfSome o (λ s. Knows s (c.index.result.now.list.entries ++ (id, hit) ∷ []))) c.in-Some.is c.in_ok-spread.ensures.some in
-    let new : Row = record { low = row.low; list = c.append.new.self; spread = c.in-Some.spread } in
-    let well = add_plain items at id hit c.args.markers.now row new c.requires.held where_at.0 less c.index_mut-row.ensures.value
-    (subst (λ (r : Row). splits (r.list.entries ++ (id, hit) ∷ []) ≡ false) same whole)
-    (above_at items at row id c.requires.above less c.index_mut-row.ensures.value) refl c.in_ok-append-in-Some.ensures.ok
-    (subst (λ (r : Row). Knows c.in-Some.spread (r.list.entries ++ (id, hit) ∷ [])) same knows) in
-    well.held
-
-pub returns-in_ok-append-in-Some-clause-parts : goal.returns-in_ok-append-in-Some-clause-parts
-returns-in_ok-append-in-Some-clause-parts c =
-    let items = c.args.rows.now.items in
-    let id = c.args.id in
-    let hit = c.args.hit.now in
-    let at = c.reach-at.result - 1 in
-    let f : SFits w64 c.args.hit.now.value = search rules in
-    let where_at = reached_at items c.as_slice.result.now c.args.hit.now.value c.reach-at.result c.as_slice.ensures.value c.reach-at.ensures.reach c.reach-at.ensures.within f c.requires.held in
-    let less = where_at.1 in
-    let row = c.index_mut-row.result.now in
-    let same = row_same items at c.index.result.now row less c.index.ensures c.index_mut-row.ensures.value in
-    let whole = subst (λ (o : Option Spread). IfSome o (λ _. splits (c.index.result.now.list.entries ++ (id, hit) ∷ []) ≡ false)) c.in-Some.is c.in_ok-spread.ensures.whole in
-    let knows = subst (λ (o : Option Spread). IfSome o (λ s. Knows s (c.index.result.now.list.entries ++ (id, hit) ∷ []))) c.in-Some.is c.in_ok-spread.ensures.some in
-    let new : Row = record { low = row.low; list = c.append.new.self; spread = c.in-Some.spread } in
-    let well = add_plain items at id hit c.args.markers.now row new c.requires.held where_at.0 less c.index_mut-row.ensures.value
-    (subst (λ (r : Row). splits (r.list.entries ++ (id, hit) ∷ []) ≡ false) same whole)
-    (above_at items at row id c.requires.above less c.index_mut-row.ensures.value) refl c.in_ok-append-in-Some.ensures.ok
-    (subst (λ (r : Row). Knows c.in-Some.spread (r.list.entries ++ (id, hit) ∷ [])) same knows) in
-    well.parts
-
-pub returns-in_ok-put_halves-in-None-clause-ok : goal.returns-in_ok-put_halves-in-None-clause-ok
-returns-in_ok-put_halves-in-None-clause-ok c =
-    let items = c.args.rows.now.items in
-    let id = c.args.id in
-    let hit = c.args.hit.now in
-    let at = c.reach-at.result - 1 in
-    let f : SFits w64 c.args.hit.now.value = search rules in
-    let where_at = reached_at items c.as_slice.result.now c.args.hit.now.value c.reach-at.result c.as_slice.ensures.value c.reach-at.ensures.reach c.reach-at.ensures.within f c.requires.held in
-    let less = where_at.1 in
+    let fits : SFits w64 c.args.hit.now.value = search rules in
+    let place = reached_at items c.as_slice.result.now c.args.hit.now.value c.reach-at.result c.as_slice.ensures.value c.reach-at.ensures.reach c.reach-at.ensures.within fits c.requires.held in
     let row = c.index-in-None.result.now in
-    let same = row_same items at c.index.result.now row less c.index.ensures c.index-in-None.ensures in
+    let same = row_same items at c.index.result.now row place.1 c.index.ensures c.index-in-None.ensures in
     let parted = subst (λ (o : Option Spread). IfNone o (splits (c.index.result.now.list.entries ++ (id, hit) ∷ []) ≡ true)) c.in-None.is c.in_ok-spread.ensures.splits in
     let left = c.in_ok-halves-in-None.halves.0 in
     let right = c.in_ok-halves-in-None.halves.1 in
-    let split = add_split items at id hit c.args.markers.now row left right c.requires.held where_at.0 less c.index-in-None.ensures
+    let split = add_split items at id hit c.args.markers.now row left right c.requires.held place.0 place.1 c.index-in-None.ensures
     (subst (λ (r : Row). splits (r.list.entries ++ (id, hit) ∷ []) ≡ true) same parted)
-    (above_at items at row id c.requires.above less c.index-in-None.ensures) c.in_ok-halves-in-None.ensures.ok in
+    (above_at items at row id c.requires.above place.1 c.index-in-None.ensures) c.in_ok-halves-in-None.ensures.ok in
     let one : at + 1 ≡ suc at = omega arith in
     let new : c.put_halves.new.rows.items ≡ set (insert items (suc at) right) at left = c.in_ok-put_halves-in-None.ensures.ok ∙ ap (λ (n : ℕ). set (insert items n right) at left) one in
     let well = subst (λ (xs : List Row). AddsWell items xs id hit c.args.markers.now) (sym new) split in
-    well.ok
-
-pub returns-in_ok-put_halves-in-None-clause-held : goal.returns-in_ok-put_halves-in-None-clause-held
-returns-in_ok-put_halves-in-None-clause-held c =
-    let items = c.args.rows.now.items in
-    let id = c.args.id in
-    let hit = c.args.hit.now in
-    let at = c.reach-at.result - 1 in
-    let f : SFits w64 c.args.hit.now.value = search rules in
-    let where_at = reached_at items c.as_slice.result.now c.args.hit.now.value c.reach-at.result c.as_slice.ensures.value c.reach-at.ensures.reach c.reach-at.ensures.within f c.requires.held in
-    let less = where_at.1 in
-    let row = c.index-in-None.result.now in
-    let same = row_same items at c.index.result.now row less c.index.ensures c.index-in-None.ensures in
-    let parted = subst (λ (o : Option Spread). IfNone o (splits (c.index.result.now.list.entries ++ (id, hit) ∷ []) ≡ true)) c.in-None.is c.in_ok-spread.ensures.splits in
-    let left = c.in_ok-halves-in-None.halves.0 in
-    let right = c.in_ok-halves-in-None.halves.1 in
-    let split = add_split items at id hit c.args.markers.now row left right c.requires.held where_at.0 less c.index-in-None.ensures
-    (subst (λ (r : Row). splits (r.list.entries ++ (id, hit) ∷ []) ≡ true) same parted)
-    (above_at items at row id c.requires.above less c.index-in-None.ensures) c.in_ok-halves-in-None.ensures.ok in
-    let one : at + 1 ≡ suc at = omega arith in
-    let new : c.put_halves.new.rows.items ≡ set (insert items (suc at) right) at left = c.in_ok-put_halves-in-None.ensures.ok ∙ ap (λ (n : ℕ). set (insert items n right) at left) one in
-    let well = subst (λ (xs : List Row). AddsWell items xs id hit c.args.markers.now) (sym new) split in
-    well.held
-
-pub returns-in_ok-put_halves-in-None-clause-parts : goal.returns-in_ok-put_halves-in-None-clause-parts
-returns-in_ok-put_halves-in-None-clause-parts c =
-    let items = c.args.rows.now.items in
-    let id = c.args.id in
-    let hit = c.args.hit.now in
-    let at = c.reach-at.result - 1 in
-    let f : SFits w64 c.args.hit.now.value = search rules in
-    let where_at = reached_at items c.as_slice.result.now c.args.hit.now.value c.reach-at.result c.as_slice.ensures.value c.reach-at.ensures.reach c.reach-at.ensures.within f c.requires.held in
-    let less = where_at.1 in
-    let row = c.index-in-None.result.now in
-    let same = row_same items at c.index.result.now row less c.index.ensures c.index-in-None.ensures in
-    let parted = subst (λ (o : Option Spread). IfNone o (splits (c.index.result.now.list.entries ++ (id, hit) ∷ []) ≡ true)) c.in-None.is c.in_ok-spread.ensures.splits in
-    let left = c.in_ok-halves-in-None.halves.0 in
-    let right = c.in_ok-halves-in-None.halves.1 in
-    let split = add_split items at id hit c.args.markers.now row left right c.requires.held where_at.0 less c.index-in-None.ensures
-    (subst (λ (r : Row). splits (r.list.entries ++ (id, hit) ∷ []) ≡ true) same parted)
-    (above_at items at row id c.requires.above less c.index-in-None.ensures) c.in_ok-halves-in-None.ensures.ok in
-    let one : at + 1 ≡ suc at = omega arith in
-    let new : c.put_halves.new.rows.items ≡ set (insert items (suc at) right) at left = c.in_ok-put_halves-in-None.ensures.ok ∙ ap (λ (n : ℕ). set (insert items n right) at left) one in
-    let well = subst (λ (xs : List Row). AddsWell items xs id hit c.args.markers.now) (sym new) split in
-    well.parts
+    let longer = ap length new ∙ (length-set (insert items (suc at) right) at left ∙ length-insert items (suc at) right (omega (arith, place.1))) in
+    record {
+      ok = well.ok;
+      err = search rules;
+      held = well.held;
+      parts = well.parts;
+      taken = omega (arith, longer, c.in_ok-halves-in-None.ensures.taken);
+      event = search rules;
+      rises = search rules;
+      twice = search rules;
+    }

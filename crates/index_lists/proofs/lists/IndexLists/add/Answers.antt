@@ -20,7 +20,13 @@ pub add_words-requires-clause-later : goal.add_words-requires-clause-later
 add_words-requires-clause-later c =
     let old : AllLists = the_view c.self.inside in
     let later : AreUpTo c.requires.later.0 old = subst (AreUpTo c.requires.later.0) (sym c.self.view_is) c.requires.later.2 in
-    (λ word. omega (arith, later.words word, c.requires.later.1))
+    (λ word. omega (arith, (later.words word).end, c.requires.later.1))
+
+pub add_words-requires-clause-up_to : goal.add_words-requires-clause-up_to
+add_words-requires-clause-up_to c =
+    let old : AllLists = the_view c.self.inside in
+    let up_to : AreUpTo c.args.doc.now.id old = up_to-higher c.requires.later.0 c.args.doc.now.id old (omega (arith, c.requires.later.1)) (subst (AreUpTo c.requires.later.0) (sym c.self.view_is) c.requires.later.2) in
+    up_to.words
 
 pub add_words-requires-clause-before : goal.add_words-requires-clause-before
 add_words-requires-clause-before c =
@@ -54,7 +60,13 @@ pub add_tags-requires-clause-later : goal.add_tags-requires-clause-later
 add_tags-requires-clause-later c =
     let old : AllLists = the_view c.self.inside in
     let later : AreUpTo c.requires.later.0 old = subst (AreUpTo c.requires.later.0) (sym c.self.view_is) c.requires.later.2 in
-    (λ field tag. omega (arith, later.tags field tag, c.requires.later.1))
+    (λ field tag. omega (arith, (later.tags field tag).end, c.requires.later.1))
+
+pub add_tags-requires-clause-up_to : goal.add_tags-requires-clause-up_to
+add_tags-requires-clause-up_to c =
+    let old : AllLists = the_view c.self.inside in
+    let up_to : AreUpTo c.args.doc.now.id old = up_to-higher c.requires.later.0 c.args.doc.now.id old (omega (arith, c.requires.later.1)) (subst (AreUpTo c.requires.later.0) (sym c.self.view_is) c.requires.later.2) in
+    up_to.tags
 
 pub add_tags-requires-clause-before : goal.add_tags-requires-clause-before
 add_tags-requires-clause-before c =
@@ -93,6 +105,12 @@ add_numbers-requires-clause-later c =
     let later : AreUpTo c.requires.later.0 old = subst (AreUpTo c.requires.later.0) (sym c.self.view_is) c.requires.later.2 in
     subst (λ (ranges : List (Option Rows)). (number : ℕ) → IfSome (rows_of ranges number) (IsAbove c.args.doc.now.id)) (sym c.as_mut_slice.ensures.value)
     (λ number. ranges-below c.requires.later.0 c.args.doc.now.id (rows_of old.ranges number) c.requires.later.1 (later.ranges number))
+
+pub add_numbers-requires-clause-up_to : goal.add_numbers-requires-clause-up_to
+add_numbers-requires-clause-up_to c =
+    let old : AllLists = the_view c.self.inside in
+    let up_to : AreUpTo c.args.doc.now.id old = up_to-higher c.requires.later.0 c.args.doc.now.id old (omega (arith, c.requires.later.1)) (subst (AreUpTo c.requires.later.0) (sym c.self.view_is) c.requires.later.2) in
+    subst (RangesUpTo c.args.doc.now.id) (sym c.as_mut_slice.ensures.value) up_to.ranges
 
 pub add_numbers-requires-clause-before : goal.add_numbers-requires-clause-before
 add_numbers-requires-clause-before c =

@@ -1,7 +1,6 @@
-use Rattle.std.proofs.Common.{ℕ, List, Option, IfSome, sym, subst, ap, arith}
-use Rattle.numeric_ranges.specs.Ranges.{IsPartition, Rows}
+use Rattle.std.proofs.Common.{sym, subst, ap, arith}
 use Rattle.index_lists.specs.Has.{Has}
-use Rattle.index_lists.specs.Lists.{AllLists, rows_of}
+use Rattle.index_lists.specs.Lists.{AllLists}
 use Rattle.index_lists.specs.Records.{entries_in_ranges}
 use Rattle.index_lists.proofs.RecordsLaws.{records-least}
 use Rattle.index_lists.proofs.lists.IndexLists.records.Goals as goal
@@ -9,10 +8,9 @@ use Rattle.index_lists.proofs.lists.IndexLists.records.Goals as goal
 pub returns-then-all-lt-WIRE_END-clause-least : goal.returns-then-all-lt-WIRE_END-clause-least
 returns-then-all-lt-WIRE_END-clause-least c def live docs has =
     let lists : AllLists = record { words = c.self.inside.terms; tags = c.self.inside.tags; ranges = c.self.inside.ranges.items } in
-    let partitions = subst (λ (ranges : List (Option Rows)). (number : ℕ) → IfSome (rows_of ranges number) IsPartition) c.as_slice.ensures.value c.in_ok-numbers.ensures.partitions in
     omega (
       arith,
-      records-least def live docs lists partitions (subst (λ (l : AllLists). Has def live l docs) (sym c.self.view_is) has),
+      records-least def live docs lists (subst (λ (l : AllLists). Has def live l docs) (sym c.self.view_is) has),
       c.in_ok-words.ensures.some,
       c.in_ok-tags.ensures.some,
       c.in_ok-numbers.ensures.some,
