@@ -15,7 +15,7 @@ use Rattle.ft_base.specs.declared.query.Query.{Query}
 use Rattle.ft_base.specs.declared.reply.Reply.{Reply}
 use Rattle.ft_base.specs.declared.reply.Reply.TheVariants.{Fault, Line, Number}
 use Rattle.std.specs.Str.{bytes_eq}
-use Rattle.cmd_parse.specs.Read.{Asked, Plain, CreateIndex, AlterIndex, Search, read, takes_memory}
+use Rattle.cmd_parse.specs.Read.{Asked, Plain, CreateIndex, AlterIndex, Search, read}
 use Rattle.cmd_parse.specs.Search.{Searching}
 use Rattle.cmd_parse.specs.declared.command.CmdFault.{CmdFault}
 use Rattle.cmd_parse.specs.declared.command.Verb.{Verb}
@@ -31,12 +31,12 @@ use Rattle.ft_schema.specs.declared.fault.SchemaFault.{SchemaFault}
 use Rattle.ft_machine.specs.Arguments.{first, second, third}
 use Rattle.ft_machine.specs.Definitions.{Defined, index_of}
 use Rattle.ft_machine.specs.Determined.{DifferInRecords}
-use Rattle.ft_machine.specs.Indexes.{altered, altered_to, created, defines, dropped, index_over, most_indexes, unknown_index}
+use Rattle.ft_machine.specs.Indexes.{altered, altered_to, defines, dropped, index_over, most_indexes, unknown_index}
 use Rattle.ft_machine.specs.Informing.{informed}
 use Rattle.ft_machine.specs.Machine.{Outcome, State, answered, at_moment, hash_of, just, wanting}
 use Rattle.ft_machine.specs.PlainCommands.{plain}
 use Rattle.ft_machine.specs.Searching.{IsAnswered, answer_reply, searched}
-use Rattle.ft_machine.specs.Step.{Answers, Gives, given, last_number, outcomes, read_gives, words_give}
+use Rattle.ft_machine.specs.Step.{Answers, given, last_number, outcomes, read_gives, words_give}
 use Rattle.ft_machine.specs.Writes.{hincrby, hset_unless, number_in, rename}
 
 -- the byte that a reply begins with

@@ -1,15 +1,15 @@
 -- Steps by what was read, and those that change nothing.
-use Rattle.std.specs.Prelude.{◌≡◌, ◌<◌, ◌⊎◌, ℕ, List, [], Result, Ok, Err, IfOk, IsTrue, slice_index_or, refl}
-use Rattle.std.proofs.Common.{sym, ap, ◌∙◌, subst, inl, inr}
+use Rattle.std.specs.Prelude.{◌≡◌, ◌<◌, ℕ, List, [], Result, Ok, Err, IfOk, slice_index_or, refl}
+use Rattle.std.proofs.Common.{sym, subst, inl, inr}
 use Rattle.ft_base.specs.Memory.{out_of_memory}
 use Rattle.ft_base.specs.Reply.{spelling}
 use Rattle.ft_base.specs.declared.reply.Reply.{Reply}
 use Rattle.ft_base.specs.declared.reply.Reply.TheVariants.{Fault}
-use Rattle.cmd_parse.specs.Read.{Asked, IsReading, read, takes_memory}
+use Rattle.cmd_parse.specs.Read.{Asked, IsReading, read}
 use Rattle.cmd_parse.specs.Refusals.{refusal}
 use Rattle.cmd_parse.specs.declared.command.CmdFault.{CmdFault}
 use Rattle.cmd_parse.specs.declared.command.CmdFault.TheVariants.{Unknown, Arity, Syntax, NotInteger, BadDb, NotBuilt, Schema, NoMemory}
-use Rattle.ft_machine.specs.Machine.{Outcome, State, answered, at_moment, just, wanting}
+use Rattle.ft_machine.specs.Machine.{Outcome, State, answered, at_moment, wanting}
 use Rattle.ft_machine.specs.Step.{Answers, At, Does, Gives, MayWant, Told, given, last_number, outcomes, read_gives, words_give}
 
 -- what may be is given
@@ -45,8 +45,11 @@ pub obeyed : (words : List (List ℕ)) (number moment : ℕ) (asks : Asked) (old
     → Answers words number moment old written new
 obeyed words number moment asks old new written is (inl step) =
     let state = at_moment moment old in
-    inl (step.0, widened (outcomes asks number state) (words_give words number state) written new
-    (λ outcome may. inl (subst (λ (r : Result Asked CmdFault). read_gives (slice_index_or words 0 []) r number state outcome) (sym is) may)) step.1)
+    inl (
+      step.0,
+      widened (outcomes asks number state) (words_give words number state) written new
+          (λ outcome may. inl (subst (λ (r : Result Asked CmdFault). read_gives (slice_index_or words 0 []) r number state outcome) (sym is) may)) step.1,
+    )
 obeyed words number moment asks old new written is (inr last) = inr last
 
 -- or refused

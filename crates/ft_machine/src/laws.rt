@@ -16,5 +16,4 @@ pub fn one_reply()
 /// A command that is answered so leads to one state: a history has one state behind it.
 pub fn one_state()
     ensures { HasOneState }
-{
-}
+{}

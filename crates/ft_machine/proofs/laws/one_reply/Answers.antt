@@ -1,4 +1,4 @@
-use Rattle.ft_machine.proofs.DeterminedLaws.{Laws, has-one-reply, info-records}
+use Rattle.ft_machine.proofs.DeterminedLaws.{has-one-reply, info-records}
 use Rattle.ft_machine.proofs.laws.one_reply.Goals as goal
 
 pub returns-clause-reply : goal.returns-clause-reply
