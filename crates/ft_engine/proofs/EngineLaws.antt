@@ -1,30 +1,46 @@
 -- What an engine keeps, and what its callers are told.
-use Rattle.std.specs.Prelude.{◌≡◌, ◌<◌, ℕ, Bool, true, false, List, map, refl}
-use Rattle.std.proofs.Common.{sym, subst}
-use Rattle.std.specs.Str.{bytes_eq}
+use Rattle.std.specs.Prelude.{◌≡◌, ◌<◌, ◌≤◌, ◌+◌, ℕ, Bool, true, false, List, map, max, refl}
+use Rattle.std.proofs.Common.{arith, sym, subst}
 use Rattle.std.specs.List.{IsDistinct}
+use Rattle.std.specs.Str.{bytes_eq}
+use Rattle.cmd_parse.specs.Read.{Plain}
+use Rattle.cmd_parse.specs.declared.command.Verb.{Verb}
 use Rattle.ft_base.specs.declared.doc.Doc.{Doc}
-use Rattle.indexed_store.specs.Standing.{InStep}
-use Rattle.ft_engine.specs.Stands.{IsEngine, IsIndexed, unused}
-use Rattle.indexed_store.specs.States.{state_of}
-use Rattle.ft_machine.specs.Step.{last_number}
-use Rattle.ft_index.specs.Index.{Index}
-use Rattle.hash_store.specs.Store.{Store}
-use Rattle.indexed_store.proofs.StepLaws.{in_step-later}
-use Rattle.indexed_store.proofs.ChangingLaws.{next-below}
+use Rattle.ft_machine.specs.Step.{Does, last_number, next_number}
+use Rattle.indexed_store.proofs.PreparingLaws.{prepares-read}
+use Rattle.indexed_store.specs.Holding.{AllStand, Holding, state_at}
+use Rattle.indexed_store.specs.Preparing.{OnlyReads, Prepares}
+use Rattle.indexed_store.specs.declared.change.Change.TheVariants.{Nothing}
+use Rattle.ft_engine.specs.Stands.{IsIndexed, stands_of, unused}
 
--- what an engine keeps is what its callers are told
-pub indexed : (store : Store) (indexes : List Index) (latest next : ℕ) (pending : Bool) → IsDistinct bytes_eq (map (λ (doc : Doc). doc.key) store.space) → InStep store indexes (unused pending next)
-    → IsIndexed (record { state = state_of store indexes latest; next = next; indexes = indexes; waits = store.ready; pending = pending; reads = store.reads })
-indexed store indexes latest next pending differ step = record { definitions = refl; keys = differ; documents = step.documents; indexes = step.stand; apart = step.apart }
+-- what is held is what an engine's callers are told
+pub indexed : (held : Holding) (latest next : ℕ) (pending : Bool) → IsDistinct bytes_eq (map (λ (doc : Doc). doc.key) held.space) → ((number : ℕ) → held.next ≤ number → AllStand number held)
+    → held.next ≤ unused pending next → IsIndexed (stands_of held latest next pending)
+indexed held latest next pending differ stand earlier =
+    let all = stand (unused pending next) earlier in
+    record { definitions = refl; keys = differ; documents = all.documents; indexes = all.indexes; apart = all.apart }
 
--- an event begins
-pub begun : (store : Store) (indexes : List Index) (capacity counting : ℕ) (pending : Bool) (next : ℕ) → pending ≡ false → next < last_number → IsEngine store indexes capacity counting pending next
-    → IsEngine store indexes capacity counting true next
-begun store indexes capacity counting pending next free below engine = record {
-  number = engine.number;
-  step = subst (InStep store indexes) (sym (next-below next below)) (in_step-later store indexes next (subst (λ (p : Bool). InStep store indexes (unused p next)) free engine.step));
-  few = engine.few;
-  room = engine.room;
-  ids = engine.ids;
-}
+-- an event that begins is behind what is held
+pub begins : (first next : ℕ) (pending : Bool) → pending ≡ false → next ≤ last_number → first ≤ unused pending next → first ≤ next_number next
+begins first next true free number earlier = absurd (cc)
+begins first next false free number earlier = omega (arith, number, earlier)
+
+-- the moment 0 is never later
+pub no-later : (latest : ℕ) → max 0 latest ≡ latest
+no-later latest = omega arith
+
+-- a plain command that reads prepares no change
+pub read-by : (verb other : Verb) (args : List (List ℕ)) (old new : Holding) (written : List ℕ) → verb ≡ other → OnlyReads old new
+    → ((latest : ℕ) → Does (Plain other args) old.next (state_at latest old) written (state_at latest old)) → Prepares (Plain verb args) old new written Nothing
+read-by verb other args old new written is reads does =
+    subst (λ (v : Verb). Prepares (Plain v args) old new written Nothing) (sym is) (prepares-read (Plain other args) old new written reads does)
+
+-- where no event is prepared, what is held is before the next one
+pub before-event : (first next : ℕ) (pending : Bool) → pending ≡ false → first ≤ unused pending next → first ≤ next
+before-event first next true free earlier = absurd (cc)
+before-event first next false free earlier = earlier
+
+-- an event that ends is before the next one
+pub ends : (first next : ℕ) (pending : Bool) → pending ≡ true → first ≤ unused pending next → first ≤ next_number next
+ends first next true prepared earlier = earlier
+ends first next false prepared earlier = absurd (cc)

@@ -1,15 +1,13 @@
 -- What an engine stands for, and how its indexes stand for the documents.
-use Rattle.std.specs.Prelude.{◌≡◌, ◌≤◌, ℕ, List, [], Option, None, Bool, true, false, length, map}
+use Rattle.std.specs.Prelude.{◌≡◌, ◌≤◌, ℕ, List, [], Option, None, Bool, true, false, map}
 use Rattle.std.specs.List.{All, AllPairs, IsDistinct}
 use Rattle.std.specs.Str.{bytes_eq}
 use Rattle.ft_base.specs.declared.doc.Doc.{Doc}
 use Rattle.ft_index.specs.Index.{Index}
-use Rattle.hash_store.specs.Store.{Store}
 use Rattle.indexed_store.specs.DefinitionsOf.{definitions_of}
-use Rattle.indexed_store.specs.Standing.{AreApart, AreWritten, IndexStands, InStep, markers_at}
-use Rattle.ft_machine.specs.Indexes.{most_indexes}
+use Rattle.indexed_store.specs.Holding.{Holding, state_at}
+use Rattle.indexed_store.specs.Standing.{AreApart, AreWritten, IndexStands, markers_at}
 use Rattle.ft_machine.specs.Machine.{State, empty_state}
-use Rattle.ft_machine.specs.PlainCommands.{most_counted}
 use Rattle.ft_machine.specs.Step.{last_number, next_number}
 
 pub record Stands : Type 0 where
@@ -24,6 +22,17 @@ pub record Stands : Type 0 where
   pub pending : Bool
   -- how many documents were read
   pub reads : ℕ
+
+-- what the documents and indexes that are held stand for, at a moment and before an event of this number
+abbrev pub stands_of : Holding → ℕ → ℕ → Bool → Stands
+stands_of held latest next pending = record {
+  state = state_at latest held;
+  next = next;
+  indexes = held.indexes;
+  waits = held.waits;
+  pending = pending;
+  reads = held.reads;
+}
 
 -- an engine without documents and indexes, whose first event has this number
 abbrev pub opened : ℕ → Stands
@@ -43,10 +52,7 @@ pub record IsIndexed (engine : Stands) : Type 0 where
   pub indexes : All (IndexStands engine.state.space (unused engine.pending engine.next) (markers_at (unused engine.pending engine.next))) engine.indexes
   pub apart : AllPairs AreApart engine.indexes
 
--- What an engine keeps between calls, with room for this many indexes and this many ids.
-pub record IsEngine (store : Store) (indexes : List Index) (capacity counting : ℕ) (pending : Bool) (next : ℕ) : Type 0 where
+-- What an engine keeps between calls: what is held is of earlier events.
+pub record IsEngine (held : Holding) (pending : Bool) (next : ℕ) : Type 0 where
   pub number : next ≤ last_number
-  pub step : InStep store indexes (unused pending next)
-  pub few : length indexes ≤ most_indexes
-  pub room : most_indexes ≤ capacity
-  pub ids : most_counted ≤ counting
+  pub earlier : held.next ≤ unused pending next

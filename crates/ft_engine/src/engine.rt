@@ -1,27 +1,28 @@
 //! The engine: a state of the machine, and the events that lead from one to the next.
-ghost use Rattle.std.specs.Prelude.{◌≡◌, ◌≢◌, ◌<◌, ◌≤◌, ◌⊎◌, ◌^◌, Ok, Err, [], true, false, length, vec_capacity, IfOk, IsTrue};
+ghost use Rattle.std.specs.Prelude.{◌≡◌, ◌≢◌, ◌<◌, ◌≤◌, ◌⊎◌, ◌^◌, Ok, Err, [], true, false, length, slice_index_or, vec_capacity, IfOk, IsTrue};
+ghost use Rattle.ft_base.specs.Memory.{out_of_memory};
 ghost use Rattle.ft_base.specs.Reply.{spelling};
 ghost use Rattle.ft_base.specs.Words.{KeepsLimits};
+ghost use Rattle.ft_base.specs.declared.reply.Reply.TheVariants.{Fault};
+ghost use Rattle.cmd_parse.specs.Asking.{IsAsked};
 ghost use Rattle.cmd_parse.specs.Lawful.{HasSerial};
 ghost use Rattle.cmd_parse.specs.Read.{Asked, IsReading, command_of, read};
-ghost use Rattle.cmd_parse.specs.Asking.{IsAsked};
+ghost use Rattle.cmd_parse.specs.Refusals.{refusal};
 ghost use Rattle.ft_engine.specs.Preparing.{IsLast, abandoned, committed};
-ghost use Rattle.indexed_store.specs.Changing.{is_change};
 ghost use Rattle.ft_engine.specs.Quiet.{IsQuiet};
 ghost use Rattle.ft_engine.specs.Stands.{IsIndexed, opened};
+ghost use Rattle.ft_machine.specs.Machine.{at_moment};
+ghost use Rattle.ft_machine.specs.Step.{Answers, At, last_event, next_number, outcomes};
+ghost use Rattle.index_commands.specs.Exactness.{ReadsFew, TellsExactly};
+ghost use Rattle.indexed_store.specs.Changing.{is_change};
 ghost use Rattle.indexed_store.specs.declared.change.Change.TheVariants.{Nothing};
-ghost use Rattle.index_commands.specs.Exactness.{IsRefusal, ReadsFew, TellsExactly};
-ghost use Rattle.ft_base.specs.Memory.{out_of_memory};
-ghost use Rattle.ft_machine.specs.Step.{Answers, At, Does, next_number};
 
 use crate::prepared::Prepared;
 use crate::step::prepare_command;
 use cmd_parse::{CmdFault, Command, read_command};
 use ft_base::{NoMemory, Words};
-use ft_index::FtIndex;
-use hash_store::HashStore;
-use indexed_store::{Change, MOST_COUNTED, MOST_INDEXES, make};
-use reply_buffer::{put_fault, put_refusal};
+use indexed_store::{Change, IndexedStore};
+use reply_buffer::ReplyBuffer;
 use std::alloc::Global;
 use std::marker::Model;
 
@@ -36,11 +37,7 @@ const LAST_NUMBER: u64 = 4_611_686_018_427_387_904;
 #[derive(Drop)]
 pub struct Engine {
     alloc: Global,
-    store: HashStore,
-    // With room for as many as there may be.
-    indexes: Vec<FtIndex>,
-    // Room to count the keys that DEL finds.
-    ids: Vec<u64>,
+    held: IndexedStore,
     latest: u64,
     next: u64,
     // Whether an event is prepared, and neither committed nor abandoned.
@@ -48,24 +45,13 @@ pub struct Engine {
 }
 
 impl Model for Engine {
-    ghost use Rattle.ft_engine.specs.Stands.{Stands};
-    ghost use Rattle.indexed_store.specs.States.{state_of};
+    ghost use Rattle.ft_engine.specs.Stands.{IsEngine, Stands, stands_of};
 
     ghost Value = { Stands };
 
-    ghost view = { λ e. record {
-      state = state_of e.store e.indexes.items e.latest;
-      next = e.next;
-      indexes = e.indexes.items;
-      waits = e.store.ready;
-      pending = e.pending;
-      reads = e.store.reads;
-    } };
+    ghost view = { λ e. stands_of e.held e.latest e.next e.pending };
 
-    ghost use Rattle.ft_engine.specs.Stands.{IsEngine};
-    ghost use Rattle.std.specs.Prelude.{vec_capacity};
-
-    ghost invariant = { λ e. IsEngine e.store e.indexes.items (vec_capacity e.indexes) (vec_capacity e.ids) e.pending e.next };
+    ghost invariant = { λ e. IsEngine e.held e.pending e.next };
 }
 
 impl Engine {
@@ -84,9 +70,7 @@ impl Engine {
     {
         Ok(Engine {
             alloc,
-            store: HashStore::new(alloc),
-            indexes: Vec::with_capacity(alloc, MOST_INDEXES)?,
-            ids: Vec::with_capacity(alloc, MOST_COUNTED)?,
+            held: IndexedStore::new(alloc)?,
             latest: 0,
             next: first,
             pending: false,
@@ -106,7 +90,6 @@ impl Engine {
     pub fn exec(&mut self, now: u64, words: Words<'_>, out: &mut Vec<u8>)
         requires some { 0 < length words }
         requires limits { KeepsLimits words }
-        requires empty { out.old.items ≡ [] }
         requires room { 64 ≤ vec_capacity out.old }
         requires free { self.old.pending ≡ false }
 
@@ -141,12 +124,11 @@ impl Engine {
     pub fn prepare<'a>(&mut self, now: u64, command: Command<'a>, out: &mut Vec<u8>) -> Prepared<'a>
         requires asked { IsAsked (command_of command) }
         requires serial { HasSerial self.old.next (command_of command) }
-        requires empty { out.old.items ≡ [] }
         requires room { 64 ≤ vec_capacity out.old }
         requires free { self.old.pending ≡ false }
 
         // A commit makes this a step of the machine, at this event's number.
-        ensures answer { At self.old.next now (Does (command_of command.entry) self.old.next)
+        ensures answer { At self.old.next now (outcomes (command_of command.entry) self.old.next)
             self.old.state out.new.items (committed result self.new) }
         ensures writes { IsTrue (is_change result.change) → committed result self.new ≢ abandoned result self.new }
         ensures state { self.new.state ≡ self.old.state }
@@ -160,27 +142,43 @@ impl Engine {
         ensures still { is_change result.change ≡ false → (out.new.items ≡ spelling out_of_memory) ⊎ (self.new.indexes ≡ self.old.indexes) }
         ensures room { vec_capacity out.old ≤ vec_capacity out.new }
     {
-        // Tells that the keys differ.
-        let _count = self.store.len();
+        let mut reply = ReplyBuffer::over(self.alloc, out);
+        let prepared = self.answer(now, command, &mut reply);
+        reply.give_back(out);
+        prepared
+    }
+
+    // The same, where the buffer of replies is in hand.
+    fn answer<'a>(&mut self, now: u64, command: Command<'a>, reply: &mut ReplyBuffer) -> Prepared<'a>
+        requires asked { IsAsked (command_of command) }
+        requires free { self.old.pending ≡ false }
+        ensures answer { At self.old.next now (outcomes (command_of command.entry) self.old.next)
+            self.old.state reply.new.bytes (committed result self.new) }
+        ensures writes { IsTrue (is_change result.change) → committed result self.new ≢ abandoned result self.new }
+        ensures state { self.new.state ≡ self.old.state }
+        ensures next { self.new.next ≡ self.old.next }
+        ensures last { IsLast result self.new }
+        ensures indexed { IsIndexed self.new }
+        ensures reads { ReadsFew (command_of command.entry) reply.new.bytes self.old.reads self.new.reads }
+        ensures records { TellsExactly (command_of command.entry) self.old.indexes reply.new.bytes }
+        ensures quiet { IsQuiet (command_of command.entry) result.change }
+        ensures still { is_change result.change ≡ false → (reply.new.bytes ≡ spelling out_of_memory) ⊎ (self.new.indexes ≡ self.old.indexes) }
+        ensures room { reply.old.room ≤ reply.new.room }
+    {
+        self.held.stand();
         self.pending = true;
         if LAST_NUMBER <= self.next {
-            put_fault(out, b"ERR last event reached");
+            reply.set_fault(b"ERR last event reached");
             return Prepared {
-                latest: self.latest,
+                moment: 0,
                 change: Change::Nothing,
             };
         }
-        let change = prepare_command(
-            &mut self.store,
-            self.indexes.as_mut_slice(),
-            &mut self.ids,
-            self.alloc,
-            self.next,
-            command,
-            out,
-        );
+        self.held.begin(self.next);
+        let change = prepare_command(&mut self.held, command, reply);
+        self.held.stand();
         Prepared {
-            latest: self.latest.max(now),
+            moment: now,
             change,
         }
     }
@@ -194,13 +192,8 @@ impl Engine {
         ensures quiet { prepared.entry.change ≡ Nothing → self.new.reads ≡ self.old.reads }
         ensures free { self.new.pending ≡ false }
     {
-        make(
-            &mut self.store,
-            &mut self.indexes,
-            self.next,
-            prepared.change,
-        );
-        self.end(prepared.latest);
+        self.held.make(self.next, prepared.change);
+        self.end(prepared.moment);
     }
 
     /// Ends the event of what was prepared last without it. It takes no memory.
@@ -211,48 +204,71 @@ impl Engine {
         ensures indexed { IsIndexed self.new }
         ensures free { self.new.pending ≡ false }
     {
-        self.end(prepared.latest);
+        let moment = prepared.moment;
+        drop(prepared);
+        self.end(moment);
     }
 
     /// Refuses a command for its words, in an event of its own, and writes why. It takes no memory.
     pub fn refuse(&mut self, now: u64, words: Words<'_>, fault: &CmdFault, out: &mut Vec<u8>)
         requires some { 0 < length words }
         requires fault { IsReading self.old.next words (Err fault.now) }
-        requires empty { out.old.items ≡ [] }
         requires room { 64 ≤ vec_capacity out.old }
         requires free { self.old.pending ≡ false }
         ensures answer { Answers words.entry self.old.next now self.old.state
             out.new.items self.new.state }
-        ensures refused { IsRefusal out.new.items }
+
+        // The fault's own text, and nothing else; at the last number that of the last event.
+        ensures text { self.old.next < 2 ^ 62 → out.new.items ≡ spelling (Fault (refusal (slice_index_or words.entry 0 []) fault.now)) }
+        ensures last { 2 ^ 62 ≤ self.old.next → out.new.items ≡ spelling (Fault last_event) }
+
         ensures reads { self.new.reads ≡ self.old.reads }
         ensures next { self.new.next ≡ next_number self.old.next }
         ensures indexed { IsIndexed self.new }
         ensures free { self.new.pending ≡ false }
         ensures room { vec_capacity out.old ≤ vec_capacity out.new }
     {
-        // Tells that the keys differ.
-        let _count = self.store.len();
-        if LAST_NUMBER <= self.next {
-            return put_fault(out, b"ERR last event reached");
-        }
-        put_refusal(words.word(0), *fault, out);
-        self.pending = true;
-        self.end(self.latest.max(now));
+        let mut reply = ReplyBuffer::over(self.alloc, out);
+        self.refuse_in(now, words, fault, &mut reply);
+        reply.give_back(out);
     }
 
-    // Ends an event that is prepared.
-    fn end(&mut self, latest: u64)
+    // The same, where the buffer of replies is in hand.
+    fn refuse_in(&mut self, now: u64, words: Words<'_>, fault: &CmdFault, reply: &mut ReplyBuffer)
+        requires some { 0 < length words }
+        requires fault { IsReading self.old.next words (Err fault.now) }
+        requires free { self.old.pending ≡ false }
+        ensures answer { Answers words.entry self.old.next now self.old.state
+            reply.new.bytes self.new.state }
+        ensures text { self.old.next < 2 ^ 62 → reply.new.bytes ≡ spelling (Fault (refusal (slice_index_or words.entry 0 []) fault.now)) }
+        ensures last { 2 ^ 62 ≤ self.old.next → reply.new.bytes ≡ spelling (Fault last_event) }
+        ensures reads { self.new.reads ≡ self.old.reads }
+        ensures next { self.new.next ≡ next_number self.old.next }
+        ensures indexed { IsIndexed self.new }
+        ensures free { self.new.pending ≡ false }
+        ensures room { reply.old.room ≤ reply.new.room }
+    {
+        self.held.stand();
+        if LAST_NUMBER <= self.next {
+            return reply.set_fault(b"ERR last event reached");
+        }
+        reply.set_refusal(words.word(0), *fault);
+        self.pending = true;
+        self.end(now);
+    }
+
+    // Ends an event that is prepared, at its moment.
+    fn end(&mut self, moment: u64)
         requires pending { self.old.pending ≡ true }
         ensures ended { self.new ≡ record self.old {
-          state = record self.old.state { latest = latest };
+          state = at_moment moment self.old.state;
           next = next_number self.old.next;
           pending = false;
         } }
         ensures indexed { IsIndexed self.new }
     {
-        // Tells that the keys differ.
-        let _count = self.store.len();
-        self.latest = latest;
+        self.held.stand();
+        self.latest = self.latest.max(moment);
         self.pending = false;
         if self.next < LAST_NUMBER {
             self.next += 1;

@@ -8,8 +8,8 @@ use std::marker::Model;
 /// A command that was prepared. It keeps the command's words, so that its end takes no memory.
 #[derive(Drop)]
 pub struct Prepared<'a> {
-    /// The latest moment once the event has ended.
-    pub(crate) latest: u64,
+    /// The moment of its event.
+    pub(crate) moment: u64,
     pub(crate) change: Change<'a>,
 }
 
@@ -18,7 +18,7 @@ impl<'a> Model for Prepared<'a> {
 
     ghost Value = { Ahead };
 
-    ghost view = { λ p. record { latest = p.latest; change = p.change } };
+    ghost view = { λ p. record { moment = p.moment; change = p.change } };
 }
 
 impl<'a> Prepared<'a> {

@@ -1,0 +1,16 @@
+use Rattle.std.proofs.Common.{◌≡◌, List, Ok, ap, subst, sym, ℕ}
+use Rattle.cmd_parse.specs.Read.{command_of, read}
+use Rattle.ft_machine.proofs.Stepping.{obeyed}
+use Rattle.ft_machine.specs.Machine.{State}
+use Rattle.ft_machine.specs.Step.{At, outcomes}
+use Rattle.ft_engine.specs.Stands.{Stands}
+use Rattle.ft_engine.proofs.engine.Engine.exec.Goals as goal
+
+pub returns-in-Ok-clause-answer : goal.returns-in-Ok-clause-answer
+returns-in-Ok-clause-answer c =
+    let asks = command_of c.in-Ok.command in
+    let next = c.args.self.now.next in
+    let here : read c.self.inside.next c.args.words ≡ Ok asks = subst (λ (words : List (List ℕ)). read c.self.inside.next words ≡ Ok asks) c.rest.ensures c.in-Ok.ensures.exact in
+    let is : read next c.args.words ≡ Ok asks = subst (λ (n : ℕ). read n c.args.words ≡ Ok asks) (ap (λ (e : Stands). e.next) c.self.view_is) here in
+    obeyed c.args.words next c.args.now asks c.args.self.now.state c.commit.new.self.state c.prepare-prepared.new.out.items is
+    (subst (λ (s : State). At next c.args.now (outcomes asks next) c.args.self.now.state c.prepare-prepared.new.out.items s) (sym c.commit.ensures.state) c.prepare-prepared.ensures.answer)
