@@ -1,7 +1,9 @@
 -- What is read for a search, and what is told of an index, exactly.
 use Rattle.std.specs.Prelude.{◌≡◌, ◌≤◌, ℕ, List, length, Bool, Option, None, Some, Result, Ok, Err, IfOk, OnOk, find}
 use Rattle.std.proofs.Common.{ap, ◌∙◌, inl, inr}
-use Rattle.cmd_parse.specs.Read.{Asked, Plain, CreateIndex, AlterIndex, InfoOf, Search}
+use Rattle.cmd_parse.specs.Read.{Asked, Plain, CreateIndex, AlterIndex, Search}
+use Rattle.cmd_parse.specs.declared.command.Verb.TheVariants.{Info}
+use Rattle.ft_machine.specs.Arguments.{first}
 use Rattle.ft_base.specs.Reply.{spelling}
 use Rattle.ft_base.specs.declared.definition.IndexDef.{IndexDef}
 use Rattle.ft_base.specs.declared.doc.Doc.{Doc}
@@ -28,23 +30,17 @@ reads-found no_content docs written (Err e) old new is reads rises want = inr (i
 
 -- a command that is refused reads nothing for a search
 pub reads-refused : (asks : Asked) (written : List ℕ) (old new : ℕ) → IsRefusal written → new ≡ old → ReadsFew asks written old new
-reads-refused (Plain verb args) written old new refused same = tt
-reads-refused (CreateIndex index) written old new refused same = tt
-reads-refused (AlterIndex index fields) written old new refused same = tt
-reads-refused (InfoOf index) written old new refused same = tt
-reads-refused (Search index query no_content params) written old new refused same = inr (inl (refused, same))
+reads-refused (Search what) written old new refused same = inr (inl (refused, same))
+reads-refused _ written old new refused same = tt
 
 -- and tells of no index
 pub tells-refused : (asks : Asked) (indexes : List Index) (written : List ℕ) → IsRefusal written → TellsExactly asks indexes written
-tells-refused (Plain verb args) indexes written refused = tt
-tells-refused (CreateIndex index) indexes written refused = tt
-tells-refused (AlterIndex index fields) indexes written refused = tt
-tells-refused (InfoOf index) indexes written refused = of_index (find (is_named index) indexes)
+tells-refused (Plain Info args) indexes written refused = of_index (find (is_named (first args)) indexes)
   where
     of_index : (found : Option Index) → TellsOf found written
     of_index None = tt
     of_index (Some index) = inr refused
-tells-refused (Search index query no_content params) indexes written refused = tt
+tells-refused _ indexes written refused = tt
 
 -- what is told by the counts of an index
 pub entries-of : {E : Type 0} (index : Index) (def : IndexDef) (lists : AllLists) (made : Result Reply E) (counts : Counts) → def ≡ index.def → lists ≡ index.lists → counts.records ≡ all_entries lists

@@ -7,9 +7,11 @@ use Rattle.std.specs.Option.{option_copied, option_map}
 use Rattle.std.proofs.lemmas.Bool.Decides.{nat_tests}
 use Rattle.std.proofs.lemmas.List.{length-append}
 use Rattle.std.proofs.lemmas.List.Elements.{All-cons, All-nil}
+use Rattle.std.proofs.lemmas.Result.{IfOk-weaker}
 use Rattle.std.proofs.lemmas.Slice.Eq.{bytes_eq-Decides}
-use Rattle.cmd_parse.specs.Read.{AlterIndex, CreateIndex, Plain}
+use Rattle.cmd_parse.specs.Read.{Asked, AlterIndex, CreateIndex, Plain}
 use Rattle.cmd_parse.specs.declared.command.Verb.TheVariants.{DropIndex, ListIndexes, TagVals}
+use Rattle.ft_base.specs.Memory.{out_of_memory}
 use Rattle.ft_base.specs.Reply.{fits_wire, spelling}
 use Rattle.ft_base.specs.declared.definition.Field.{Field}
 use Rattle.ft_base.specs.declared.definition.IndexDef.{IndexDef}
@@ -23,6 +25,7 @@ use Rattle.ft_schema.specs.Schema.{extended, has_any_alias, is_over}
 use Rattle.ft_schema.specs.declared.fault.SchemaFault.{SchemaFault}
 use Rattle.ft_schema.specs.declared.fault.SchemaFault.TheVariants as schema
 use Rattle.indexed_store.proofs.NamedLaws.{index_of-named}
+use Rattle.indexed_store.proofs.PreparingLaws.{prepares-nothing}
 use Rattle.ft_machine.specs.Definitions.{Defined, failures_over, index_of, with_index, without_index}
 use Rattle.indexed_store.specs.DefinitionsOf.{defined, definitions_of}
 use Rattle.indexed_store.specs.Named.{is_named}
@@ -30,14 +33,18 @@ use Rattle.ft_machine.specs.Removing.{without_members}
 use Rattle.inverted_list.specs.Listing.{RisesAbove}
 use Rattle.ft_machine.specs.TagValues.{tag_values}
 use Rattle.hash_replies.proofs.ReadsLaws.{fits-Bulk, shown-fits}
-use Rattle.ft_machine.proofs.Stepping.{stays, told}
+use Rattle.ft_machine.proofs.Stepping.{gives, told, wants}
 use Rattle.ft_machine.specs.Arguments.{first, second}
 use Rattle.ft_machine.specs.Indexes.{altered, altered_to, created, defines, dropped, index_over, listed, most_indexes, name_bulk, tag_field, tag_vals, tags_reply, unknown_index}
 use Rattle.ft_machine.specs.Machine.{Outcome, State, answered}
 use Rattle.indexed_store.specs.Changing.{HasMore}
+use Rattle.indexed_store.specs.Holding.{Holding, state_at}
+use Rattle.indexed_store.specs.Preparing.{IsMade, Prepares, Stays}
+use Rattle.indexed_store.specs.Standing.{AreApart}
+use Rattle.indexed_store.specs.declared.change.Change.TheVariants.{Alter, Nothing}
 use Rattle.ft_schema.specs.Refusals.{schema_refusal}
-use Rattle.ft_machine.specs.PlainCommands.{PlainMayWant, plain}
-use Rattle.ft_machine.specs.Step.{Does, Told}
+use Rattle.ft_machine.specs.PlainCommands.{plain}
+use Rattle.ft_machine.specs.Step.{Does, MayWant, Told}
 
 -- whether a name is taken, as a look-up says
 pub named-known : (indexes : List Index) (definitions : List Defined) (name : List ℕ) (index : Option (Bor Index)) → definitions ≡ definitions_of indexes → option_copied index ≡ find (is_named name) indexes
@@ -61,13 +68,17 @@ named-some indexes definitions name index same found = ap (λ (ds : List Defined
 pub named-none : (indexes : List Index) (definitions : List Defined) (name : List ℕ) → definitions ≡ definitions_of indexes → None ≡ find (is_named name) indexes → index_of definitions name ≡ None
 named-none indexes definitions name same found = ap (λ (ds : List Defined). index_of ds name) same ∙ (index_of-named indexes name ∙ ap (option_map defined) (sym found))
 
+-- where memory was wanting for an index, no change is prepared
+pub prepares-wanting : (asks : Asked) (old new : Holding) (written : List ℕ) → MayWant asks → Stays old new → new.indexes ≡ old.indexes → written ≡ spelling out_of_memory → Prepares asks old new written Nothing
+prepares-wanting asks old new written may stays same said = prepares-nothing asks old new written stays.space same stays.next (λ latest. wants asks old.next (state_at latest old) written may said)
+
 -- FT.CREATE of a name that is taken
 created-taken : (def : IndexDef) (state : State) → is_some (index_of state.definitions def.name) ≡ true → created def state ≡ answered (Fault (codes "Index already exists")) state
 created-taken def state taken = rw taken refl
 
 pub create-taken : (def : IndexDef) (number : ℕ) (state : State) (written : List ℕ) → is_some (index_of state.definitions def.name) ≡ true → written ≡ spelling (Fault (codes "Index already exists"))
     → Does (CreateIndex def) number state written state
-create-taken def number state written taken said = inl (stays (created def state) state written (Fault (codes "Index already exists")) (created-taken def state taken) said)
+create-taken def number state written taken said = gives (CreateIndex def) number state (answered (Fault (codes "Index already exists")) state) written state (sym (created-taken def state taken)) said refl
 
 -- where there is no room
 created-full : (def : IndexDef) (state : State) → is_some (index_of state.definitions def.name) ≡ false → nat_le most_indexes (length state.definitions) ≡ true → created def state ≡ answered (Fault (codes "Too many indexes")) state
@@ -75,7 +86,8 @@ created-full def state free full = rw (free, full) refl
 
 pub create-full : (def : IndexDef) (number : ℕ) (state : State) (written : List ℕ) → is_some (index_of state.definitions def.name) ≡ false → most_indexes ≤ length state.definitions → written ≡ spelling (Fault (codes "Too many indexes"))
     → Does (CreateIndex def) number state written state
-create-full def number state written free full said = inl (stays (created def state) state written (Fault (codes "Too many indexes")) (created-full def state free (grind (arith, nat_tests, full))) said)
+create-full def number state written free full said =
+    gives (CreateIndex def) number state (answered (Fault (codes "Too many indexes")) state) written state (sym (created-full def state free (grind (arith, nat_tests, full)))) said refl
 
 -- where the index goes last
 created-last : (def : IndexDef) (state : State) → is_some (index_of state.definitions def.name) ≡ false → nat_le most_indexes (length state.definitions) ≡ false
@@ -89,27 +101,26 @@ pub create-done : (def : IndexDef) (number : ℕ) (state : State) (written : Lis
     → index.def ≡ def → index.failures ≡ failures_over def state.space 0 → written ≡ spelling (Line (codes "OK"))
     → Does (CreateIndex def) number state written (record state { definitions = state.definitions ++ defined index ∷ [] })
 create-done def number state written index free room is counted said =
-    let given = created-last def state free (grind (arith, nat_tests, room)) in
-    inl (
-      said ∙ ap (λ (o : Outcome). spelling o.reply) (sym given),
-      ap (λ (d : Defined). record state { definitions = state.definitions ++ d ∷ [] }) (same-defined index def (failures_over def state.space 0) is counted) ∙ ap (λ (o : Outcome). o.after) (sym given),
-    )
+    gives (CreateIndex def) number state (defines (state.definitions ++ index_over def state.space 0 ∷ []) state) written (record state { definitions = state.definitions ++ defined index ∷ [] })
+    (sym (created-last def state free (grind (arith, nat_tests, room)))) said
+    (ap (λ (d : Defined). record state { definitions = state.definitions ++ d ∷ [] }) (same-defined index def (failures_over def state.space 0) is counted))
 
 -- FT.ALTER where no index has the name
 pub alter-unknown : (name : List ℕ) (fields : List Field) (number : ℕ) (state : State) (written : List ℕ) → index_of state.definitions name ≡ None → written ≡ spelling (Fault unknown_index)
     → Does (AlterIndex name fields) number state written state
-alter-unknown name fields number state written none said = inl (stays (altered (index_of state.definitions name) fields state) state written (Fault unknown_index) (ap (λ (i : Option Defined). altered i fields state) none) said)
+alter-unknown name fields number state written none said =
+    gives (AlterIndex name fields) number state (answered (Fault unknown_index) state) written state (sym (ap (λ (i : Option Defined). altered i fields state) none)) said refl
 
 -- where the fields have a fault
 alter-stays : (name : List ℕ) (fields : List Field) (number : ℕ) (state : State) (written : List ℕ) (old : Defined) (fault : SchemaFault) → index_of state.definitions name ≡ Some old
     → extended old.def fields ≡ Err fault → written ≡ spelling (Fault (schema_refusal fault)) → Does (AlterIndex name fields) number state written state
 alter-stays name fields number state written old fault there is said =
-    inl (stays (altered (index_of state.definitions name) fields state) state written (Fault (schema_refusal fault))
-    (ap (λ (i : Option Defined). altered i fields state) there ∙ ap (λ (r : Result IndexDef SchemaFault). altered_to old.failures r state) is) said)
+    gives (AlterIndex name fields) number state (answered (Fault (schema_refusal fault)) state) written state
+    (sym (ap (λ (i : Option Defined). altered i fields state) there ∙ ap (λ (r : Result IndexDef SchemaFault). altered_to old.failures r state) is)) said refl
 
 pub alter-fault : (name : List ℕ) (fields : List Field) (number : ℕ) (state : State) (written : List ℕ) (old : Defined) (fault : SchemaFault) → index_of state.definitions name ≡ Some old
     → IsFaultOf fault (extended old.def fields) → written ≡ spelling (Fault (schema_refusal fault)) → Does (AlterIndex name fields) number state written state
-alter-fault name fields number state written old schema.NoMemory there is said = inr (tt, said, refl)
+alter-fault name fields number state written old schema.NoMemory there is said = wants (AlterIndex name fields) number state written tt said
 alter-fault name fields number state written old (schema.BadOption at) there is said = alter-stays name fields number state written old (schema.BadOption at) there is said
 alter-fault name fields number state written old (schema.BadKind at) there is said = alter-stays name fields number state written old (schema.BadKind at) there is said
 alter-fault name fields number state written old (schema.DuplicateField at) there is said = alter-stays name fields number state written old (schema.DuplicateField at) there is said
@@ -122,11 +133,9 @@ pub alter-done : (name : List ℕ) (fields : List Field) (number : ℕ) (state :
     → extended old.def fields ≡ Ok index.def → index.failures ≡ failures_over index.def state.space old.failures → written ≡ spelling (Line (codes "OK"))
     → Does (AlterIndex name fields) number state written (record state { definitions = with_index state.definitions (defined index) })
 alter-done name fields number state written old index there is counted said =
-    let given = ap (λ (i : Option Defined). altered i fields state) there ∙ ap (λ (r : Result IndexDef SchemaFault). altered_to old.failures r state) is in
-    inl (
-      said ∙ ap (λ (o : Outcome). spelling o.reply) (sym given),
-      ap (λ (d : Defined). record state { definitions = with_index state.definitions d }) (same-defined index index.def (failures_over index.def state.space old.failures) refl counted) ∙ ap (λ (o : Outcome). o.after) (sym given),
-    )
+    gives (AlterIndex name fields) number state (defines (with_index state.definitions (index_over index.def state.space old.failures)) state) written (record state { definitions = with_index state.definitions (defined index) })
+    (sym (ap (λ (i : Option Defined). altered i fields state) there ∙ ap (λ (r : Result IndexDef SchemaFault). altered_to old.failures r state) is)) said
+    (ap (λ (d : Defined). record state { definitions = with_index state.definitions d }) (same-defined index index.def (failures_over index.def state.space old.failures) refl counted))
 
 or-right : (a b : Bool) → (a || b) ≡ false → b ≡ false
 or-right true b none = cc (none)
@@ -169,12 +178,40 @@ alter-more indexes all name fields old made same found some is =
     let there : index_of (definitions_of all) made.def.name ≡ Some (defined old) = ap (index_of (definitions_of all)) (sym named) ∙ named-some indexes (definitions_of all) name old (ap definitions_of same) found in
     subst (λ (d : Option Defined). HasMore d made) (sym there) (omega (arith, some, grows.number))
 
+-- a definition that is read elsewhere is extended alike
+extended-as : (read def made new : IndexDef) (fields : List Field) → read ≡ def → extended read fields ≡ Ok made → new ≡ made → extended def fields ≡ Ok new
+extended-as read def made new fields same is to = subst (λ (d : IndexDef). extended d fields ≡ Ok new) same (subst (λ (m : IndexDef). extended read fields ≡ Ok m) (sym to) is)
+
+-- few fields are declared where a definition was extended
+pub extended-few : (read def made : IndexDef) (fields : List Field) → read ≡ def → extended read fields ≡ Ok made → length made.fields ≤ 1024
+extended-few read def made fields same is = (extended-grows def fields made (extended-as read def made made fields same is refl)).few
+
+-- FT.ALTER is prepared once an index of the extended definition is made.
+pub alter-prepares : (name : List ℕ) (fields : List Field) (old new : Holding) (index made : Index) (read def : IndexDef) (count : ℕ) (written : List ℕ) → Some index ≡ find (is_named name) old.indexes → 0 < length fields
+    → read ≡ index.def → extended read fields ≡ Ok def → count ≡ index.failures → IsMade def count made old new → Stays old new → new.indexes ≡ old.indexes → written ≡ spelling (Line (codes "OK"))
+    → Prepares (AlterIndex name fields) old new written (Alter made)
+alter-prepares name fields old new index made read def count written found some reads is counted done stays same said =
+    let all : extended index.def fields ≡ Ok made.def = extended-as read index.def def made.def fields reads is done.same in
+    let failed : made.failures ≡ failures_over made.def old.space index.failures =
+        done.failures ∙ (ap (λ (d : IndexDef). failures_over d old.space count) (sym done.same) ∙ ap (failures_over made.def old.space) counted) in
+    record {
+      does = λ latest. alter-done name fields old.next (state_at latest old) written (defined index) made (named-some old.indexes (definitions_of old.indexes) name index refl found) all failed said;
+      stays = stays;
+      ready = (
+        alter-more old.indexes new.indexes name fields index made same found some all,
+        done.stands,
+        subst (All (AreApart made)) (sym same) done.apart,
+      );
+      still = λ nothing. cc (nothing);
+    }
+
 -- FT.DROPINDEX
 pub drop-unknown : (args : List (List ℕ)) (number : ℕ) (state : State) (written : List ℕ) → is_some (index_of state.definitions (first args)) ≡ false → written ≡ spelling (Fault unknown_index)
     → Does (Plain DropIndex args) number state written state
-drop-unknown args number state written none said = inl (stays (plain DropIndex args number state) state written (Fault unknown_index) (by_index (index_of state.definitions (first args)) none) said)
+drop-unknown args number state written none said =
+    gives (Plain DropIndex args) number state (answered (Fault unknown_index) state) written state (by_index (index_of state.definitions (first args)) none) said refl
   where
-    by_index : (index : Option Defined) → is_some index ≡ false → dropped index (first args) (drop 1 args) state ≡ answered (Fault unknown_index) state
+    by_index : (index : Option Defined) → is_some index ≡ false → answered (Fault unknown_index) state ≡ dropped index (first args) (drop 1 args) state
     by_index None none = refl
     by_index (Some index) none = cc (none)
 
@@ -186,8 +223,8 @@ drop-one (word ∷ []) number state written name there one is said = by_index (i
     by_index : (index : Option Defined) → index_of state.definitions word ≡ index → is_some index ≡ true → Does (Plain DropIndex (word ∷ [])) number state written (record state { definitions = without_index state.definitions name })
     by_index None found there = cc (there)
     by_index (Some index) found there =
-        let given = ap (λ (i : Option Defined). dropped i word [] state) found in
-        inl (said ∙ ap (λ (o : Outcome). spelling o.reply) (sym given), ap (λ (w : List ℕ). record state { definitions = without_index state.definitions w }) is ∙ ap (λ (o : Outcome). o.after) (sym given))
+        gives (Plain DropIndex (word ∷ [])) number state (defines (without_index state.definitions word) state) written (record state { definitions = without_index state.definitions name })
+        (sym (ap (λ (i : Option Defined). dropped i word [] state) found)) said (ap (λ (w : List ℕ). record state { definitions = without_index state.definitions w }) is)
 drop-one (word ∷ more ∷ args) number state written name there one is said = absurd (omega (arith, one))
 
 pub drop-two : (args : List (List ℕ)) (number : ℕ) (state : State) (written name : List ℕ) → is_some (index_of state.definitions (first args)) ≡ true → 2 ≤ length args → name ≡ first args → written ≡ spelling (Line (codes "OK"))
@@ -200,12 +237,11 @@ drop-two (word ∷ how ∷ args) number state written name there two is said = b
         → Does (Plain DropIndex (word ∷ how ∷ args)) number state written (record state { space = without_members (index_of state.definitions name) state.space; definitions = without_index state.definitions name })
     by_index None found there = cc (there)
     by_index (Some index) found there =
-        let given = ap (λ (i : Option Defined). dropped i word (how ∷ args) state) found in
-        inl (
-          said ∙ ap (λ (o : Outcome). spelling o.reply) (sym given),
-          ap (λ (w : List ℕ). record state { space = without_members (index_of state.definitions w) state.space; definitions = without_index state.definitions w }) is
-              ∙ (ap (λ (i : Option Defined). record state { space = without_members i state.space; definitions = without_index state.definitions word }) found ∙ ap (λ (o : Outcome). o.after) (sym given)),
-        )
+        gives (Plain DropIndex (word ∷ how ∷ args)) number state (defines (without_index state.definitions word) (record state { space = without_members (Some index) state.space })) written
+        (record state { space = without_members (index_of state.definitions name) state.space; definitions = without_index state.definitions name })
+        (sym (ap (λ (i : Option Defined). dropped i word (how ∷ args) state) found)) said
+        (ap (λ (w : List ℕ). record state { space = without_members (index_of state.definitions w) state.space; definitions = without_index state.definitions w }) is
+            ∙ ap (λ (i : Option Defined). record state { space = without_members i state.space; definitions = without_index state.definitions word }) found)
 
 -- FT._LIST
 names-listed : (indexes : List Index) → map (λ (index : Index). Bulk index.def.name) indexes ≡ map name_bulk (definitions_of indexes)
@@ -220,7 +256,9 @@ names-fit indexes names is = subst (λ (rs : List Reply). IsTrue (fits_wire (Arr
 
 pub list-told : {E : Type 0} (args : List (List ℕ)) (indexes : List Index) (number : ℕ) (state : State) (written : List ℕ) (made : Result Reply E) → state.definitions ≡ definitions_of indexes
     → IfOk made (λ reply. reply ≡ listed (definitions_of indexes)) → Told made written → Does (Plain ListIndexes args) number state written state
-list-told args indexes number state written made same is said = told (plain ListIndexes args number state) (PlainMayWant ListIndexes args) state written made (listed (definitions_of indexes)) tt (ap (λ (ds : List Defined). answered (listed ds) state) same) is said
+list-told args indexes number state written made same is said =
+    told (Plain ListIndexes args) number state written made tt
+    (IfOk-weaker made _ _ (λ reply listing. ap (λ (r : Reply). answered r state) (listing ∙ ap listed (sym same))) is) said
 
 -- FT.TAGVALS
 pub tags-fit : (tags : List Reply) (values : List (List ℕ)) → tags ≡ map Bulk values → IsTrue (fits_wire (Array tags))
@@ -229,19 +267,20 @@ tags-fit tags values is = subst (λ (rs : List Reply). IsTrue (fits_wire (Array 
 pub tags-unknown : (args : List (List ℕ)) (number : ℕ) (state : State) (written : List ℕ) → index_of state.definitions (first args) ≡ None → written ≡ spelling (Fault unknown_index)
     → Does (Plain TagVals args) number state written state
 tags-unknown args number state written none said =
-    inl (stays (plain TagVals args number state) state written (Fault unknown_index) (ap (λ (i : Option Defined). answered (tag_vals i (second args) state.space) state) none) said)
+    gives (Plain TagVals args) number state (answered (Fault unknown_index) state) written state (sym (ap (λ (i : Option Defined). answered (tag_vals i (second args) state.space) state) none)) said refl
 
 pub tags-no_field : (args : List (List ℕ)) (number : ℕ) (state : State) (written : List ℕ) (index : Defined) → index_of state.definitions (first args) ≡ Some index → tag_field index.def.fields (second args) ≡ None
     → written ≡ spelling (Fault (codes "Unknown field at word 2")) → Does (Plain TagVals args) number state written state
 tags-no_field args number state written index there none said =
-    inl (stays (plain TagVals args number state) state written (Fault (codes "Unknown field at word 2"))
-    (ap (λ (i : Option Defined). answered (tag_vals i (second args) state.space) state) there ∙ ap (λ (f : Option Field). answered (tags_reply f index.def state.space) state) none) said)
+    gives (Plain TagVals args) number state (answered (Fault (codes "Unknown field at word 2")) state) written state
+    (sym (ap (λ (i : Option Defined). answered (tag_vals i (second args) state.space) state) there ∙ ap (λ (f : Option Field). answered (tags_reply f index.def state.space) state) none)) said refl
 
 pub tags-told : {E : Type 0} (args : List (List ℕ)) (number : ℕ) (state : State) (written : List ℕ) (index : Defined) (field : Field) (made : Result Reply E) → index_of state.definitions (first args) ≡ Some index
     → tag_field index.def.fields (second args) ≡ Some field → IfOk made (λ reply. reply ≡ Array (map Bulk (tag_values index.def field state.space))) → Told made written → Does (Plain TagVals args) number state written state
 tags-told args number state written index field made there here is said =
-    told (plain TagVals args number state) (PlainMayWant TagVals args) state written made (Array (map Bulk (tag_values index.def field state.space))) tt
-    (ap (λ (i : Option Defined). answered (tag_vals i (second args) state.space) state) there ∙ ap (λ (f : Option Field). answered (tags_reply f index.def state.space) state) here) is said
+    told (Plain TagVals args) number state written made tt
+    (IfOk-weaker made _ _ (λ reply tags. ap (λ (r : Reply). answered r state) tags
+        ∙ sym (ap (λ (i : Option Defined). answered (tag_vals i (second args) state.space) state) there ∙ ap (λ (f : Option Field). answered (tags_reply f index.def state.space) state) here)) is) said
 
 -- ids that rise are above 0
 pub ids-above : (low : ℕ) (docs : List Doc) → RisesAbove low (map row_of docs) → All (λ (doc : Doc). 0 < doc.id) docs

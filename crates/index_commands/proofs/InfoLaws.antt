@@ -2,7 +2,9 @@
 use Rattle.std.specs.Prelude.{◌≡◌, ◌≤◌, ◌+◌, ℕ, List, [], ◌∷◌, Option, None, Some, Result, Ok, Err, IfOk, find, length, refl}
 use Rattle.std.proofs.Common.{sym, ap, ◌∙◌, arith, inl, inr, subst}
 use Rattle.std.proofs.lemmas.List.{length-map}
-use Rattle.cmd_parse.specs.Read.{InfoOf}
+use Rattle.std.proofs.lemmas.Result.{IfOk-weaker}
+use Rattle.cmd_parse.specs.Read.{Plain}
+use Rattle.cmd_parse.specs.declared.command.Verb.TheVariants.{Info}
 use Rattle.ft_base.specs.Reply.{spelling}
 use Rattle.ft_base.specs.declared.definition.IndexDef.{IndexDef}
 use Rattle.ft_base.specs.declared.doc.Doc.{Doc}
@@ -14,13 +16,15 @@ use Rattle.ft_machine.specs.Info.{info_reply}
 use Rattle.index_lists.specs.Has.{Has}
 use Rattle.index_lists.specs.Lists.{AllLists}
 use Rattle.ft_meaning.specs.Records.{live_records}
+use Rattle.ft_machine.proofs.Stepping.{gives, told}
+use Rattle.ft_machine.specs.Arguments.{first}
 use Rattle.ft_machine.specs.Definitions.{Defined}
 use Rattle.indexed_store.specs.DefinitionsOf.{defined, definitions_of}
 use Rattle.indexed_store.specs.Named.{is_named}
 use Rattle.inverted_list.specs.Listing.{RisesAbove, last_id}
 use Rattle.ft_machine.specs.Indexes.{unknown_index}
-use Rattle.ft_machine.specs.Informing.{IsInformed, Tells}
-use Rattle.ft_machine.specs.Machine.{State}
+use Rattle.ft_machine.specs.Informing.{Tells, informed}
+use Rattle.ft_machine.specs.Machine.{State, answered}
 use Rattle.ft_machine.specs.Step.{Does, Told}
 use Rattle.index_commands.proofs.SearchLaws.{named}
 
@@ -29,25 +33,23 @@ pub rising-few : {X : Type 0} (low : ℕ) (rows : List (ℕ × X)) → RisesAbov
 rising-few low [] rises = omega arith
 rising-few low (row ∷ rows) rises = omega (arith, rises.0, rising-few row.0 rows rises.1)
 
+-- an index that was looked up by a word is that of the name
+pub found-by : (indexes : List Index) (name word : List ℕ) (found : Option Index) → word ≡ name → found ≡ find (is_named word) indexes → find (is_named name) indexes ≡ found
+found-by indexes name word found same is = sym (is ∙ ap (λ (w : List ℕ). find (is_named w) indexes) same)
+
 -- there is no such index
-pub informs-none : (indexes : List Index) (state : State) (number : ℕ) (name written : List ℕ) → state.definitions ≡ definitions_of indexes → find (is_named name) indexes ≡ None
-    → written ≡ spelling (Fault unknown_index) → Does (InfoOf name) number state written state
-informs-none indexes state number name written same none said = inl (record {
-  reply = Fault unknown_index;
-  may = subst (λ (i : Option Defined). IsInformed i state.space (Fault unknown_index)) (sym (named indexes state name None same none)) refl;
-  gives = (said, refl);
-})
+pub informs-none : (indexes : List Index) (state : State) (number : ℕ) (args : List (List ℕ)) (written : List ℕ) → state.definitions ≡ definitions_of indexes → find (is_named (first args)) indexes ≡ None
+    → written ≡ spelling (Fault unknown_index) → Does (Plain Info args) number state written state
+informs-none indexes state number args written same none said =
+    gives (Plain Info args) number state (answered (Fault unknown_index) state) written state
+    (subst (λ (i : Option Defined). informed i state (answered (Fault unknown_index) state)) (sym (named indexes state (first args) None same none)) refl) said refl
 
 -- there is, and what was told of it was answered, or memory was wanting
-pub informs-index : {E : Type 0} (indexes : List Index) (index : Index) (state : State) (number : ℕ) (name written : List ℕ) (made : Result Reply E) → state.definitions ≡ definitions_of indexes
-    → find (is_named name) indexes ≡ Some index → IfOk made (λ reply. Tells (defined index) state.space reply) → Told made written → Does (InfoOf name) number state written state
-informs-index indexes index state number name written (Ok reply) same there tells (inl said) = inl (record {
-  reply = reply;
-  may = subst (λ (i : Option Defined). IsInformed i state.space reply) (sym (named indexes state name (Some index) same there)) tells;
-  gives = (said, refl);
-})
-informs-index indexes index state number name written (Ok reply) same there tells (inr want) = inr (tt, want, refl)
-informs-index indexes index state number name written (Err e) same there tells want = inr (tt, want, refl)
+pub informs-index : {E : Type 0} (indexes : List Index) (index : Index) (state : State) (number : ℕ) (args : List (List ℕ)) (written : List ℕ) (made : Result Reply E) → state.definitions ≡ definitions_of indexes
+    → find (is_named (first args)) indexes ≡ Some index → IfOk made (λ reply. Tells (defined index) state.space reply) → Told made written → Does (Plain Info args) number state written state
+informs-index indexes index state number args written made same there tells said =
+    told (Plain Info args) number state written made tt
+    (IfOk-weaker made _ _ (λ reply tells. subst (λ (i : Option Defined). informed i state (answered reply state)) (sym (named indexes state (first args) (Some index) same there)) (tells, refl)) tells) said
 
 -- what is told by the counts of an index
 pub told-of : {E : Type 0} (index : Index) (def : IndexDef) (lists : AllLists) (made : Result Reply E) (docs records failures : ℕ) → def ≡ index.def → lists ≡ index.lists → docs ≡ length index.table.live → failures ≡ index.failures

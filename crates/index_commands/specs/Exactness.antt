@@ -1,19 +1,21 @@
 -- How many documents a search reads, and how many records are told of an index: by the store's own count, and the lists'.
 use Rattle.std.specs.Prelude.{◌≡◌, ◌≤◌, ◌⊎◌, ℕ, List, length, Bool, Option, Some, None, find}
-use Rattle.cmd_parse.specs.Read.{Asked, Plain, CreateIndex, AlterIndex, InfoOf, Search}
+use Rattle.cmd_parse.specs.Read.{Asked, Plain, Search}
+use Rattle.cmd_parse.specs.declared.command.Verb.TheVariants.{Info}
+use Rattle.ft_base.specs.Memory.{out_of_memory}
 use Rattle.ft_base.specs.Reply.{spelling}
 use Rattle.ft_base.specs.declared.doc.Doc.{Doc}
 use Rattle.ft_base.specs.declared.reply.Reply.{Reply}
 use Rattle.ft_base.specs.declared.reply.Reply.TheVariants.{Fault}
 use Rattle.ft_index.specs.Index.{Index}
-use Rattle.ft_base.specs.Memory.{out_of_memory}
+use Rattle.ft_machine.specs.Arguments.{first}
 use Rattle.ft_machine.specs.Info.{info_reply}
+use Rattle.ft_machine.specs.Replies.{found_reply}
 use Rattle.ft_machine.specs.declared.counts.Counts.{Counts}
+use Rattle.hash_store.specs.Store.{reads_after}
 use Rattle.index_lists.specs.Records.{all_entries}
 use Rattle.indexed_store.specs.Named.{is_named}
-use Rattle.hash_store.specs.Store.{reads_after}
 use Rattle.search_exec.specs.Ids.{reads_for}
-use Rattle.ft_machine.specs.Replies.{found_reply}
 
 -- a refusal is written, or that memory was wanting
 abbrev pub IsRefusal : List ℕ → Type 0
@@ -31,13 +33,10 @@ ReadsRows no_content written old new =
     ReadsShown no_content written old new
     ⊎ ((IsRefusal written × (new ≡ old)) ⊎ ((written ≡ spelling out_of_memory) × (old ≤ new)))
 
--- whatever is asked, it reads no more than that
+-- whatever is asked, a search reads no more than that
 abbrev pub ReadsFew : Asked → List ℕ → ℕ → ℕ → Type 0
-ReadsFew (Plain verb args) written old new = Unit {0}
-ReadsFew (CreateIndex index) written old new = Unit {0}
-ReadsFew (AlterIndex index fields) written old new = Unit {0}
-ReadsFew (InfoOf index) written old new = Unit {0}
-ReadsFew (Search index query no_content params) written old new = ReadsRows no_content written old new
+ReadsFew (Search what) written old new = ReadsRows what.no_content written old new
+ReadsFew _ written old new = Unit {0}
 
 -- What is told of an index has as many records as its lists have entries.
 pub record TellsEntries (index : Index) (reply : Reply) : Type 0 where
@@ -52,8 +51,5 @@ TellsOf (Some index) written = ((reply : Reply) × TellsEntries index reply × (
 
 -- whatever is asked, FT.INFO tells as many
 abbrev pub TellsExactly : Asked → List Index → List ℕ → Type 0
-TellsExactly (Plain verb args) indexes written = Unit {0}
-TellsExactly (CreateIndex index) indexes written = Unit {0}
-TellsExactly (AlterIndex index fields) indexes written = Unit {0}
-TellsExactly (InfoOf index) indexes written = TellsOf (find (is_named index) indexes) written
-TellsExactly (Search index query no_content params) indexes written = Unit {0}
+TellsExactly (Plain Info args) indexes written = TellsOf (find (is_named (first args)) indexes) written
+TellsExactly _ indexes written = Unit {0}

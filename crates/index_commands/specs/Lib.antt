@@ -1,3 +1,2 @@
 pub mod Exactness
-pub mod Searchable
 pub mod Gathered

@@ -1,31 +1,42 @@
 //! FT._LIST and FT.TAGVALS.
-ghost use Rattle.reply_buffer.specs.declared.short_reply.TheConstants.{SHORT_REPLY};
-ghost use Rattle.std.specs.Prelude.{◌≡◌, ◌<◌, ◌≤◌, ℕ, [], length, map, vec_capacity, IfOk, IsTrue};
+ghost use Rattle.std.specs.Prelude.{◌≡◌, ◌<◌, ◌≤◌, ℕ, length, map, IfOk, IsTrue};
 ghost use Rattle.std.specs.List.{All, find};
 ghost use Rattle.std.specs.Option.{option_copied};
 ghost use Rattle.cmd_parse.specs.Read.{Plain};
-ghost use Rattle.cmd_parse.specs.declared.command.Verb.TheVariants.{TagVals};
+ghost use Rattle.cmd_parse.specs.declared.command.Verb.TheVariants.{ListIndexes, TagVals};
 ghost use Rattle.ft_base.specs.Reply.{fits_wire};
 ghost use Rattle.ft_base.specs.declared.doc.Doc.{Doc};
 ghost use Rattle.ft_base.specs.declared.reply.Reply.TheVariants.{Array, Bulk};
+ghost use Rattle.ft_index.specs.Index.{Index};
 ghost use Rattle.ft_machine.specs.Indexes.{listed, tag_field};
 ghost use Rattle.ft_machine.specs.Machine.{State};
 ghost use Rattle.ft_machine.specs.Step.{Does};
-ghost use Rattle.ft_index.specs.Index.{Index};
-ghost use Rattle.indexed_store.specs.DefinitionsOf.{definitions_of};
 ghost use Rattle.ft_machine.specs.TagValues.{tag_values};
+ghost use Rattle.indexed_store.specs.DefinitionsOf.{definitions_of};
+ghost use Rattle.indexed_store.specs.Holding.{state_at};
+ghost use Rattle.indexed_store.specs.Preparing.{OnlyReads};
 
 use crate::tag_walk::tag_values;
 use ft_base::{Field, IndexDef, ListOf, NoMemory, Reply, Words};
 use ft_index::FtIndex;
 use hash_store::HashStore;
-use indexed_store::index_named;
-use reply_buffer::{put_fault, put_made};
+use indexed_store::{IndexedStore, index_named};
+use reply_buffer::ReplyBuffer;
 use std::alloc::Global;
 
+/// Does FT._LIST, and writes the reply: the names of the indexes, in order of creation.
+pub fn answer_names(held: &mut IndexedStore, _args: &Words<'_>, reply: &mut ReplyBuffer)
+    ensures does { (latest : ℕ) → Does (Plain ListIndexes _args.now) held.old.next (state_at latest held.old)
+        reply.new.bytes (state_at latest held.old) }
+    ensures stays { OnlyReads held.old held.new }
+    ensures reads { held.new.reads ≡ held.old.reads }
+    ensures room { reply.old.room ≤ reply.new.room }
+{
+    reply.set_made(names_of_indexes(held.indexes.as_slice(), held.alloc));
+}
 
 /// The names of the indexes, in order of creation.
-pub fn names_of_indexes(indexes: &[FtIndex], alloc: Global) -> Result<Reply, NoMemory>
+fn names_of_indexes(indexes: &[FtIndex], alloc: Global) -> Result<Reply, NoMemory>
     ensures reply { IfOk result (λ reply. reply ≡ listed (definitions_of indexes.now)) }
     ensures fits { IfOk result (λ reply. IsTrue (fits_wire reply)) }
 {
@@ -45,32 +56,48 @@ fn bulks_of_names(indexes: &[FtIndex], alloc: Global) -> Result<ListOf<Reply>, N
 }
 
 /// Does FT.TAGVALS, and writes the reply.
-pub fn answer_tag_vals(
+pub fn answer_tag_vals(held: &mut IndexedStore, args: &Words<'_>, reply: &mut ReplyBuffer)
+    requires words { length args.now ≡ 2 }
+    ensures does { (latest : ℕ) → Does (Plain TagVals args.now) held.old.next (state_at latest held.old)
+        reply.new.bytes (state_at latest held.old) }
+    ensures stays { OnlyReads held.old held.new }
+    ensures room { reply.old.room ≤ reply.new.room }
+{
+    answer_tags_in(
+        &mut held.store,
+        held.indexes.as_slice(),
+        held.alloc,
+        args,
+        reply,
+    );
+}
+
+/// The same over the documents and the indexes by themselves.
+fn answer_tags_in(
     store: &mut HashStore,
     indexes: &[FtIndex],
     alloc: Global,
     args: &Words<'_>,
-    out: &mut Vec<u8>,
+    reply: &mut ReplyBuffer,
 )
-    requires number { length args.now ≡ 2 }
+    requires words { length args.now ≡ 2 }
     requires ids { All (λ (doc : Doc). 0 < doc.id) store.old.space }
-    requires empty { out.old.items ≡ [] }
-    requires room { SHORT_REPLY ≤ vec_capacity out.old }
     ensures does { (number : ℕ) (state : State) → state.space ≡ store.old.space
         → state.definitions ≡ definitions_of indexes.now
-        → Does (Plain TagVals args.now) number state out.new.items state }
+        → Does (Plain TagVals args.now) number state reply.new.bytes state }
     ensures space { store.new.space ≡ store.old.space }
+    ensures ready { store.new.ready ≡ store.old.ready }
     ensures last { store.new.last ≡ store.old.last }
-    ensures room { vec_capacity out.old ≤ vec_capacity out.new }
+    ensures room { reply.old.room ≤ reply.new.room }
 {
     let Some(index) = index_named(indexes, args.word(0)) else {
-        return put_fault(out, b"Unknown index name");
+        return reply.set_fault(b"Unknown index name");
     };
     let def = index.def();
     let Some(field) = tag_field(def.fields.as_slice(), args.word(1)) else {
-        return put_fault(out, b"Unknown field at word 2");
+        return reply.set_fault(b"Unknown field at word 2");
     };
-    put_made(tags_reply(store, alloc, def, field), out);
+    reply.set_made(tags_reply(store, alloc, def, field));
 }
 
 /// The distinct tags of a field over an index's members.
@@ -85,6 +112,7 @@ fn tags_reply(
         ≡ Array (map Bulk (tag_values def.now field.now store.old.space))) }
     ensures fits { IfOk result (λ reply. IsTrue (fits_wire reply)) }
     ensures space { store.new.space ≡ store.old.space }
+    ensures ready { store.new.ready ≡ store.old.ready }
     ensures last { store.new.last ≡ store.old.last }
 {
     let tags = tag_values(alloc, store, def, field)?;

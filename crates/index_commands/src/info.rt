@@ -1,42 +1,47 @@
 //! FT.INFO: what there is to tell of an index.
-ghost use Rattle.reply_buffer.specs.declared.short_reply.TheConstants.{SHORT_REPLY};
-ghost use Rattle.std.specs.Prelude.{◌≡◌, ◌<◌, ◌≤◌, ◌^◌, ℕ, List, [], vec_capacity, IfOk, IsTrue};
-ghost use Rattle.std.specs.List.{All, find};
-ghost use Rattle.cmd_parse.specs.Read.{InfoOf};
+ghost use Rattle.std.specs.Prelude.{◌≡◌, ◌<◌, ◌≤◌, ◌^◌, ℕ, List, length, IfOk, IsTrue};
+ghost use Rattle.std.specs.List.{find};
+ghost use Rattle.cmd_parse.specs.Read.{Plain};
+ghost use Rattle.cmd_parse.specs.declared.command.Verb.TheVariants.{Info};
 ghost use Rattle.ft_base.specs.Reply.{fits_wire};
 ghost use Rattle.ft_base.specs.declared.doc.Doc.{Doc};
+ghost use Rattle.ft_index.specs.Index.{Indexes};
+ghost use Rattle.ft_machine.specs.Arguments.{first};
 ghost use Rattle.ft_machine.specs.Informing.{Tells};
+ghost use Rattle.ft_machine.specs.Step.{Does, last_number};
 ghost use Rattle.index_commands.specs.Exactness.{TellsEntries, TellsOf};
+ghost use Rattle.indexed_store.specs.DefinitionsOf.{defined};
+ghost use Rattle.indexed_store.specs.Holding.{state_at};
 ghost use Rattle.indexed_store.specs.Named.{is_named};
-ghost use Rattle.ft_machine.specs.Machine.{State};
-ghost use Rattle.ft_machine.specs.Step.{Does};
-ghost use Rattle.ft_index.specs.Index.{Index, Indexes};
-ghost use Rattle.indexed_store.specs.DefinitionsOf.{defined, definitions_of};
+ghost use Rattle.indexed_store.specs.Preparing.{OnlyReads};
 
-use ft_base::{NoMemory, Reply};
-use ft_index::FtIndex;
 use crate::info_tree::info_reply;
+use ft_base::{NoMemory, Reply, Words};
+use ft_index::FtIndex;
 use ft_machine::Counts;
-
-use indexed_store::index_named;
-use reply_buffer::{put_fault, put_made};
+use indexed_store::IndexedStore;
+use reply_buffer::ReplyBuffer;
 use std::alloc::{AllocError, Global};
 
-/// Tells of an index, and writes the reply.
-pub fn answer_info(indexes: &[FtIndex], alloc: Global, name: &[u8], out: &mut Vec<u8>)
-    requires few { All (λ (index : Index). index.table.last < 2 ^ 62) indexes.now }
-    requires empty { out.old.items ≡ [] }
-    requires room { SHORT_REPLY ≤ vec_capacity out.old }
-    ensures does { (number : ℕ) (state : State) → state.definitions ≡ definitions_of indexes.now
-        → All (λ (index : Index). Indexes index state.space) indexes.now
-        → Does (InfoOf name.now) number state out.new.items state }
-    ensures records { TellsOf (find (is_named name.now) indexes.now) out.new.items }
-    ensures room { vec_capacity out.old ≤ vec_capacity out.new }
+/// Does FT.INFO, and writes the reply.
+pub fn answer_info(held: &mut IndexedStore, args: &Words<'_>, reply: &mut ReplyBuffer)
+    requires number { held.old.next < last_number }
+    requires words { length args.now ≡ 1 }
+    ensures does { (latest : ℕ) → Does (Plain Info args.now) held.old.next (state_at latest held.old)
+        reply.new.bytes (state_at latest held.old) }
+    // As many records are told as the lists have entries.
+    ensures records { TellsOf (find (is_named (first args.now)) held.old.indexes) reply.new.bytes }
+    ensures stays { OnlyReads held.old held.new }
+    ensures reads { held.new.reads ≡ held.old.reads }
+    ensures room { reply.old.room ≤ reply.new.room }
 {
-    let Some(index) = index_named(indexes, name) else {
-        return put_fault(out, b"Unknown index name");
+    let alloc = held.alloc;
+    // Tells that each index stands for the documents.
+    held.stand();
+    let Some(index) = held.index_named(args.word(0)) else {
+        return reply.set_fault(b"Unknown index name");
     };
-    put_made(told(index, alloc), out);
+    reply.set_made(told(index, alloc));
 }
 
 /// What there is to tell of an index. Where its lists have more entries than a reply can say, that

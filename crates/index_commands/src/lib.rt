@@ -16,7 +16,7 @@ mod tag_walk;
 /// FT.CREATE, FT.ALTER and FT.DROPINDEX.
 pub use definitions::{alter, create, drop_named};
 /// FT._LIST and FT.TAGVALS.
-pub use index_reads::{answer_tag_vals, names_of_indexes};
+pub use index_reads::{answer_names, answer_tag_vals};
 /// FT.INFO.
 pub use info::answer_info;
 /// FT.SEARCH.

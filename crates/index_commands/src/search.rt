@@ -1,73 +1,89 @@
 //! FT.SEARCH: the query is parsed by the fields of its index, and answered by its plan. The store is
 //! read for the documents that are shown with their fields, and for no other.
-ghost use Rattle.reply_buffer.specs.declared.short_reply.TheConstants.{SHORT_REPLY};
-ghost use Rattle.std.specs.Prelude.{◌≡◌, ◌<◌, ◌≤◌, ◌^◌, ◌⊎◌, ℕ, [], length, vec_capacity, IfOk, IsTrue, OnOk};
+ghost use Rattle.std.specs.Prelude.{◌≡◌, ◌<◌, ◌≤◌, ◌^◌, ◌⊎◌, ℕ, length, IfOk, IsTrue, OnOk};
 ghost use Rattle.std.specs.List.{All};
-ghost use Rattle.cmd_parse.specs.Read.{Search};
+ghost use Rattle.cmd_parse.specs.Read.{Search, search_of};
+ghost use Rattle.ft_base.specs.Memory.{out_of_memory};
 ghost use Rattle.ft_base.specs.Reply.{fits_wire, spelling};
 ghost use Rattle.ft_base.specs.declared.doc.Doc.{Doc};
 ghost use Rattle.ft_base.specs.declared.limits.TheConstants.{MAX_WORD_BYTES};
-ghost use Rattle.ft_machine.specs.Machine.{State};
-ghost use Rattle.index_commands.specs.Searchable.{IsSearchable};
-ghost use Rattle.ft_base.specs.Memory.{out_of_memory};
-ghost use Rattle.ft_machine.specs.Step.{Does};
 ghost use Rattle.ft_index.specs.Index.{Indexes, IsIndex};
+ghost use Rattle.ft_machine.specs.Machine.{State};
+ghost use Rattle.ft_machine.specs.Replies.{found_reply};
+ghost use Rattle.ft_machine.specs.Step.{Does, last_number};
 ghost use Rattle.ft_meaning.specs.Holds.{found_of};
 ghost use Rattle.ft_meaning.specs.Meaning.{ValuesFit};
-ghost use Rattle.indexed_store.specs.DefinitionsOf.{definitions_of};
-ghost use Rattle.index_commands.specs.Exactness.{ReadsRows};
 ghost use Rattle.hash_store.specs.Store.{reads_after};
+ghost use Rattle.index_commands.specs.Exactness.{ReadsRows};
+ghost use Rattle.indexed_store.specs.DefinitionsOf.{definitions_of};
+ghost use Rattle.indexed_store.specs.Holding.{state_at};
+ghost use Rattle.indexed_store.specs.Preparing.{OnlyReads};
+ghost use Rattle.indexed_store.specs.Standing.{InStep};
 ghost use Rattle.search_exec.specs.Ids.{reads_for};
-ghost use Rattle.ft_machine.specs.Replies.{found_reply};
 
 use cmd_parse::SearchSpec;
 use ft_base::{ListOf, NoMemory, Query, Reply, Steps};
 use ft_index::FtIndex;
 use hash_store::HashStore;
 use id_iters::Hints;
-use indexed_store::index_named;
+use indexed_store::{IndexedStore, index_named};
 use query_parse::parse;
 use query_plan::plan;
-use reply_buffer::{put_fault, put_made, put_query_refusal};
+use reply_buffer::ReplyBuffer;
 use search_exec::search_index;
 use std::alloc::Global;
 use std::marker::Brand;
 use std::sync::ledger::{Blank, Ledger};
 
 /// Searches an index, and writes the reply.
-pub fn answer_search(
+pub fn answer_search(held: &mut IndexedStore, search: &SearchSpec<'_>, reply: &mut ReplyBuffer)
+    requires number { held.old.next < last_number }
+    requires query { length search.now.query.now ≤ MAX_WORD_BYTES }
+    ensures does { (latest : ℕ) → Does (Search (search_of search.now)) held.old.next (state_at latest held.old)
+        reply.new.bytes (state_at latest held.old) }
+    ensures stays { OnlyReads held.old held.new }
+    // No more is read than is shown.
+    ensures reads { ReadsRows search.now.no_content reply.new.bytes held.old.reads held.new.reads }
+    ensures room { reply.old.room ≤ reply.new.room }
+{
+    answer_in(
+        &mut held.store,
+        held.indexes.as_slice(),
+        held.alloc,
+        search,
+        reply,
+    );
+}
+
+/// The same over the documents and the indexes by themselves, before the last event.
+fn answer_in(
     store: &mut HashStore,
     indexes: &[FtIndex],
     alloc: Global,
     search: &SearchSpec<'_>,
-    out: &mut Vec<u8>,
+    reply: &mut ReplyBuffer,
 )
     requires query { length search.now.query.now ≤ MAX_WORD_BYTES }
-    requires searchable { IsSearchable store.old indexes.now }
-    requires empty { out.old.items ≡ [] }
-    requires room { SHORT_REPLY ≤ vec_capacity out.old }
+    requires step { InStep store.old indexes.now last_number }
     ensures does { (number : ℕ) (state : State) → state.space ≡ store.old.space
         → state.definitions ≡ definitions_of indexes.now
-        → Does (Search search.now.index.now search.now.query.now search.now.no_content search.now.params)
-        number state out.new.items state }
+        → Does (Search (search_of search.now)) number state reply.new.bytes state }
+    ensures reads { ReadsRows search.now.no_content reply.new.bytes store.old.reads store.new.reads }
     ensures space { store.new.space ≡ store.old.space }
+    ensures ready { store.new.ready ≡ store.old.ready }
     ensures last { store.new.last ≡ store.old.last }
-
-    // No more is read than is shown.
-    ensures reads { ReadsRows search.now.no_content out.new.items store.old.reads store.new.reads }
-
-    ensures room { vec_capacity out.old ≤ vec_capacity out.new }
+    ensures room { reply.old.room ≤ reply.new.room }
 {
     let Some(index) = index_named(indexes, search.index) else {
-        return put_fault(out, b"Unknown index name");
+        return reply.set_fault(b"Unknown index name");
     };
     match parse(alloc, search.query, index.def(), &search.params) {
         Ok(query) => {
             let no_content = search.no_content;
-            answer_query(store, index, alloc, &query, no_content, out);
+            answer_query(store, index, alloc, &query, no_content, reply);
             drop(query);
         }
-        Err(fault) => put_query_refusal(fault, out),
+        Err(fault) => reply.set_query_refusal(fault),
     }
 }
 
@@ -78,24 +94,23 @@ fn answer_query(
     alloc: Global,
     query: &Query,
     no_content: bool,
-    out: &mut Vec<u8>,
+    reply: &mut ReplyBuffer,
 )
     requires stands { Indexes index.now store.old.space }
     requires sound { IsIndex index.now }
     requires few { index.now.table.last < 2 ^ 62 }
     requires values { All (λ (doc : Doc). ValuesFit doc.hash) store.old.space }
-    requires empty { out.old.items ≡ [] }
-    requires room { SHORT_REPLY ≤ vec_capacity out.old }
-    ensures found { (out.new.items
+    ensures found { (reply.new.bytes
         ≡ spelling (found_reply no_content (found_of query.now index.now.def store.old.space)))
-        ⊎ (out.new.items ≡ spelling out_of_memory) }
-    ensures reads { ReadsRows no_content out.new.items store.old.reads store.new.reads }
+        ⊎ (reply.new.bytes ≡ spelling out_of_memory) }
+    ensures reads { ReadsRows no_content reply.new.bytes store.old.reads store.new.reads }
     ensures space { store.new.space ≡ store.old.space }
+    ensures ready { store.new.ready ≡ store.old.ready }
     ensures last { store.new.last ≡ store.old.last }
-    ensures room { vec_capacity out.old ≤ vec_capacity out.new }
+    ensures room { reply.old.room ≤ reply.new.room }
 {
     let found = found_in::<Brand>(store, index, alloc, query, no_content, Blank::new(1));
-    put_made(found, out);
+    reply.set_made(found);
 }
 
 /// What a query finds in an index.
@@ -118,6 +133,7 @@ fn found_in<L: Ledger>(
         ≡ found_reply no_content (found_of query.now index.now.def store.old.space)) }
     ensures fits { IfOk result (λ reply. IsTrue (fits_wire reply)) }
     ensures space { store.new.space ≡ store.old.space }
+    ensures ready { store.new.ready ≡ store.old.ready }
     ensures last { store.new.last ≡ store.old.last }
     ensures reads { OnOk result (store.new.reads ≡ reads_after store.old.reads
         (reads_for no_content (length (found_of query.now index.now.def store.old.space)))) }

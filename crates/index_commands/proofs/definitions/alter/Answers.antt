@@ -1,31 +1,35 @@
-use Rattle.std.proofs.Common.{◌∙◌, ap, subst, sym, List}
-use Rattle.std.specs.List.{All}
-use Rattle.ft_base.specs.declared.doc.Doc.{Doc}
-use Rattle.ft_machine.specs.Definitions.{failures_over}
-use Rattle.indexed_store.specs.DefinitionsOf.{defined}
-use Rattle.indexed_store.proofs.ApartLaws.{new-apart}
-use Rattle.indexed_store.specs.Standing.{AreApart}
-use Rattle.index_commands.proofs.IndexCommandLaws.{alter-done, alter-fault, alter-more, alter-unknown, named-none, named-some}
+use Rattle.std.proofs.Common.{subst, arith, [], refl}
+use Rattle.ft_base.specs.declared.definition.IndexDef.{IndexDef}
+use Rattle.ft_schema.specs.Gives.{IsFaultOf}
+use Rattle.ft_schema.specs.Schema.{extended}
+use Rattle.index_commands.proofs.IndexCommandLaws.{alter-fault, alter-prepares, alter-unknown, extended-few, named-none, named-some, prepares-wanting}
+use Rattle.indexed_store.proofs.PreparingLaws.{prepares-nothing}
+use Rattle.indexed_store.specs.DefinitionsOf.{defined, definitions_of}
+use Rattle.indexed_store.specs.Holding.{state_at}
 use Rattle.reply_buffer.proofs.Spellings.{ok_written}
 use Rattle.index_commands.proofs.definitions.alter.Goals as goal
 
-pub returns-in_default-clause-does : goal.returns-in_default-clause-does
-returns-in_default-clause-does c state waits space same =
-    alter-unknown c.args.name.now c.args.fields.now c.args.number state _ (named-none c.args.indexes.now state.definitions c.args.name.now same c.in_default.ensures) c.put_fault.ensures.fault
+pub returns-in_default-clause-prepares : goal.returns-in_default-clause-prepares
+returns-in_default-clause-prepares c =
+    let held = c.args.held.now in
+    prepares-nothing _ held held _ refl refl (omega arith)
+    (λ latest. alter-unknown c.args.name.now c.args.fields.now held.next (state_at latest held) _ (named-none held.indexes (definitions_of held.indexes) c.args.name.now refl c.in_default.ensures) c.set_fault.ensures.bytes)
 
-pub returns-in-Ok-clause-does : goal.returns-in-Ok-clause-does
-returns-in-Ok-clause-does c state waits space same =
-    alter-done c.args.name.now c.args.fields.now c.args.number state _ (defined c.in-Some.index.now) c.in-Ok.extended (named-some c.args.indexes.now state.definitions c.args.name.now c.in-Some.index.now same c.in-Some.ensures) c.in-Ok.ensures.def
-    (c.in-Ok.ensures.failures ∙ ap (λ (docs : List Doc). failures_over c.in-Ok.extended.def docs c.in-Some.index.now.failures) (sym space)) (ok_written _ _ c.requires.empty c.put_short.ensures.text)
+pub returns-in-Err-clause-prepares : goal.returns-in-Err-clause-prepares
+returns-in-Err-clause-prepares c =
+    let held = c.args.held.now in
+    let index = c.in-Some.index.now in
+    prepares-nothing _ held held _ refl refl (omega arith)
+    (λ latest. alter-fault c.args.name.now c.args.fields.now held.next (state_at latest held) _ (defined index) c.in-Err.fault (named-some held.indexes (definitions_of held.indexes) c.args.name.now index refl c.in-Some.ensures)
+    (subst (λ (d : IndexDef). IsFaultOf c.in-Err.fault (extended d c.args.fields.now)) c.def.ensures.def c.in-Err.ensures.err) c.set_schema_refusal.ensures.bytes)
 
-pub returns-in-Ok-clause-ready : goal.returns-in-Ok-clause-ready
-returns-in-Ok-clause-ready c waits all same = (
-  alter-more c.args.indexes.now all c.args.name.now c.args.fields.now c.in-Some.index.now c.in-Ok.extended same c.in-Some.ensures c.requires.some c.in-Ok.ensures.def,
-  c.in-Ok.ensures.stands,
-  subst (All (AreApart c.in-Ok.extended)) (sym same) (new-apart c.args.store.now.space c.args.number c.args.indexes.now c.in-Ok.extended c.requires.kept.stand c.in-Ok.ensures.given),
-)
+pub index_over-requires-clause-fields : goal.index_over-requires-clause-fields
+index_over-requires-clause-fields c = extended-few c.def.result.now c.in-Some.index.now.def c.in-Ok.def c.args.fields.now c.def.ensures.def c.in-Ok.ensures.ok
 
-pub returns-in-Err-clause-does : goal.returns-in-Err-clause-does
-returns-in-Err-clause-does c state waits space same =
-    alter-fault c.args.name.now c.args.fields.now c.args.number state _ (defined c.in-Some.index.now) c.in-Err.fault (named-some c.args.indexes.now state.definitions c.args.name.now c.in-Some.index.now same c.in-Some.ensures) c.in-Err.ensures.fault
-    c.put_schema_refusal.ensures.fault
+pub returns-in-Ok-index_over-clause-prepares : goal.returns-in-Ok-index_over-clause-prepares
+returns-in-Ok-index_over-clause-prepares c =
+    alter-prepares c.args.name.now c.args.fields.now c.args.held.now _ c.in-Some.index.now c.in-Ok-index_over.extended c.def.result.now c.in-Ok.def c.failures-failures.result _ c.in-Some.ensures c.requires.some c.def.ensures.def c.in-Ok.ensures.ok
+    c.failures-failures.ensures.count c.in-Ok-index_over.ensures.made c.in-Ok-index_over.ensures.stays c.in-Ok-index_over.ensures.indexes (ok_written [] _ refl c.set_short.ensures.bytes)
+
+pub returns-in-Err-index_over-clause-prepares : goal.returns-in-Err-index_over-clause-prepares
+returns-in-Err-index_over-clause-prepares c = prepares-wanting _ _ _ _ tt c.in-Err-index_over.ensures.stays c.in-Err-index_over.ensures.indexes c.set_no_memory.ensures.bytes

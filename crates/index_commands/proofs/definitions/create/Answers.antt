@@ -1,38 +1,48 @@
-use Rattle.std.proofs.Common.{◌≡◌, ◌∙◌, ap, subst, sym, arith, length, List, ℕ}
+use Rattle.std.proofs.Common.{◌∙◌, ap, subst, sym, arith, length, List, ℕ, [], refl, rules}
 use Rattle.std.specs.Prelude.{is_some}
 use Rattle.std.proofs.lemmas.List.{length-map}
 use Rattle.std.specs.List.{All}
-use Rattle.ft_base.specs.declared.doc.Doc.{Doc}
 use Rattle.ft_index.specs.Index.{Index}
-use Rattle.ft_machine.specs.Definitions.{Defined, failures_over, index_of}
-use Rattle.indexed_store.specs.DefinitionsOf.{defined}
-use Rattle.indexed_store.proofs.ApartLaws.{new-apart}
+use Rattle.ft_machine.specs.Definitions.{index_of}
+use Rattle.index_commands.proofs.IndexCommandLaws.{create-done, create-full, create-taken, named-known, prepares-wanting}
+use Rattle.indexed_store.proofs.PreparingLaws.{prepares-nothing}
+use Rattle.indexed_store.specs.DefinitionsOf.{defined, definitions_of}
+use Rattle.indexed_store.specs.Holding.{state_at}
 use Rattle.indexed_store.specs.Standing.{AreApart}
-use Rattle.index_commands.proofs.IndexCommandLaws.{create-done, create-full, create-taken, named-known}
 use Rattle.reply_buffer.proofs.Spellings.{ok_written}
 use Rattle.index_commands.proofs.definitions.create.Goals as goal
 
-pub returns-then-is_some-clause-does : goal.returns-then-is_some-clause-does
-returns-then-is_some-clause-does c state waits space same =
-    let known = named-known c.args.indexes.now state.definitions c.as_slice.result.now c.index_named.result same c.index_named.ensures ∙ (sym c.is_some.ensures ∙ c.if-is_some.true) in
-    create-taken c.args.def c.args.number state _ (ap (λ (w : List ℕ). is_some (index_of state.definitions w)) (sym c.as_slice.ensures) ∙ known) c.put_fault.ensures.fault
+pub returns-then-is_some-clause-prepares : goal.returns-then-is_some-clause-prepares
+returns-then-is_some-clause-prepares c =
+    let held = c.args.held.now in
+    let known = named-known held.indexes (definitions_of held.indexes) c.as_slice.result.now c.index_named.result refl c.index_named.ensures ∙ (sym c.is_some.ensures ∙ c.if-is_some.true) in
+    prepares-nothing _ held held _ refl refl (omega arith)
+    (λ latest. create-taken c.args.def held.next (state_at latest held) _ (ap (λ (w : List ℕ). is_some (index_of (definitions_of held.indexes) w)) (sym c.as_slice.ensures) ∙ known) c.set_fault.ensures.bytes)
 
-pub returns-then-indexes-ge-MOST_INDEXES-clause-does : goal.returns-then-indexes-ge-MOST_INDEXES-clause-does
-returns-then-indexes-ge-MOST_INDEXES-clause-does c state waits space same =
-    let known = named-known c.args.indexes.now state.definitions c.as_slice.result.now c.index_named.result same c.index_named.ensures ∙ (sym c.is_some.ensures ∙ c.if-is_some.false) in
-    let many : length state.definitions ≡ length c.args.indexes.now = ap (λ (defs : List Defined). length defs) same ∙ length-map c.args.indexes.now defined in
-    create-full c.args.def c.args.number state _ (ap (λ (w : List ℕ). is_some (index_of state.definitions w)) (sym c.as_slice.ensures) ∙ known) (omega (arith, many, c.if-indexes-ge-MOST_INDEXES.true)) c.put_fault-then-indexes-ge-MOST_INDEXES.ensures.fault
+pub returns-then-index_count-ge-MOST_INDEXES-clause-prepares : goal.returns-then-index_count-ge-MOST_INDEXES-clause-prepares
+returns-then-index_count-ge-MOST_INDEXES-clause-prepares c =
+    let held = c.args.held.now in
+    let known = named-known held.indexes (definitions_of held.indexes) c.as_slice.result.now c.index_named.result refl c.index_named.ensures ∙ (sym c.is_some.ensures ∙ c.if-is_some.false) in
+    prepares-nothing _ held held _ refl refl (omega arith)
+    (λ latest. create-full c.args.def held.next (state_at latest held) _ (ap (λ (w : List ℕ). is_some (index_of (definitions_of held.indexes) w)) (sym c.as_slice.ensures) ∙ known)
+    (omega (arith, length-map held.indexes defined, c.index_count.ensures, c.if-index_count-ge-MOST_INDEXES.true)) c.set_fault-then-index_count-ge-MOST_INDEXES.ensures.bytes)
 
-pub returns-in-Ok-clause-does : goal.returns-in-Ok-clause-does
-returns-in-Ok-clause-does c state waits space same =
-    let known = named-known c.args.indexes.now state.definitions c.as_slice.result.now c.index_named.result same c.index_named.ensures ∙ (sym c.is_some.ensures ∙ c.if-is_some.false) in
-    let many : length state.definitions ≡ length c.args.indexes.now = ap (λ (defs : List Defined). length defs) same ∙ length-map c.args.indexes.now defined in
-    create-done c.args.def c.args.number state _ c.in-Ok.index (ap (λ (w : List ℕ). is_some (index_of state.definitions w)) (sym c.as_slice.ensures) ∙ known) (omega (arith, many, c.if-indexes-ge-MOST_INDEXES.false)) c.in-Ok.ensures.def
-    (c.in-Ok.ensures.failures ∙ ap (λ (docs : List Doc). failures_over c.args.def docs 0) (sym space)) (ok_written _ _ c.requires.empty c.put_short.ensures.text)
+pub returns-in-Ok-clause-prepares : goal.returns-in-Ok-clause-prepares
+returns-in-Ok-clause-prepares c =
+    let held = c.args.held.now in
+    let made = c.in-Ok.ensures.made in
+    let known = named-known held.indexes (definitions_of held.indexes) c.as_slice.result.now c.index_named.result refl c.index_named.ensures ∙ (sym c.is_some.ensures ∙ c.if-is_some.false) in
+    record {
+      does = λ latest. create-done c.args.def held.next (state_at latest held) _ c.in-Ok.index (ap (λ (w : List ℕ). is_some (index_of (definitions_of held.indexes) w)) (sym c.as_slice.ensures) ∙ known)
+          (omega (arith, length-map held.indexes defined, c.index_count.ensures, c.if-index_count-ge-MOST_INDEXES.false)) made.same made.failures (ok_written [] _ refl c.set_short.ensures.bytes);
+      stays = c.in-Ok.ensures.stays;
+      ready = (
+        omega (arith, ap (λ (is : List Index). length is) c.in-Ok.ensures.indexes, c.index_count.ensures, c.if-index_count-ge-MOST_INDEXES.false),
+        made.stands,
+        subst (All (AreApart c.in-Ok.index)) (sym c.in-Ok.ensures.indexes) made.apart,
+      );
+      still = search rules;
+    }
 
-pub returns-in-Ok-clause-ready : goal.returns-in-Ok-clause-ready
-returns-in-Ok-clause-ready c waits all same = (
-  omega (arith, ap (λ (is : List Index). length is) same, c.if-indexes-ge-MOST_INDEXES.false),
-  c.in-Ok.ensures.stands,
-  subst (All (AreApart c.in-Ok.index)) (sym same) (new-apart c.args.store.now.space c.args.number c.args.indexes.now c.in-Ok.index c.requires.kept.stand c.in-Ok.ensures.given),
-)
+pub returns-in-Err-clause-prepares : goal.returns-in-Err-clause-prepares
+returns-in-Err-clause-prepares c = prepares-wanting _ _ _ _ tt c.in-Err.ensures.stays c.in-Err.ensures.indexes c.set_no_memory.ensures.bytes

@@ -1,32 +1,40 @@
-use Rattle.std.proofs.Common.{◌∙◌, ap, sym, arith, List, ℕ}
+use Rattle.std.proofs.Common.{◌∙◌, ap, sym, arith, List, ℕ, [], refl, rules}
 use Rattle.std.specs.Prelude.{is_some, not}
 use Rattle.ft_machine.specs.Definitions.{index_of}
-use Rattle.indexed_store.specs.DefinitionsOf.{definitions_of}
 use Rattle.index_commands.proofs.IndexCommandLaws.{drop-one, drop-two, drop-unknown, named-known}
+use Rattle.indexed_store.proofs.PreparingLaws.{prepares-nothing}
+use Rattle.indexed_store.specs.DefinitionsOf.{definitions_of}
+use Rattle.indexed_store.specs.Holding.{state_at}
 use Rattle.reply_buffer.proofs.Spellings.{ok_written}
 use Rattle.index_commands.proofs.definitions.drop_named.Goals as goal
 
-pub returns-then-is_none-clause-does : goal.returns-then-is_none-clause-does
-returns-then-is_none-clause-does c number state waits same =
-    let known = named-known c.args.indexes.now state.definitions c.word-name.result.now c.index_named.result same c.index_named.ensures ∙ (c.is_none.ensures ∙ ap not c.if-is_none.true) in
-    drop-unknown c.args.args.now number state _ (ap (λ (w : List ℕ). is_some (index_of state.definitions w)) (sym c.word-name.ensures) ∙ known) c.put_fault.ensures.fault
+pub returns-then-is_none-clause-prepares : goal.returns-then-is_none-clause-prepares
+returns-then-is_none-clause-prepares c =
+    let held = c.args.held.now in
+    let known = named-known held.indexes (definitions_of held.indexes) c.word-name.result.now c.index_named.result refl c.index_named.ensures ∙ (c.is_none.ensures ∙ ap not c.if-is_none.true) in
+    prepares-nothing _ held held _ refl refl (omega arith)
+    (λ latest. drop-unknown c.args.args.now held.next (state_at latest held) _ (ap (λ (w : List ℕ). is_some (index_of (definitions_of held.indexes) w)) (sym c.word-name.ensures) ∙ known) c.set_fault.ensures.bytes)
 
-pub returns-then-len-eq1-clause-does : goal.returns-then-len-eq1-clause-does
-returns-then-len-eq1-clause-does c number state waits same =
-    let known = named-known c.args.indexes.now state.definitions c.word-name.result.now c.index_named.result same c.index_named.ensures ∙ (c.is_none.ensures ∙ ap not c.if-is_none.false) in
-    drop-one c.args.args.now number state _ c.word-name.result.now (ap (λ (w : List ℕ). is_some (index_of state.definitions w)) (sym c.word-name.ensures) ∙ known) (omega (arith, c.len.ensures, c.if-len-eq1.true)) c.word-name.ensures
-    (ok_written _ _ c.requires.empty c.put_short.ensures.text)
+pub returns-then-len-eq1-clause-prepares : goal.returns-then-len-eq1-clause-prepares
+returns-then-len-eq1-clause-prepares c =
+    let held = c.args.held.now in
+    let known = named-known held.indexes (definitions_of held.indexes) c.word-name.result.now c.index_named.result refl c.index_named.ensures ∙ (c.is_none.ensures ∙ ap not c.if-is_none.false) in
+    record {
+      does = λ latest. drop-one c.args.args.now held.next (state_at latest held) _ c.word-name.result.now (ap (λ (w : List ℕ). is_some (index_of (definitions_of held.indexes) w)) (sym c.word-name.ensures) ∙ known)
+          (omega (arith, c.len.ensures, c.if-len-eq1.true)) c.word-name.ensures (ok_written [] _ refl c.set_short.ensures.bytes);
+      stays = record { space = refl; definitions = refl; next = omega arith };
+      ready = known;
+      still = search rules;
+    }
 
-pub returns-then-len-eq1-clause-ready : goal.returns-then-len-eq1-clause-ready
-returns-then-len-eq1-clause-ready c number space waits all same =
-    named-known c.args.indexes.now (definitions_of all) c.word-name.result.now c.index_named.result (ap definitions_of same) c.index_named.ensures ∙ (c.is_none.ensures ∙ ap not c.if-is_none.false)
-
-pub returns-clause-does : goal.returns-clause-does
-returns-clause-does c number state waits same =
-    let known = named-known c.args.indexes.now state.definitions c.word-name.result.now c.index_named.result same c.index_named.ensures ∙ (c.is_none.ensures ∙ ap not c.if-is_none.false) in
-    drop-two c.args.args.now number state _ c.word-name.result.now (ap (λ (w : List ℕ). is_some (index_of state.definitions w)) (sym c.word-name.ensures) ∙ known) (omega (arith, c.len.ensures, c.if-len-eq1.false, c.requires.number.0)) c.word-name.ensures
-    (ok_written _ _ c.requires.empty c.put_short.ensures.text)
-
-pub returns-clause-ready : goal.returns-clause-ready
-returns-clause-ready c number space waits all same =
-    named-known c.args.indexes.now (definitions_of all) c.word-name.result.now c.index_named.result (ap definitions_of same) c.index_named.ensures ∙ (c.is_none.ensures ∙ ap not c.if-is_none.false)
+pub returns-clause-prepares : goal.returns-clause-prepares
+returns-clause-prepares c =
+    let held = c.args.held.now in
+    let known = named-known held.indexes (definitions_of held.indexes) c.word-name.result.now c.index_named.result refl c.index_named.ensures ∙ (c.is_none.ensures ∙ ap not c.if-is_none.false) in
+    record {
+      does = λ latest. drop-two c.args.args.now held.next (state_at latest held) _ c.word-name.result.now (ap (λ (w : List ℕ). is_some (index_of (definitions_of held.indexes) w)) (sym c.word-name.ensures) ∙ known)
+          (omega (arith, c.len.ensures, c.if-len-eq1.false, c.requires.words.0)) c.word-name.ensures (ok_written [] _ refl c.set_short.ensures.bytes);
+      stays = record { space = refl; definitions = refl; next = omega arith };
+      ready = known;
+      still = search rules;
+    }

@@ -1,26 +1,41 @@
-use Rattle.std.specs.Prelude.{◌<◌, ◌^◌, Option}
-use Rattle.std.proofs.Common.{subst, sym}
-use Rattle.ft_index.specs.Index.{Index, Indexes}
-use Rattle.indexed_store.proofs.NamedLaws.{named-has}
-use Rattle.index_commands.specs.Exactness.{TellsOf}
+use Rattle.std.specs.Prelude.{Option}
+use Rattle.std.proofs.Common.{arith, refl, subst, sym}
+use Rattle.ft_index.specs.Index.{Index}
+use Rattle.ft_machine.specs.Arguments.{first}
 use Rattle.index_commands.proofs.ExactLaws.{tells-told}
-use Rattle.index_commands.proofs.InfoLaws.{informs-index, informs-none, told-at}
+use Rattle.index_commands.proofs.InfoLaws.{found-by, informs-index, informs-none, told-at}
+use Rattle.index_commands.specs.Exactness.{TellsOf}
+use Rattle.indexed_store.proofs.NamedLaws.{named-has}
+use Rattle.indexed_store.specs.Holding.{state_at}
+use Rattle.indexed_store.specs.Standing.{IndexStands, markers_at}
 use Rattle.index_commands.proofs.info.answer_info.Goals as goal
 
 pub returns-in_default-clause-does : goal.returns-in_default-clause-does
-returns-in_default-clause-does c number state same each = informs-none c.args.indexes.now state number c.args.name.now _ same (sym c.in_default.ensures) c.put_fault.ensures.fault
+returns-in_default-clause-does c latest =
+    let held = c.args.held.now in
+    informs-none held.indexes (state_at latest held) held.next c.args.args.now _ refl (found-by held.indexes (first c.args.args.now) c.word.result.now _ c.word.ensures c.in_default.ensures) c.set_fault.ensures.bytes
 
 pub told-requires : goal.told-requires
-told-requires c = record { few = named-has (λ (index : Index). index.table.last < 2 ^ 62) c.args.indexes.now c.args.name.now c.in-Some.index.now c.requires.few (sym c.in-Some.ensures) }
+told-requires c =
+    let held = c.args.held.now in
+    let stands = named-has (IndexStands held.space held.next (markers_at held.next)) held.indexes c.word.result.now c.in-Some.index.now (c.stand.ensures.stand held.next (omega arith)).indexes (sym c.in-Some.ensures) in
+    record { few = omega (arith, stands.earlier, c.requires.number) }
 
 pub returns-clause-does : goal.returns-clause-does
-returns-clause-does c number state same each =
-    informs-index c.args.indexes.now c.in-Some.index.now state number c.args.name.now _ c.told.result same (sym c.in-Some.ensures)
-    (told-at c.in-Some.index.now c.told.result state.space (named-has (λ (index : Index). Indexes index state.space) c.args.indexes.now c.args.name.now c.in-Some.index.now each (sym c.in-Some.ensures)) c.told.ensures.tells) c.put_made.ensures.told
+returns-clause-does c latest =
+    let held = c.args.held.now in
+    let index = c.in-Some.index.now in
+    let stands = named-has (IndexStands held.space held.next (markers_at held.next)) held.indexes c.word.result.now index (c.stand.ensures.stand held.next (omega arith)).indexes (sym c.in-Some.ensures) in
+    informs-index held.indexes index (state_at latest held) held.next c.args.args.now _ c.told.result refl (found-by held.indexes (first c.args.args.now) c.word.result.now _ c.word.ensures c.in-Some.ensures)
+    (told-at index c.told.result held.space stands.documents c.told.ensures.tells) c.set_made.ensures.told
 
 pub returns-in_default-clause-records : goal.returns-in_default-clause-records
-returns-in_default-clause-records c = subst (λ (found : Option Index). TellsOf found c.put_fault.new.out.items) c.in_default.ensures tt
+returns-in_default-clause-records c =
+    let held = c.args.held.now in
+    subst (λ (found : Option Index). TellsOf found c.set_fault.new.self.bytes) (sym (found-by held.indexes (first c.args.args.now) c.word.result.now _ c.word.ensures c.in_default.ensures)) tt
 
 pub returns-clause-records : goal.returns-clause-records
 returns-clause-records c =
-    subst (λ (found : Option Index). TellsOf found c.put_made.new.out.items) c.in-Some.ensures (tells-told c.in-Some.index.now c.told.result c.put_made.new.out.items c.told.ensures.exact c.put_made.ensures.told)
+    let held = c.args.held.now in
+    subst (λ (found : Option Index). TellsOf found c.set_made.new.self.bytes) (sym (found-by held.indexes (first c.args.args.now) c.word.result.now _ c.word.ensures c.in-Some.ensures))
+    (tells-told c.in-Some.index.now c.told.result c.set_made.new.self.bytes c.told.ensures.exact c.set_made.ensures.told)

@@ -1,0 +1,37 @@
+use Rattle.std.proofs.Common.{arith, inl, inr, refl, sym}
+use Rattle.cmd_parse.specs.Read.{search_of}
+use Rattle.ft_machine.specs.Indexes.{unknown_index}
+use Rattle.ft_machine.specs.Step.{last_number}
+use Rattle.index_commands.proofs.SearchLaws.{searches-fault_of, searches-found, searches-none}
+use Rattle.indexed_store.proofs.NamedLaws.{named-has}
+use Rattle.indexed_store.specs.Standing.{IndexStands, markers_at}
+use Rattle.query_grammar.specs.Refusals.{query_refusal}
+use Rattle.index_commands.proofs.search.answer_in.Goals as goal
+
+pub answer_query-requires-clause-stands : goal.answer_query-requires-clause-stands
+answer_query-requires-clause-stands c =
+    (named-has (IndexStands c.args.store.now.space last_number (markers_at last_number)) c.args.indexes.now c.args.search.now.index.now c.in-Some.index.now c.requires.step.stand (sym c.in-Some.ensures)).documents
+
+pub answer_query-requires-clause-few : goal.answer_query-requires-clause-few
+answer_query-requires-clause-few c =
+    (named-has (IndexStands c.args.store.now.space last_number (markers_at last_number)) c.args.indexes.now c.args.search.now.index.now c.in-Some.index.now c.requires.step.stand (sym c.in-Some.ensures)).earlier
+
+pub returns-in_default-clause-does : goal.returns-in_default-clause-does
+returns-in_default-clause-does c number state all same =
+    searches-none c.args.indexes.now state number (search_of c.args.search.now) _ same (sym c.in_default.ensures) c.set_fault.ensures.bytes
+
+pub returns-in-Ok-clause-does : goal.returns-in-Ok-clause-does
+returns-in-Ok-clause-does c number state all same =
+    searches-found c.args.indexes.now c.in-Some.index.now c.def.result.now state number (search_of c.args.search.now) _ c.in-Ok.query c.args.store.now.space
+    same (sym c.in-Some.ensures) c.def.ensures.def all c.in-Ok.ensures.exact c.answer_query.ensures.found
+
+pub returns-in-Err-clause-does : goal.returns-in-Err-clause-does
+returns-in-Err-clause-does c number state all same =
+    searches-fault_of c.args.indexes.now c.in-Some.index.now c.def.result.now state number (search_of c.args.search.now) _ c.in-Err.fault
+    same (sym c.in-Some.ensures) c.def.ensures.def c.in-Err.ensures.exact c.set_query_refusal.ensures.bytes
+
+pub returns-in_default-clause-reads : goal.returns-in_default-clause-reads
+returns-in_default-clause-reads c = inr (inl ((unknown_index, c.set_fault.ensures.bytes), refl))
+
+pub returns-in-Err-clause-reads : goal.returns-in-Err-clause-reads
+returns-in-Err-clause-reads c = inr (inl ((query_refusal c.in-Err.fault, c.set_query_refusal.ensures.bytes), refl))
