@@ -9,6 +9,9 @@ pub mod TagLaws
 pub mod RangeLaws
 pub mod MeetLaws
 pub mod NameLaws
+pub mod KnownLaws
+pub mod HintLaws
 pub mod UnionLaws
 pub mod PlanLaws
+pub mod AloneLaws
 pub mod FoundLaws

@@ -1,5 +1,6 @@
 //! Planned parts, and how many ids each has at most.
 ghost use Rattle.std.specs.Prelude.{◌≡◌, ◌∷◌, ◌++◌, [], true, false, ℕ, OnOk};
+ghost use Rattle.id_iters.specs.Fitting.{leaves_of};
 ghost use Rattle.id_iters.specs.Held.{Held};
 ghost use Rattle.id_iters.specs.Ready.{Ready};
 ghost use Rattle.id_iters.specs.Sets.{about};
@@ -19,6 +20,7 @@ impl Planned {
     pub fn none() -> Planned
         ensures set { (held : Held) → (about held result.iter).has ≡ (λ id. false) }
         ensures ready { (held : Held) (from : ℕ) → Ready held result.iter from }
+        ensures leaves { leaves_of result.iter ≡ [] }
     {
         Planned {
             iter: Iter::of_none(),
@@ -30,6 +32,7 @@ impl Planned {
     pub fn all() -> Planned
         ensures set { (held : Held) → (about held result.iter).has ≡ (λ id. true) }
         ensures ready { (held : Held) (from : ℕ) → Ready held result.iter from }
+        ensures leaves { leaves_of result.iter ≡ [] }
     {
         Planned {
             iter: Iter::of_all(),

@@ -1,24 +1,18 @@
-use Rattle.std.proofs.Common.{List, refl, sym, ap, ◌∙◌}
+use Rattle.std.proofs.Common.{rules, ◌+◌, take, [], ◌∷◌, List, refl, sym, ap, ◌∙◌, subst}
 use Rattle.ft_base.specs.declared.query.Query.{Query}
 use Rattle.ft_base.specs.declared.query.Query.TheVariants as query
-use Rattle.query_plan.specs.Plans.{ids_of}
-use Rattle.query_plan.proofs.PlanLaws.{all_tell, every_tells, none_tells, optional_tells, other_tells, some_tells, tells_same}
+use Rattle.query_plan.specs.Known.{place_of}
+use Rattle.query_plan.specs.declared.size.Planned.{Planned}
+use Rattle.query_plan.specs.Plans.{AllReady, PartsKnown, PartsOpen, ids_of}
+use Rattle.query_plan.proofs.UnionLaws.{all_apart, all_joined, more}
+use Rattle.query_plan.proofs.AloneLaws.{alone}
+use Rattle.query_plan.proofs.PlanLaws.{every_tells, one_more_tells, other_tells, some_tells, tells_same}
 use Rattle.query_plan.proofs.planner.+plan.Goals as goal
-
-pub plan-returns-in-Empty-clause-set : goal.plan-returns-in-Empty-clause-set
-plan-returns-in-Empty-clause-set g t c =
-    let held = g.T.Lists.held c.args.sources.now.lists.now in
-    none_tells c.args.sources.now.def.now c.args.sources.now.parts.now held c.args.query.now _ c.in-Empty.is (c.none.ensures.set held)
-
-pub plan-returns-in-All-clause-set : goal.plan-returns-in-All-clause-set
-plan-returns-in-All-clause-set g t c =
-    let held = g.T.Lists.held c.args.sources.now.lists.now in
-    all_tell c.args.sources.now.def.now c.args.sources.now.parts.now held c.args.query.now _ c.in-All.is (c.all.ensures.set held)
 
 pub plan-returns-in-And-clause-set : goal.plan-returns-in-And-clause-set
 plan-returns-in-And-clause-set g t c =
     tells_same c.args.sources.now.def.now c.args.sources.now.parts.now (g.T.Lists.held c.args.sources.now.lists.now) c.args.query.now _ c.plan_every.result
-    (c.in-And.is ∙ ap (λ (parts : List Query). query.And parts) (sym c.as_slice-in-And.ensures)) c.plan_every.ensures.set
+    (c.in-And.is ∙ ap (λ (parts : List Query). query.And parts) (sym c.as_slice.ensures)) c.plan_every.ensures.set
 
 pub plan-returns-in-Or-clause-set : goal.plan-returns-in-Or-clause-set
 plan-returns-in-Or-clause-set g t c =
@@ -48,7 +42,37 @@ plan_other-returns-clause-set g t c =
     other_tells c.args.sources.now.def.now c.args.sources.now.parts.now held c.args.query.now _
     (ids_of held c.in_ok-planned.planned) (ids_of held c.in_ok-other_of.field-0) refl c.in_ok-planned.ensures.set (c.in_ok-other_of.ensures.set held)
 
-pub plan-returns-in-Optional-clause-set : goal.plan-returns-in-Optional-clause-set
-plan-returns-in-Optional-clause-set g t c =
-    let held = g.T.Lists.held c.args.sources.now.lists.now in
-    optional_tells c.args.sources.now.def.now c.args.sources.now.parts.now held c.in-Optional.field-0 c.args.query.now _ c.in-Optional.is (c.all-in-Optional.ensures.set held)
+pub plan-plan_one-requires : goal.plan-plan_one-requires
+plan-plan_one-requires g t c = record { known = c.requires; alone = alone c.args.query.now c.in_default.not-And c.in_default.not-Or c.in_default.not-Not }
+
+pub plan_every-returns-clause-placed : goal.plan_every-returns-clause-placed
+plan_every-returns-clause-placed g t c =
+    c.in_ok-every_of.ensures.placed (g.T.Lists.held c.args.sources.now.lists.now) c.args.sources.now.after c.in_ok-plans.ensures.placed
+
+pub plan_every-returns-clause-free : goal.plan_every-returns-clause-free
+plan_every-returns-clause-free g t c = λ known. c.in_ok-plans.ensures.free (c.in_ok-every_of.ensures.known (place_of c.args.sources.now.known.now) known)
+
+pub plan_some-returns-clause-placed : goal.plan_some-returns-clause-placed
+plan_some-returns-clause-placed g t c =
+    (c.in_ok-some_of.ensures.placed (g.T.Lists.held c.args.sources.now.lists.now) c.args.sources.now.after c.in_ok-plans.ensures.placed).0
+
+pub plan_some-returns-clause-free : goal.plan_some-returns-clause-free
+plan_some-returns-clause-free g t c = λ known. c.in_ok-plans.ensures.free (c.in_ok-some_of.ensures.known (place_of c.args.sources.now.known.now) (known, tt))
+
+pub plan_each-queries-preserved : goal.plan_each-queries-preserved
+plan_each-queries-preserved g t c = record {
+  set =
+      one_more_tells c.args.sources.now.def.now c.args.sources.now.parts.now (g.T.Lists.held c.args.sources.now.lists.now)
+      (take c.queries.query-index c.args.queries.now) (take (c.queries.query-index + 1) c.args.queries.now) c.query-item.result c.queries.plans.items _ c.in_ok-plan.field-0
+      (more c.args.queries.now c.queries.query-index c.query-item.result (search rules) c.query-item.is) c.in_ok-add_planned.ensures c.queries.invariant.set c.in_ok-plan.ensures.set;
+  ready =
+      subst (λ (plans : List Planned). AllReady (g.T.Lists.held c.args.sources.now.lists.now) plans (c.args.sources.now.after + 1)) (sym c.in_ok-add_planned.ensures)
+      (all_joined _ c.queries.plans.items (c.in_ok-plan.field-0 ∷ []) c.queries.invariant.ready (c.in_ok-plan.ensures.ready, tt));
+  placed =
+      subst (PartsOpen (g.T.Lists.held c.args.sources.now.lists.now) c.args.sources.now.after) (sym c.in_ok-add_planned.ensures)
+      (all_joined _ c.queries.plans.items (c.in_ok-plan.field-0 ∷ []) c.queries.invariant.placed (c.in_ok-plan.ensures.placed, tt));
+  free = λ known.
+      let apart = all_apart _ c.queries.plans.items (c.in_ok-plan.field-0 ∷ []) (subst (PartsKnown (place_of c.args.sources.now.known.now)) c.in_ok-add_planned.ensures known) in
+      c.in_ok-plan.ensures.free apart.1.0 ∙ c.queries.invariant.free apart.0;
+  counts = search rules;
+}
