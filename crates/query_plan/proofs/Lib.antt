@@ -13,5 +13,5 @@ pub mod KnownLaws
 pub mod HintLaws
 pub mod UnionLaws
 pub mod PlanLaws
-pub mod AloneLaws
+pub mod OtherLaws
 pub mod FoundLaws

@@ -32,12 +32,14 @@ abbrev pub passes : {X : Type 0} → (X → Bool) → Option X → Bool
 passes test None = false
 passes test (Some x) = test x
 
--- whether a query is made of no others that are asked
-abbrev pub alone_step : layer.Query-F Bool → Bool
-alone_step (layer.And parts) = false
-alone_step (layer.Or parts) = false
-alone_step (layer.Not part) = false
-alone_step other = true
+-- whether a query asks neither for a word or a prefix nor for what other queries find
+abbrev pub asks_other_step : layer.Query-F Bool → Bool
+asks_other_step (layer.Word fields text) = false
+asks_other_step (layer.Prefix fields text) = false
+asks_other_step (layer.And parts) = false
+asks_other_step (layer.Or parts) = false
+asks_other_step (layer.Not part) = false
+asks_other_step other = true
 
-abbrev pub stands_alone : Query → Bool
-stands_alone = fold-Query Bool alone_step
+abbrev pub asks_other : Query → Bool
+asks_other = fold-Query Bool asks_other_step

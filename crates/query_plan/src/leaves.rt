@@ -1,5 +1,5 @@
 //! The leaves of a plan: lists that are opened behind an id.
-ghost use Rattle.std.specs.Prelude.{◌≡◌, ◌≤◌, ◌+◌, map, IfOk, IsSome};
+ghost use Rattle.std.specs.Prelude.{◌≡◌, ◌≤◌, ◌+◌, [], map, IfOk, IsSome, OnOk};
 ghost use Rattle.id_iters.specs.Fitting.{IsOpenAt, leaves_of};
 ghost use Rattle.id_iters.specs.Leaves.{list_has};
 ghost use Rattle.id_iters.specs.Places.{LeafReady};
@@ -108,32 +108,33 @@ pub fn plan_lists<T: Lists, L: Ledger>(
         AllKnown (place_of sources.now.known.now) (leaves_of planned.iter) → steps.new ≡ steps.old) }
     ensures counts { steps.old ≤ steps.new }
 {
-    let plans = plan_each_list(sources, lists, wanted, steps)?;
+    let mut plans = Vec::new(sources.alloc);
+    plan_each_list(sources, lists, wanted, &mut plans, steps)?;
     Ok(some_of(sources.alloc, plans)?)
 }
 
-// The ids of each list.
+// The ids of each list go into a vector that has none.
 fn plan_each_list<T: Lists, L: Ledger>(
     sources: &Sources<T>,
     lists: Vec<ListName>,
     wanted: &Wanted,
+    plans: &mut Vec<Planned>,
     steps: &mut Steps<L>,
-) -> Result<Vec<Planned>, NoMemory>
-    requires { KnownFit (T.held sources.now.lists.now) sources.now.after (place_of sources.now.known.now) }
-    ensures set { IfOk result (λ plans.
-        map (λ planned. ids_of (T.held sources.now.lists.now) planned) plans.items
+) -> Result<(), NoMemory>
+    requires known { KnownFit (T.held sources.now.lists.now) sources.now.after (place_of sources.now.known.now) }
+    requires empty { plans.old.items ≡ [] }
+    ensures set { OnOk result (map (λ planned. ids_of (T.held sources.now.lists.now) planned) plans.new.items
         ≡ map (λ name. list_has (T.held sources.now.lists.now) name wanted.now.fields.now wanted.now.low wanted.now.high) lists.items) }
-    ensures ready { IfOk result (λ plans.
-        AllReady (T.held sources.now.lists.now) plans.items (sources.now.after + 1)) }
-    ensures placed { IfOk result (λ plans.
-        PartsOpen (T.held sources.now.lists.now) sources.now.after plans.items) }
-    ensures free { IfOk result (λ plans.
-        PartsKnown (place_of sources.now.known.now) plans.items → steps.new ≡ steps.old) }
+    ensures ready { OnOk result
+        (AllReady (T.held sources.now.lists.now) plans.new.items (sources.now.after + 1)) }
+    ensures placed { OnOk result
+        (PartsOpen (T.held sources.now.lists.now) sources.now.after plans.new.items) }
+    ensures free { OnOk result
+        (PartsKnown (place_of sources.now.known.now) plans.new.items → steps.new ≡ steps.old) }
     ensures counts { steps.old ≤ steps.new }
 {
-    let mut plans = Vec::new(sources.alloc);
     'lists: for list in lists {
-        add_planned(&mut plans, plan_list(sources, list, wanted, steps)?)?;
+        add_planned(plans, plan_list(sources, list, wanted, steps)?)?;
     }
-    Ok(plans)
+    Ok(())
 }

@@ -161,16 +161,39 @@ fn phrase_leaves<T: Lists, L: Ledger>(
         AllKnown (place_of sources.now.known.now) leaves → steps.new ≡ steps.old) }
     ensures counts { steps.old ≤ steps.new }
 {
+    let mut leaves = ListOf::new(sources.alloc);
+    add_leaves(sources, phrase, &mut leaves, steps)?;
+    Ok(leaves)
+}
+
+// The leaves of the words go into a list that has none.
+fn add_leaves<T: Lists, L: Ledger>(
+    sources: &Sources<T>,
+    phrase: &Phrase,
+    leaves: &mut ListOf<Leaf>,
+    steps: &mut Steps<L>,
+) -> Result<(), NoMemory>
+    requires known { KnownFit (T.held sources.now.lists.now) sources.now.after (place_of sources.now.known.now) }
+    requires empty { leaves.old ≡ [] }
+    ensures names { OnOk result
+        (list_names leaves.new ≡ map (λ word. ListName.Word word) phrase.now.words.now) }
+    ensures ready { OnOk result
+        (LeavesReady (T.held sources.now.lists.now) leaves.new (sources.now.after + 1)) }
+    ensures placed { OnOk result
+        (AllOpen (T.held sources.now.lists.now) sources.now.after leaves.new) }
+    ensures free { OnOk result
+        (AllKnown (place_of sources.now.known.now) leaves.new → steps.new ≡ steps.old) }
+    ensures counts { steps.old ≤ steps.new }
+{
     let wanted = Wanted {
         fields: phrase.fields,
         low: 0,
         high: 0,
     };
-    let mut leaves = ListOf::new(sources.alloc);
     'words: for word in phrase.words {
-        add_leaf(&mut leaves, word_leaf(sources, word, &wanted, steps)?)?;
+        add_leaf(leaves, word_leaf(sources, word, &wanted, steps)?)?;
     }
-    Ok(leaves)
+    Ok(())
 }
 
 fn add_leaf(leaves: &mut ListOf<Leaf>, leaf: Leaf) -> Result<(), NoMemory>

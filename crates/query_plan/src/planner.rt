@@ -1,5 +1,5 @@
 //! The tree of a query as a tree of iterators.
-ghost use Rattle.std.specs.Prelude.{◌≡◌, ◌≤◌, ◌+◌, ℕ, List, true, IfOk};
+ghost use Rattle.std.specs.Prelude.{◌≡◌, ◌≤◌, ◌+◌, [], ℕ, List, true, IfOk, OnOk};
 ghost use Rattle.std.specs.List.{All};
 ghost use Rattle.ft_base.specs.declared.doc.Doc.{Doc};
 ghost use Rattle.ft_base.specs.declared.query.Query.TheVariants as tree;
@@ -11,7 +11,7 @@ ghost use Rattle.id_iters.specs.Sets.{in_set};
 ghost use Rattle.query_plan.specs.Finds.{AreOf, finds};
 ghost use Rattle.query_plan.specs.Known.{KnownFit, place_of};
 ghost use Rattle.query_plan.specs.Plans.{AllKnown, AllOpen, AllReady, AllTell, HintsFit, PartsKnown, PartsOpen, Tells, ids_of};
-ghost use Rattle.query_plan.specs.Sought.{stands_alone};
+ghost use Rattle.query_plan.specs.Sought.{asks_other};
 
 use crate::known::known_places;
 use crate::phrases::{Phrase, plan_phrase};
@@ -88,21 +88,23 @@ fn plan<T: Lists, L: Ledger>(
     ensures counts { steps.old ≤ steps.new }
 {
     match query {
+        Query::Word { fields, text } => plan_word(sources, fields, text, steps),
+        Query::Prefix { fields, text } => plan_prefix(sources, fields, text, steps),
         Query::And(parts) => plan_every(sources, parts.as_slice(), steps),
         Query::Or(parts) => plan_some(sources, parts.as_slice(), steps),
         Query::Not(part) => plan_other(sources, part.get(), steps),
-        _ => plan_one(sources, query, steps),
+        _ => plan_other_leaf(sources, query, steps),
     }
 }
 
-// The plan of a part that is made of no others.
-fn plan_one<T: Lists, L: Ledger>(
+// The plan of a part that asks neither for words nor for what other parts find.
+fn plan_other_leaf<T: Lists, L: Ledger>(
     sources: &Sources<T>,
     query: &Query,
     steps: &mut Steps<L>,
 ) -> Result<Planned, NoMemory>
     requires known { KnownFit (T.held sources.now.lists.now) sources.now.after (place_of sources.now.known.now) }
-    requires alone { stands_alone query.now ≡ true }
+    requires other { asks_other query.now ≡ true }
     ensures set { IfOk result (λ planned.
         Tells sources.now.def.now sources.now.parts.now (T.held sources.now.lists.now)
         (λ doc. holds query.now sources.now.def.now doc)
@@ -116,8 +118,6 @@ fn plan_one<T: Lists, L: Ledger>(
     ensures counts { steps.old ≤ steps.new }
 {
     match query {
-        Query::Word { fields, text } => plan_word(sources, fields, text, steps),
-        Query::Prefix { fields, text } => plan_prefix(sources, fields, text.as_slice(), steps),
         Query::Phrase {
             fields,
             words,
@@ -132,7 +132,7 @@ fn plan_one<T: Lists, L: Ledger>(
             };
             plan_phrase(sources, &phrase, steps)
         }
-        Query::Tags { field, tags } => plan_tags(sources, *field, tags.as_slice(), steps),
+        Query::Tags { field, tags } => plan_tags(sources, *field, tags, steps),
         Query::Range { field, low, high } => plan_range(sources, *field, *low, *high, steps),
         Query::Empty => Ok(Planned::none()),
         _ => Ok(Planned::all()),
@@ -159,7 +159,8 @@ fn plan_every<T: Lists, L: Ledger>(
         AllKnown (place_of sources.now.known.now) (leaves_of planned.iter) → steps.new ≡ steps.old) }
     ensures counts { steps.old ≤ steps.new }
 {
-    let plans = plan_each(sources, queries, steps)?;
+    let mut plans = Vec::new(sources.alloc);
+    plan_each(sources, queries, &mut plans, steps)?;
     Ok(every_of(sources.alloc, plans)?)
 }
 
@@ -183,7 +184,8 @@ fn plan_some<T: Lists, L: Ledger>(
         AllKnown (place_of sources.now.known.now) (leaves_of planned.iter) → steps.new ≡ steps.old) }
     ensures counts { steps.old ≤ steps.new }
 {
-    let plans = plan_each(sources, queries, steps)?;
+    let mut plans = Vec::new(sources.alloc);
+    plan_each(sources, queries, &mut plans, steps)?;
     Ok(some_of(sources.alloc, plans)?)
 }
 
@@ -211,27 +213,28 @@ fn plan_other<T: Lists, L: Ledger>(
     Ok(other_of(sources.alloc, planned)?)
 }
 
-// The plans of parts, in their order.
+// The plans of parts, in their order, go into a vector that has none.
 #[cycle(plan)]
 fn plan_each<T: Lists, L: Ledger>(
     sources: &Sources<T>,
     queries: &[Query],
+    plans: &mut Vec<Planned>,
     steps: &mut Steps<L>,
-) -> Result<Vec<Planned>, NoMemory>
-    requires { KnownFit (T.held sources.now.lists.now) sources.now.after (place_of sources.now.known.now) }
-    ensures set { IfOk result (λ plans.
-        AllTell sources.now.def.now sources.now.parts.now (T.held sources.now.lists.now) queries.now plans.items) }
-    ensures ready { IfOk result (λ plans.
-        AllReady (T.held sources.now.lists.now) plans.items (sources.now.after + 1)) }
-    ensures placed { IfOk result (λ plans.
-        PartsOpen (T.held sources.now.lists.now) sources.now.after plans.items) }
-    ensures free { IfOk result (λ plans.
-        PartsKnown (place_of sources.now.known.now) plans.items → steps.new ≡ steps.old) }
+) -> Result<(), NoMemory>
+    requires known { KnownFit (T.held sources.now.lists.now) sources.now.after (place_of sources.now.known.now) }
+    requires empty { plans.old.items ≡ [] }
+    ensures set { OnOk result
+        (AllTell sources.now.def.now sources.now.parts.now (T.held sources.now.lists.now) queries.now plans.new.items) }
+    ensures ready { OnOk result
+        (AllReady (T.held sources.now.lists.now) plans.new.items (sources.now.after + 1)) }
+    ensures placed { OnOk result
+        (PartsOpen (T.held sources.now.lists.now) sources.now.after plans.new.items) }
+    ensures free { OnOk result
+        (PartsKnown (place_of sources.now.known.now) plans.new.items → steps.new ≡ steps.old) }
     ensures counts { steps.old ≤ steps.new }
 {
-    let mut plans = Vec::new(sources.alloc);
     'queries: for query in queries {
-        add_planned(&mut plans, plan(sources, query, steps)?)?;
+        add_planned(plans, plan(sources, query, steps)?)?;
     }
-    Ok(plans)
+    Ok(())
 }

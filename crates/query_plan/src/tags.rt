@@ -11,7 +11,7 @@ ghost use Rattle.tag_index.specs.Tags.{tags_of};
 use crate::leaves::plan_lists;
 use crate::size::Planned;
 use crate::sources::{Sources, Wanted};
-use ft_base::{Bytes, Fields, NoMemory, Steps, TagPart};
+use ft_base::{Bytes, Fields, ListOf, NoMemory, Steps, TagPart};
 use id_iters::{ListName, Lists};
 use std::alloc::Global;
 use std::sync::ledger::Ledger;
@@ -21,7 +21,7 @@ use tag_index::TagLists;
 pub fn plan_tags<T: Lists, L: Ledger>(
     sources: &Sources<T>,
     field: u16,
-    parts: &[TagPart],
+    parts: &ListOf<TagPart>,
     steps: &mut Steps<L>,
 ) -> Result<Planned, NoMemory>
     requires { KnownFit (T.held sources.now.lists.now) sources.now.after (place_of sources.now.known.now) }
@@ -37,7 +37,12 @@ pub fn plan_tags<T: Lists, L: Ledger>(
         AllKnown (place_of sources.now.known.now) (leaves_of planned.iter) → steps.new ≡ steps.old) }
     ensures counts { steps.old ≤ steps.new }
 {
-    let lists = tags_sought(sources.alloc, sources.parts.tag_lists(), field, parts)?;
+    let lists = tags_sought(
+        sources.alloc,
+        sources.parts.tag_lists(),
+        field,
+        parts.as_slice(),
+    )?;
     let wanted = Wanted {
         fields: &Fields::All,
         low: 0,

@@ -49,7 +49,7 @@ pub fn plan_word<T: Lists, L: Ledger>(
 pub fn plan_prefix<T: Lists, L: Ledger>(
     sources: &Sources<T>,
     fields: &Fields,
-    text: &[u8],
+    text: &Bytes,
     steps: &mut Steps<L>,
 ) -> Result<Planned, NoMemory>
     requires { KnownFit (T.held sources.now.lists.now) sources.now.after (place_of sources.now.known.now) }
@@ -65,7 +65,7 @@ pub fn plan_prefix<T: Lists, L: Ledger>(
         AllKnown (place_of sources.now.known.now) (leaves_of planned.iter) → steps.new ≡ steps.old) }
     ensures counts { steps.old ≤ steps.new }
 {
-    let lists = words_with(sources.alloc, sources.parts.terms(), text)?;
+    let lists = words_with(sources.alloc, sources.parts.terms(), text.as_slice())?;
     let wanted = Wanted {
         fields,
         low: 0,

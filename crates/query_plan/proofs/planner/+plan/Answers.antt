@@ -5,7 +5,7 @@ use Rattle.query_plan.specs.Known.{place_of}
 use Rattle.query_plan.specs.declared.size.Planned.{Planned}
 use Rattle.query_plan.specs.Plans.{AllReady, PartsKnown, PartsOpen, ids_of}
 use Rattle.query_plan.proofs.UnionLaws.{all_apart, all_joined, more}
-use Rattle.query_plan.proofs.AloneLaws.{alone}
+use Rattle.query_plan.proofs.OtherLaws.{other}
 use Rattle.query_plan.proofs.PlanLaws.{every_tells, one_more_tells, other_tells, some_tells, tells_same}
 use Rattle.query_plan.proofs.planner.+plan.Goals as goal
 
@@ -27,14 +27,14 @@ plan-returns-in-Not-clause-set g t c =
 pub plan_every-returns-clause-set : goal.plan_every-returns-clause-set
 plan_every-returns-clause-set g t c =
     let held = g.T.Lists.held c.args.sources.now.lists.now in
-    every_tells c.args.sources.now.def.now c.args.sources.now.parts.now held c.args.queries.now _ c.in_ok-plans.plans.items
-    (ids_of held c.in_ok-every_of.field-0) refl c.in_ok-plans.ensures.set (c.in_ok-every_of.ensures.set held)
+    every_tells c.args.sources.now.def.now c.args.sources.now.parts.now held c.args.queries.now _ c.plan_each.new.plans.items
+    (ids_of held c.in_ok-every_of.field-0) refl c.in_ok-plan_each.ensures.set (c.in_ok-every_of.ensures.set held)
 
 pub plan_some-returns-clause-set : goal.plan_some-returns-clause-set
 plan_some-returns-clause-set g t c =
     let held = g.T.Lists.held c.args.sources.now.lists.now in
-    some_tells c.args.sources.now.def.now c.args.sources.now.parts.now held c.args.queries.now _ c.in_ok-plans.plans.items c.in_ok-some_of.field-0
-    refl c.in_ok-plans.ensures.set c.in_ok-some_of.ensures
+    some_tells c.args.sources.now.def.now c.args.sources.now.parts.now held c.args.queries.now _ c.plan_each.new.plans.items c.in_ok-some_of.field-0
+    refl c.in_ok-plan_each.ensures.set c.in_ok-some_of.ensures
 
 pub plan_other-returns-clause-set : goal.plan_other-returns-clause-set
 plan_other-returns-clause-set g t c =
@@ -42,22 +42,22 @@ plan_other-returns-clause-set g t c =
     other_tells c.args.sources.now.def.now c.args.sources.now.parts.now held c.args.query.now _
     (ids_of held c.in_ok-planned.planned) (ids_of held c.in_ok-other_of.field-0) refl c.in_ok-planned.ensures.set (c.in_ok-other_of.ensures.set held)
 
-pub plan-plan_one-requires : goal.plan-plan_one-requires
-plan-plan_one-requires g t c = record { known = c.requires; alone = alone c.args.query.now c.in_default.not-And c.in_default.not-Or c.in_default.not-Not }
+pub plan-plan_other_leaf-requires : goal.plan-plan_other_leaf-requires
+plan-plan_other_leaf-requires g t c = record { known = c.requires; other = other c.args.query.now c.in_default.not-Word c.in_default.not-Prefix c.in_default.not-And c.in_default.not-Or c.in_default.not-Not }
 
 pub plan_every-returns-clause-placed : goal.plan_every-returns-clause-placed
 plan_every-returns-clause-placed g t c =
-    c.in_ok-every_of.ensures.placed (g.T.Lists.held c.args.sources.now.lists.now) c.args.sources.now.after c.in_ok-plans.ensures.placed
+    c.in_ok-every_of.ensures.placed (g.T.Lists.held c.args.sources.now.lists.now) c.args.sources.now.after c.in_ok-plan_each.ensures.placed
 
 pub plan_every-returns-clause-free : goal.plan_every-returns-clause-free
-plan_every-returns-clause-free g t c = λ known. c.in_ok-plans.ensures.free (c.in_ok-every_of.ensures.known (place_of c.args.sources.now.known.now) known)
+plan_every-returns-clause-free g t c = λ known. c.in_ok-plan_each.ensures.free (c.in_ok-every_of.ensures.known (place_of c.args.sources.now.known.now) known)
 
 pub plan_some-returns-clause-placed : goal.plan_some-returns-clause-placed
 plan_some-returns-clause-placed g t c =
-    (c.in_ok-some_of.ensures.placed (g.T.Lists.held c.args.sources.now.lists.now) c.args.sources.now.after c.in_ok-plans.ensures.placed).0
+    (c.in_ok-some_of.ensures.placed (g.T.Lists.held c.args.sources.now.lists.now) c.args.sources.now.after c.in_ok-plan_each.ensures.placed).0
 
 pub plan_some-returns-clause-free : goal.plan_some-returns-clause-free
-plan_some-returns-clause-free g t c = λ known. c.in_ok-plans.ensures.free (c.in_ok-some_of.ensures.known (place_of c.args.sources.now.known.now) (known, tt))
+plan_some-returns-clause-free g t c = λ known. c.in_ok-plan_each.ensures.free (c.in_ok-some_of.ensures.known (place_of c.args.sources.now.known.now) (known, tt))
 
 pub plan_each-queries-preserved : goal.plan_each-queries-preserved
 plan_each-queries-preserved g t c = record {

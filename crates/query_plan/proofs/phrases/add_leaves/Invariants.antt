@@ -4,7 +4,7 @@ use Rattle.id_iters.specs.Places.{LeavesReady}
 use Rattle.id_iters.specs.declared.list_name.ListName.TheVariants as names
 use Rattle.query_plan.specs.Known.{place_of}
 use Rattle.query_plan.specs.Plans.{AllKnown, AllOpen}
-use Rattle.query_plan.proofs.phrases.phrase_leaves.Given as goal
+use Rattle.query_plan.proofs.phrases.add_leaves.Given as goal
 
 abbrev pub invariant-words : goal.invariant-words
 invariant-words g l = record {

@@ -4,7 +4,7 @@ use Rattle.query_plan.specs.Known.{place_of}
 use Rattle.query_plan.specs.Plans.{AllKnown, AllOpen}
 use Rattle.query_plan.proofs.UnionLaws.{all_apart, all_joined}
 use Rattle.query_plan.proofs.HintLaws.{leaves_more}
-use Rattle.query_plan.proofs.phrases.phrase_leaves.Goals as goal
+use Rattle.query_plan.proofs.phrases.add_leaves.Goals as goal
 
 pub words-preserved : goal.words-preserved
 words-preserved g c = record {
