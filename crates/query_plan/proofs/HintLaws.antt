@@ -1,13 +1,13 @@
 -- At which places leaves stand, and which hints fit them.
-use Rattle.std.proofs.Common.{◌≡◌, ℕ, List, [], ◌∷◌, ◌++◌, Option, Some, None, IsSome, slice_index_or, sym, ap, ◌∙◌, subst}
+use Rattle.std.proofs.Common.{◌≡◌, ℕ, List, [], ◌∷◌, Option, Some, None, IsSome, slice_index_or, sym, ap, ◌∙◌, subst}
 use Rattle.std.specs.List.{All, AllByRecursion}
-use Rattle.std.proofs.lemmas.List.Elements.{All-append, All-contains, All-from_recursion, recursion_from_All}
+use Rattle.std.proofs.lemmas.List.Elements.{All-contains, All-from_recursion, recursion_from_All}
 use Rattle.inverted_list.specs.Listing.{Listing}
 use Rattle.inverted_list.specs.Places.{reach}
 use Rattle.inverted_list.specs.declared.place.Place.{Place}
 use Rattle.id_iters.specs.Fitting.{FitsLeaf, HasFitting, IsOpenAt, IsPlaced}
 use Rattle.id_iters.specs.Held.{Held}
-use Rattle.id_iters.specs.Places.{FitsList, IsOpened, IsOpenedIn, IsSoundIn, LeafReady, LeavesReady}
+use Rattle.id_iters.specs.Places.{FitsList, IsOpened, IsOpenedIn, IsSoundIn}
 use Rattle.id_iters.specs.declared.hint.Hint.{Hint}
 use Rattle.id_iters.specs.declared.leaf.Leaf.{Leaf}
 use Rattle.id_iters.specs.declared.list_name.ListName.{ListName}
@@ -64,11 +64,3 @@ module _ (held : Held) (after : ℕ) (hints : List Hint) where
 
     pub all_known : (leaves : List Leaf) → All (HasFitting held after hints) leaves → AllKnown known leaves
     all_known leaves all = each_known leaves (recursion_from_All (HasFitting held after hints) leaves all)
-
--- ---- one more leaf
-
-pub leaves_more : (held : Held) (leaves new : List Leaf) (leaf : Leaf) (from : ℕ) → new ≡ leaves ++ leaf ∷ [] → LeavesReady held leaves from → LeafReady held leaf from
-    → LeavesReady held new from
-leaves_more held leaves new leaf from is ready last =
-    subst (λ (all : List Leaf). LeavesReady held all from) (sym is)
-    (All-append (λ (one : Leaf). LeafReady held one from) leaves (leaf ∷ []) ready (All-from_recursion (λ (one : Leaf). LeafReady held one from) (leaf ∷ []) (last, tt)))

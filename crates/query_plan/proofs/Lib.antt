@@ -12,6 +12,7 @@ pub mod NameLaws
 pub mod KnownLaws
 pub mod HintLaws
 pub mod UnionLaws
+pub mod GainLaws
 pub mod PlanLaws
 pub mod OtherLaws
 pub mod FoundLaws

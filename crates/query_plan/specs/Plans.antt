@@ -1,5 +1,5 @@
 -- What a planned part tells of the documents of an index.
-use Rattle.std.specs.Prelude.{◌≡◌, ◌⊎◌, ℕ, ℤ, List, [], ◌∷◌, map, Bool, IsSome, Option}
+use Rattle.std.specs.Prelude.{◌≡◌, ◌⊎◌, ℕ, ℤ, List, [], ◌∷◌, map, Bool, IsSome, Option, Result, Ok, ◌++◌}
 use Rattle.std.specs.List.{All, AllByRecursion, list_any}
 use Rattle.ft_base.specs.declared.definition.IndexDef.{IndexDef}
 use Rattle.ft_base.specs.declared.doc.Doc.{Doc}
@@ -63,6 +63,12 @@ pub record Joins (old new : List Planned) : Type 0 where
   pub ready : (held : Held) (from : ℕ) → AllReady held old from → AllReady held new from
   pub placed : (held : Held) (after : ℕ) → PartsOpen held after old → PartsOpen held after new
   pub known : (known : ListName → Option Place) → PartsKnown known new → PartsKnown known old
+
+-- What was made is there, and went behind the others.
+pub record Gains {X E : Type 0} (made : Result X E) (old new : List X) : Type 0 where
+  pub item : X
+  pub was : made ≡ Ok item
+  pub items : new ≡ old ++ item ∷ []
 
 -- whether some list of these names has an id
 abbrev pub some_has : Held → List ListName → Fields → ℤ → ℤ → ℕ → Bool

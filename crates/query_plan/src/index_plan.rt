@@ -20,7 +20,7 @@ use std::alloc::Global;
 use std::sync::ledger::Ledger;
 
 /// The iterator of the ids above `after` of the members that meet the query, and of no others. A leaf stands at the
-/// place of a hint that fits it; where no leaf is without one, no list is searched. Which hints there are makes no
+/// place of each hint that fits it; where each leaf has one, no list is searched. Which hints there are makes no
 /// difference to the ids.
 pub fn plan<L: Ledger>(
     alloc: Global,

@@ -134,7 +134,7 @@ fn plan_each_list<T: Lists, L: Ledger>(
     ensures counts { steps.old ≤ steps.new }
 {
     'lists: for list in lists {
-        add_planned(plans, plan_list(sources, list, wanted, steps)?)?;
+        add_planned(plans, plan_list(sources, list, wanted, steps))?;
     }
     Ok(())
 }

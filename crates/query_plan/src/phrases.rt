@@ -9,7 +9,7 @@ ghost use Rattle.id_iters.specs.Leaves.{list_names};
 ghost use Rattle.id_iters.specs.Places.{LeafReady, LeavesReady};
 ghost use Rattle.id_iters.specs.Ready.{Ready};
 ghost use Rattle.query_plan.specs.Known.{KnownFit, place_of};
-ghost use Rattle.query_plan.specs.Plans.{AllKnown, AllOpen, Tells, ids_of};
+ghost use Rattle.query_plan.specs.Plans.{AllKnown, AllOpen, Gains, Tells, ids_of};
 ghost use Rattle.query_plan.specs.Sought.{passes};
 
 use crate::leaves::{copy_of, leaf_of};
@@ -191,14 +191,16 @@ fn add_leaves<T: Lists, L: Ledger>(
         high: 0,
     };
     'words: for word in phrase.words {
-        add_leaf(leaves, word_leaf(sources, word, &wanted, steps)?)?;
+        add_leaf(leaves, word_leaf(sources, word, &wanted, steps))?;
     }
     Ok(())
 }
 
-fn add_leaf(leaves: &mut ListOf<Leaf>, leaf: Leaf) -> Result<(), NoMemory>
-    ensures { OnOk result (leaves.new ≡ leaves.old ++ leaf ∷ []) }
+// Puts a leaf behind the others, where it could be made.
+fn add_leaf(leaves: &mut ListOf<Leaf>, made: Result<Leaf, NoMemory>) -> Result<(), NoMemory>
+    ensures { OnOk result (Gains made leaves.old leaves.new) }
 {
+    let leaf = made?;
     leaves.push(leaf)?;
     Ok(())
 }

@@ -28,7 +28,7 @@ use std::alloc::Global;
 use std::sync::ledger::Ledger;
 
 /// The iterator of the ids above `after` of the documents that meet the query, and of no others. A leaf stands at the
-/// place of a hint that fits it; where no leaf is without one, no list is searched.
+/// place of each hint that fits it; where each leaf has one, no list is searched.
 pub fn plan_in<T: Lists, L: Ledger>(
     alloc: Global,
     def: &IndexDef,
@@ -234,7 +234,7 @@ fn plan_each<T: Lists, L: Ledger>(
     ensures counts { steps.old ≤ steps.new }
 {
     'queries: for query in queries {
-        add_planned(plans, plan(sources, query, steps)?)?;
+        add_planned(plans, plan(sources, query, steps))?;
     }
     Ok(())
 }

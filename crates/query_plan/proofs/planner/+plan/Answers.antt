@@ -1,10 +1,14 @@
-use Rattle.std.proofs.Common.{rules, ◌+◌, take, [], ◌∷◌, List, refl, sym, ap, ◌∙◌, subst}
+use Rattle.std.proofs.Common.{rules, ◌+◌, take, List, refl, sym, ap, ◌∙◌}
 use Rattle.ft_base.specs.declared.query.Query.{Query}
 use Rattle.ft_base.specs.declared.query.Query.TheVariants as query
+use Rattle.ft_meaning.specs.Holds.{holds}
+use Rattle.id_iters.specs.Fitting.{leaves_of}
+use Rattle.id_iters.specs.Ready.{Ready}
 use Rattle.query_plan.specs.Known.{place_of}
 use Rattle.query_plan.specs.declared.size.Planned.{Planned}
-use Rattle.query_plan.specs.Plans.{AllReady, PartsKnown, PartsOpen, ids_of}
-use Rattle.query_plan.proofs.UnionLaws.{all_apart, all_joined, more}
+use Rattle.query_plan.specs.Plans.{AllKnown, AllOpen, Tells, ids_of}
+use Rattle.query_plan.proofs.GainLaws.{all_more, of_item, same_more}
+use Rattle.query_plan.proofs.UnionLaws.{more}
 use Rattle.query_plan.proofs.OtherLaws.{other}
 use Rattle.query_plan.proofs.PlanLaws.{every_tells, one_more_tells, other_tells, some_tells, tells_same}
 use Rattle.query_plan.proofs.planner.+plan.Goals as goal
@@ -60,19 +64,26 @@ pub plan_some-returns-clause-free : goal.plan_some-returns-clause-free
 plan_some-returns-clause-free g t c = λ known. c.in_ok-plan_each.ensures.free (c.in_ok-some_of.ensures.known (place_of c.args.sources.now.known.now) (known, tt))
 
 pub plan_each-queries-preserved : goal.plan_each-queries-preserved
-plan_each-queries-preserved g t c = record {
-  set =
-      one_more_tells c.args.sources.now.def.now c.args.sources.now.parts.now (g.T.Lists.held c.args.sources.now.lists.now)
-      (take c.queries.query-index c.args.queries.now) (take (c.queries.query-index + 1) c.args.queries.now) c.query-item.result c.queries.plans.items _ c.in_ok-plan.field-0
-      (more c.args.queries.now c.queries.query-index c.query-item.result (search rules) c.query-item.is) c.in_ok-add_planned.ensures c.queries.invariant.set c.in_ok-plan.ensures.set;
-  ready =
-      subst (λ (plans : List Planned). AllReady (g.T.Lists.held c.args.sources.now.lists.now) plans (c.args.sources.now.after + 1)) (sym c.in_ok-add_planned.ensures)
-      (all_joined _ c.queries.plans.items (c.in_ok-plan.field-0 ∷ []) c.queries.invariant.ready (c.in_ok-plan.ensures.ready, tt));
-  placed =
-      subst (PartsOpen (g.T.Lists.held c.args.sources.now.lists.now) c.args.sources.now.after) (sym c.in_ok-add_planned.ensures)
-      (all_joined _ c.queries.plans.items (c.in_ok-plan.field-0 ∷ []) c.queries.invariant.placed (c.in_ok-plan.ensures.placed, tt));
-  free = λ known.
-      let apart = all_apart _ c.queries.plans.items (c.in_ok-plan.field-0 ∷ []) (subst (PartsKnown (place_of c.args.sources.now.known.now)) c.in_ok-add_planned.ensures known) in
-      c.in_ok-plan.ensures.free apart.1.0 ∙ c.queries.invariant.free apart.0;
-  counts = search rules;
-}
+plan_each-queries-preserved g t c =
+    let held = g.T.Lists.held c.args.sources.now.lists.now in
+    let known = place_of c.args.sources.now.known.now in
+    let def = c.args.sources.now.def.now in
+    let parts = c.args.sources.now.parts.now in
+    let tells = of_item c.plan.result c.queries.plans.items c.add_planned.new.plans.items c.in_ok-add_planned.ensures
+    (λ (p : Planned). Tells def parts held (λ doc. holds c.query-item.result def doc) (ids_of held p)) c.plan.ensures.set in
+    record {
+      set =
+          one_more_tells def parts held (take c.queries.query-index c.args.queries.now) (take (c.queries.query-index + 1) c.args.queries.now) c.query-item.result
+          c.queries.plans.items _ c.in_ok-add_planned.ensures.item
+          (more c.args.queries.now c.queries.query-index c.query-item.result (search rules) c.query-item.is) c.in_ok-add_planned.ensures.items c.queries.invariant.set tells;
+      ready =
+          all_more c.plan.result c.queries.plans.items c.add_planned.new.plans.items c.in_ok-add_planned.ensures
+          (λ (p : Planned). Ready held p.iter (c.args.sources.now.after + 1)) c.queries.invariant.ready c.plan.ensures.ready;
+      placed =
+          all_more c.plan.result c.queries.plans.items c.add_planned.new.plans.items c.in_ok-add_planned.ensures
+          (λ (p : Planned). AllOpen held c.args.sources.now.after (leaves_of p.iter)) c.queries.invariant.placed c.plan.ensures.placed;
+      free =
+          same_more c.plan.result c.queries.plans.items c.add_planned.new.plans.items c.in_ok-add_planned.ensures
+          (λ (p : Planned). AllKnown known (leaves_of p.iter)) _ c.queries.steps _ c.queries.invariant.free c.plan.ensures.free;
+      counts = search rules;
+    }

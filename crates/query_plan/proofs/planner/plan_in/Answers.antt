@@ -1,4 +1,4 @@
-use Rattle.std.proofs.Common.{List, sym, subst}
+use Rattle.std.proofs.Common.{List, subst}
 use Rattle.id_iters.specs.declared.hint.Hint.{Hint}
 use Rattle.query_plan.specs.Known.{KnowsAll, place_of}
 use Rattle.query_plan.specs.Plans.{ids_of}
