@@ -1,6 +1,8 @@
 -- One layer of what an iterator stands for.
 use Rattle.std.proofs.Common.{◌≡◌, ℕ, ◌+◌, true, false, not, List, [], ◌∷◌, map, refl, sym, ap, ◌∙◌, Box, Global}
-use Rattle.std.specs.List.{AllByRecursion}
+use Rattle.std.specs.List.{AllByRecursion, flat_map}
+use Rattle.std.proofs.lemmas.List.Folds.{flat_map-map}
+use Rattle.id_iters.specs.Fitting.{ahead_leaves, leaves_of, leaves_of_ahead, leaves_step}
 use Rattle.id_iters.specs.Held.{Held}
 use Rattle.id_iters.specs.Leaves.{leaf_has, phrase_ids}
 use Rattle.id_iters.specs.Places.{LeafReady, LeavesReady}
@@ -98,3 +100,15 @@ module _ (held : Held) where
 
   pub ready_empty : (from : ℕ) → ReadyAt held variant.Empty from ≡ Unit {0}
   ready_empty from = ap (λ v. ReadyAt held v from) (sym variant.rolls-Empty) ∙ ready_layer layer.Empty from
+
+-- ---- the leaves of parts put together
+
+pub leaves_and : (parts : List Iter) → leaves_of (variant.And parts) ≡ flat_map leaves_of parts
+leaves_and parts =
+    ap leaves_of (sym (variant.rolls-And parts)) ∙ folds.fold-roll-Iter (List Leaf) (List Leaf) leaves_step ahead_leaves (layer.And parts)
+    ∙ flat_map-map (λ (leaves : List Leaf). leaves) leaves_of parts
+
+pub leaves_or : (parts : List Ahead) → leaves_of (variant.Or parts) ≡ flat_map leaves_of_ahead parts
+leaves_or parts =
+    ap leaves_of (sym (variant.rolls-Or parts)) ∙ folds.fold-roll-Iter (List Leaf) (List Leaf) leaves_step ahead_leaves (layer.Or parts)
+    ∙ flat_map-map (λ (leaves : List Leaf). leaves) leaves_of_ahead parts

@@ -1,4 +1,5 @@
 pub mod Entries
+pub mod Fitting
 pub mod Held
 pub mod Least
 pub mod Leaves

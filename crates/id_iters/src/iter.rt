@@ -1,6 +1,7 @@
 //! Iterators of document ids: sets of ids that are asked for their least live id from a number on.
 ghost use Rattle.std.specs.Prelude.{◌≡◌, ◌≤◌, ◌+◌, ◌&&◌, not, ℕ, map, IfOk, IfSome, OnOk};
 ghost use Rattle.std.specs.List.{All};
+ghost use Rattle.id_iters.specs.Fitting.{leaves_of, leaves_of_ahead};
 ghost use Rattle.id_iters.specs.Held.{Held, AreLists};
 ghost use Rattle.id_iters.specs.Least.{IsLeast, lesser_of};
 ghost use Rattle.id_iters.specs.Ready.{kept_answer, Ready, AheadReady};
@@ -49,6 +50,7 @@ impl Ahead {
         ensures set { (held : Held) → about_ahead held result ≡ about held iter }
         ensures ready { (held : Held) (from : ℕ)
             → Ready held iter from → AheadReady held result from }
+        ensures leaves { leaves_of_ahead result ≡ leaves_of iter }
     {
         Ahead {
             iter,

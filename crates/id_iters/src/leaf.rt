@@ -1,17 +1,18 @@
 //! The ids of one list.
-ghost use Rattle.std.specs.Prelude.{◌≡◌, ◌≤◌, ◌+◌, ◌&&◌, IfOk, IfSome};
-ghost use Rattle.id_iters.specs.Entries.{codes_at};
-ghost use Rattle.id_iters.specs.Held.{AreLists};
+ghost use Rattle.std.specs.Prelude.{◌≡◌, ◌<◌, ◌≤◌, ◌+◌, ◌&&◌, IfOk, IfSome};
+ghost use Rattle.std.specs.Option.{option_copied};
+ghost use Rattle.id_iters.specs.Entries.{codes_at, has_entry};
+ghost use Rattle.id_iters.specs.Held.{AreLists, entries_of};
 ghost use Rattle.id_iters.specs.Least.{IsLeast};
 ghost use Rattle.id_iters.specs.Leaves.{has_word, leaf_has, word_entries};
-ghost use Rattle.id_iters.specs.Places.{LeafReady, StandAt};
+ghost use Rattle.id_iters.specs.Places.{IsSoundIn, LeafReady, StandAt, StandsBehind};
 
-use crate::entry::{EveryHit, Interval, seek_entry};
+use crate::entry::{EveryHit, HitTest, Interval, seek_entry};
 use crate::list_name::ListName;
 use crate::lists::Lists;
 use ft_base::{Fields, NoMemory, Steps};
-use inverted_list::Place;
-use posting_block::{ListOfPlaces, TextHit};
+use inverted_list::{List, Place};
+use posting_block::{ListOfPlaces, Payload, TextHit};
 use std::sync::ledger::Ledger;
 
 /// The ids of a list that count: by `fields` in the list of a word, from `low` to `high` in that of a range.
@@ -42,24 +43,32 @@ impl Leaf {
         ensures counts { steps.old ≤ steps.new }
     {
         match &self.list {
-            ListName::Word { text } => {
-                let Some(list) = lists.text(text.as_slice()) else {
-                    return Ok(None);
-                };
-                seek_entry(list, &self.fields, &mut self.place, lists, from, steps)
-            }
-            ListName::Tag { field, text } => {
-                let Some(list) = lists.tag(*field, text.as_slice()) else {
-                    return Ok(None);
-                };
-                seek_entry(list, &EveryHit, &mut self.place, lists, from, steps)
-            }
+            ListName::Word { text } => seek_in(
+                lists.text(text.as_slice()),
+                &self.fields,
+                &mut self.place,
+                lists,
+                from,
+                steps,
+            ),
+            ListName::Tag { field, text } => seek_in(
+                lists.tag(*field, text.as_slice()),
+                &EveryHit,
+                &mut self.place,
+                lists,
+                from,
+                steps,
+            ),
             ListName::Range { field, low } => {
-                let Some(list) = lists.range(*field, *low) else {
-                    return Ok(None);
-                };
                 let interval = self.interval();
-                seek_entry(list, &interval, &mut self.place, lists, from, steps)
+                seek_in(
+                    lists.range(*field, *low),
+                    &interval,
+                    &mut self.place,
+                    lists,
+                    from,
+                    steps,
+                )
             }
         }
     }
@@ -92,10 +101,14 @@ impl Leaf {
             StandAt (T.held lists.now) self.new id)) }
         ensures counts { steps.old ≤ steps.new }
     {
-        let Some(list) = self.list.word_list(lists) else {
-            return Ok(None);
-        };
-        seek_entry(list, &EveryHit, &mut self.place, lists, from, steps)
+        seek_in(
+            self.list.word_list(lists),
+            &EveryHit,
+            &mut self.place,
+            lists,
+            from,
+            steps,
+        )
     }
 
     /// The codes of the leaf's word in the document behind which the place stands.
@@ -109,5 +122,32 @@ impl Leaf {
         };
         let TextHit { places } = list.hit(&self.place)?;
         Ok(places)
+    }
+}
+
+// The least live id from `from` on whose hit is wanted in the list, where there is one.
+fn seek_in<P: Payload, H: HitTest<P>, T: Lists, L: Ledger>(
+    list: Option<&List<P>>,
+    test: &H,
+    place: &mut Place,
+    lists: &T,
+    from: u64,
+    steps: &mut Steps<L>,
+) -> Result<Option<u64>, NoMemory>
+    requires lists { AreLists (T.held lists.now) }
+    requires sound { IsSoundIn (option_copied list) place.old }
+    requires ahead { place.old.last < from }
+    ensures least { IfOk result (λ r. IsLeast
+        (λ id. (T.held lists.now).live id
+        && has_entry (H.wants test.now) (entries_of (option_copied list.entry)) id) from r) }
+    ensures behind { IfOk result (λ r. IfSome r (λ id.
+        StandsBehind (option_copied list.entry) place.new id)) }
+    ensures sound { IfOk result (λ r. IfSome r (λ _. IsSoundIn (option_copied list.entry) place.new)) }
+    ensures last { IfOk result (λ r. IfSome r (λ id. place.new.last ≡ id)) }
+    ensures counts { steps.old ≤ steps.new }
+{
+    match list {
+        Some(list) => seek_entry(list, test, place, lists, from, steps),
+        None => Ok(None),
     }
 }

@@ -1,5 +1,5 @@
 //! The names of an index's lists.
-ghost use Rattle.std.specs.Prelude.{◌≡◌, ◌≤◌, IfSome};
+ghost use Rattle.std.specs.Prelude.{◌≡◌, ◌≤◌, ◌↔◌, IfSome, IsTrue};
 ghost use Rattle.std.specs.Option.{option_copied};
 ghost use Rattle.id_iters.specs.Leaves.{word_list};
 ghost use Rattle.id_iters.specs.Places.{FitsList, IsOpened, IsOpenedIn, IsSoundIn};
@@ -52,6 +52,19 @@ impl ListName {
         }
     }
 
+    /// Whether a place is the one that is opened in the list behind the ids up to `after`.
+    pub fn is_open_at<T: Lists>(&self, lists: &T, place: Place, after: u64) -> bool
+        ensures { IsTrue result ↔ IsOpened (T.held lists.now) self.now after place }
+    {
+        match self {
+            ListName::Word { text } => is_open_in(lists.text(text.as_slice()), place, after),
+            ListName::Tag { field, text } => {
+                is_open_in(lists.tag(*field, text.as_slice()), place, after)
+            }
+            ListName::Range { field, low } => is_open_in(lists.range(*field, *low), place, after),
+        }
+    }
+
     /// The list, where it is that of a word and there is one.
     pub(crate) fn word_list<'a, T: Lists>(&self, lists: &'a T) -> Option<&'a List<TextHit>>
         ensures { option_copied result ≡ word_list (T.held lists.now) self.now }
@@ -88,4 +101,27 @@ fn open_in<P: Payload, L: Ledger>(
             last: after,
         },
     }
+}
+
+// Whether a place is the one that is opened in the list, where there is one, behind the ids up to `after`.
+fn is_open_in<P: Payload>(list: Option<&List<P>>, place: Place, after: u64) -> bool
+    ensures { IsTrue result ↔ IsOpenedIn (option_copied list.entry) after place }
+{
+    match list {
+        Some(list) => list.marker() == place.marker && place.last == after,
+        None => is_first(place, after),
+    }
+}
+
+// Whether a place is the first of all.
+fn is_first(place: Place, after: u64) -> bool
+    ensures { IsTrue result ↔ (place ≡ record {
+      marker = record { event = 0; nth = 0 };
+      block = 0;
+      at = 0;
+      last = after;
+    }) }
+{
+    let marker = Marker { event: 0, nth: 0 };
+    place.marker == marker && place.block == 0 && place.at == 0 && place.last == after
 }

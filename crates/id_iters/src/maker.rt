@@ -1,6 +1,7 @@
 //! Iterators made of their parts.
-ghost use Rattle.std.specs.Prelude.{◌≡◌, not, true, false, ℕ, map, IfOk};
-ghost use Rattle.std.specs.List.{All};
+ghost use Rattle.std.specs.Prelude.{◌≡◌, [], ◌∷◌, not, true, false, ℕ, map, IfOk};
+ghost use Rattle.std.specs.List.{All, flat_map};
+ghost use Rattle.id_iters.specs.Fitting.{leaves_of, leaves_of_ahead};
 ghost use Rattle.id_iters.specs.Held.{Held};
 ghost use Rattle.id_iters.specs.Leaves.{leaf_has, phrase_ids};
 ghost use Rattle.id_iters.specs.Places.{LeafReady, LeavesReady};
@@ -19,6 +20,7 @@ impl Iter {
         ensures set { (held : Held) → (about held result).has ≡ leaf_has held leaf }
         ensures ready { (held : Held) (from : ℕ)
             → LeafReady held leaf from → Ready held result from }
+        ensures leaves { leaves_of result ≡ leaf ∷ [] }
     {
         Iter::Leaf(leaf)
     }
@@ -28,6 +30,7 @@ impl Iter {
         ensures set { (held : Held) → (about held result).has ≡ phrase_ids held phrase }
         ensures ready { (held : Held) (from : ℕ)
             → LeavesReady held phrase.words from → Ready held result from }
+        ensures leaves { leaves_of result ≡ phrase.words }
     {
         Iter::Phrase(phrase)
     }
@@ -37,6 +40,7 @@ impl Iter {
         ensures set { (held : Held) → (about held result).has ≡ all_have (map (about held) parts) }
         ensures ready { (held : Held) (from : ℕ)
             → All (λ part. Ready held part from) parts → Ready held result from }
+        ensures leaves { leaves_of result ≡ flat_map leaves_of parts }
     {
         Iter::And(parts)
     }
@@ -47,6 +51,7 @@ impl Iter {
             → (about held result).has ≡ any_has (map (about_ahead held) parts) }
         ensures ready { (held : Held) (from : ℕ)
             → All (λ part. AheadReady held part from) parts → Ready held result from }
+        ensures leaves { leaves_of result ≡ flat_map leaves_of_ahead parts }
     {
         Iter::Or(parts)
     }
@@ -57,6 +62,7 @@ impl Iter {
             → (about held made).has ≡ (λ id. not ((about held part).has id))) }
         ensures ready { IfOk result (λ made. (held : Held) (from : ℕ)
             → Ready held part from → Ready held made from) }
+        ensures leaves { IfOk result (λ made. leaves_of made ≡ leaves_of part) }
     {
         let ahead = Ahead::new(part);
         let boxed = Box::new(alloc, ahead)?;
@@ -68,6 +74,7 @@ impl Iter {
         ensures set { IfOk result (λ made. (held : Held)
             → (about held made).has ≡ (λ id. true)) }
         ensures ready { IfOk result (λ made. (held : Held) (from : ℕ) → Ready held made from) }
+        ensures leaves { IfOk result (λ made. leaves_of made ≡ leaves_of part) }
     {
         Ok(Iter::Optional(Box::new(alloc, part)?))
     }
@@ -76,6 +83,7 @@ impl Iter {
     pub fn of_all() -> Iter
         ensures set { (held : Held) → (about held result).has ≡ (λ id. true) }
         ensures ready { (held : Held) (from : ℕ) → Ready held result from }
+        ensures leaves { leaves_of result ≡ [] }
     {
         Iter::All
     }
@@ -84,6 +92,7 @@ impl Iter {
     pub fn of_none() -> Iter
         ensures set { (held : Held) → (about held result).has ≡ (λ id. false) }
         ensures ready { (held : Held) (from : ℕ) → Ready held result from }
+        ensures leaves { leaves_of result ≡ [] }
     {
         Iter::Empty
     }

@@ -9,6 +9,10 @@ pub mod TagLaws
 pub mod RangeLaws
 pub mod MeetLaws
 pub mod NameLaws
+pub mod KnownLaws
+pub mod HintLaws
 pub mod UnionLaws
+pub mod GainLaws
 pub mod PlanLaws
+pub mod OtherLaws
 pub mod FoundLaws

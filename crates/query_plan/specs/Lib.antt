@@ -1,3 +1,4 @@
 pub mod Finds
+pub mod Known
 pub mod Plans
 pub mod Sought

@@ -1,7 +1,10 @@
 -- Which words, tags and ranges a part of a query looks for among those that have lists.
-use Rattle.std.specs.Prelude.{ℕ, Bool, false, List, [], ◌∷◌, filter, take, drop, Option, None, Some, if◌then◌else◌}
+use Rattle.std.specs.Prelude.{ℕ, Bool, true, false, List, [], ◌∷◌, filter, take, drop, Option, None, Some, if◌then◌else◌}
 use Rattle.std.specs.List.{flat_map}
 use Rattle.std.specs.Map.{keys_of}
+use Rattle.ft_base.specs.declared.query.Query.{Query}
+use Rattle.ft_base.specs.declared.query.Query.TheFolds.{fold-Query}
+use Rattle.ft_base.specs.declared.query.Query.TheOpen as layer
 use Rattle.ft_base.specs.declared.query.TagPart.{TagPart}
 use Rattle.ft_meaning.specs.Holds.{begins}
 use Rattle.numeric_ranges.specs.Ranges.{Rows}
@@ -28,3 +31,15 @@ rows_from rows from to = drop from (take to rows)
 abbrev pub passes : {X : Type 0} → (X → Bool) → Option X → Bool
 passes test None = false
 passes test (Some x) = test x
+
+-- whether a query asks neither for a word or a prefix nor for what other queries find
+abbrev pub asks_other_step : layer.Query-F Bool → Bool
+asks_other_step (layer.Word fields text) = false
+asks_other_step (layer.Prefix fields text) = false
+asks_other_step (layer.And parts) = false
+asks_other_step (layer.Or parts) = false
+asks_other_step (layer.Not part) = false
+asks_other_step other = true
+
+abbrev pub asks_other : Query → Bool
+asks_other = fold-Query Bool asks_other_step

@@ -1,8 +1,10 @@
 //! The plan of a query over an index.
 ghost use Rattle.std.specs.Prelude.{◌≡◌, ◌≤◌, ◌+◌, ℕ, List, IfOk};
+ghost use Rattle.std.specs.List.{All};
 ghost use Rattle.ft_base.specs.declared.doc.Doc.{Doc};
 ghost use Rattle.ft_index.specs.Index.{Indexes};
 ghost use Rattle.ft_meaning.specs.Member.{members};
+ghost use Rattle.id_iters.specs.Fitting.{HasFitting, IsPlaced, leaves_of};
 ghost use Rattle.id_iters.specs.Held.{AreLists};
 ghost use Rattle.id_iters.specs.Ready.{Ready};
 ghost use Rattle.id_iters.specs.Sets.{in_set};
@@ -17,9 +19,9 @@ use id_iters::{Hints, Iter};
 use std::alloc::Global;
 use std::sync::ledger::Ledger;
 
-/// The iterator of the ids above `after` of the members that meet the query, and of no others. Hints
-/// serve the plan's leaves in their order; one that names another list than the next leaf's is passed
-/// over by that leaf. Which hints there are makes no difference to the ids.
+/// The iterator of the ids above `after` of the members that meet the query, and of no others. A leaf stands at the
+/// place of each hint that fits it; where each leaf has one, no list is searched. Which hints there are makes no
+/// difference to the ids.
 pub fn plan<L: Ledger>(
     alloc: Global,
     index: &FtIndex,
@@ -35,6 +37,13 @@ pub fn plan<L: Ledger>(
         ≡ finds query.now index.now.def (members index.now.def docs) id) }
     ensures ready { IfOk result (λ iter.
         Ready (held_of index.now.lists index.now.table.live) iter (after + 1)) }
+    // Each leaf's list is open behind `after`, at the place of each hint that fits the leaf.
+    ensures placed { IfOk result (λ iter. All (λ leaf. IsPlaced
+        (held_of index.now.lists index.now.table.live) after hints.now.0 leaf) (leaves_of iter)) }
+    // What hints save.
+    ensures free { IfOk result (λ iter. All (λ leaf. HasFitting
+        (held_of index.now.lists index.now.table.live) after hints.now.0 leaf) (leaves_of iter)
+        → steps.new ≡ steps.old) }
     // What an iterator asks of the lists that it reads.
     ensures lists { (docs : List Doc) → Indexes index.now docs
         → IsKept index.now.table.live (members index.now.def docs)

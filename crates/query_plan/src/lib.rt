@@ -5,8 +5,8 @@
 //! Read `specs/Finds.antt` first, then `planner.rt`.
 #![tactic(auto)]
 
-mod hints;
 mod index_plan;
+mod known;
 mod leaves;
 mod phrases;
 mod planner;

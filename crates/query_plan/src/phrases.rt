@@ -1,13 +1,15 @@
 //! Phrases as sets of ids.
-ghost use Rattle.std.specs.Prelude.{◌≡◌, ◌≤◌, ◌+◌, ◌∷◌, ◌++◌, [], ℕ, map, slice_get, IfOk, OnOk};
+ghost use Rattle.std.specs.Prelude.{◌≡◌, ◌≤◌, ◌+◌, ◌∷◌, ◌++◌, [], ℕ, map, slice_get, IfOk, IsSome, OnOk};
 ghost use Rattle.std.specs.List.{list_any};
 ghost use Rattle.ft_meaning.specs.Holds.{has_of, named};
 ghost use Rattle.ft_meaning.specs.Meaning.{has_words};
+ghost use Rattle.id_iters.specs.Fitting.{IsOpenAt, leaves_of};
 ghost use Rattle.id_iters.specs.Held.{Held};
 ghost use Rattle.id_iters.specs.Leaves.{list_names};
 ghost use Rattle.id_iters.specs.Places.{LeafReady, LeavesReady};
 ghost use Rattle.id_iters.specs.Ready.{Ready};
-ghost use Rattle.query_plan.specs.Plans.{HintsFit, Tells, ids_of};
+ghost use Rattle.query_plan.specs.Known.{KnownFit, place_of};
+ghost use Rattle.query_plan.specs.Plans.{AllKnown, AllOpen, Gains, Tells, ids_of};
 ghost use Rattle.query_plan.specs.Sought.{passes};
 
 use crate::leaves::{copy_of, leaf_of};
@@ -31,23 +33,26 @@ pub struct Phrase<'a> {
 pub fn plan_phrase<T: Lists, L: Ledger>(
     sources: &Sources<T>,
     phrase: &Phrase,
-    used: &mut usize,
     steps: &mut Steps<L>,
 ) -> Result<Planned, NoMemory>
-    requires { HintsFit (T.held sources.now.lists.now) sources.now.hints.now }
+    requires { KnownFit (T.held sources.now.lists.now) sources.now.after (place_of sources.now.known.now) }
     ensures set { IfOk result (λ planned.
         Tells sources.now.def.now sources.now.parts.now (T.held sources.now.lists.now)
         (λ doc. (has_of sources.now.def.now doc).phrase phrase.now.fields.now phrase.now.words.now phrase.now.slop phrase.now.in_order)
         (ids_of (T.held sources.now.lists.now) planned)) }
     ensures ready { IfOk result (λ planned.
         Ready (T.held sources.now.lists.now) planned.iter (sources.now.after + 1)) }
+    ensures placed { IfOk result (λ planned.
+        AllOpen (T.held sources.now.lists.now) sources.now.after (leaves_of planned.iter)) }
+    ensures free { IfOk result (λ planned.
+        AllKnown (place_of sources.now.known.now) (leaves_of planned.iter) → steps.new ≡ steps.old) }
     ensures counts { steps.old ≤ steps.new }
 {
     if phrase.words.is_empty() {
         return Ok(plan_no_words(sources.def, phrase.fields));
     }
     let size = least_size(sources.lists, phrase.words);
-    let iter = phrase_iter(sources, phrase, used, steps)?;
+    let iter = phrase_iter(sources, phrase, steps)?;
     Ok(Planned {
         iter: Iter::of_phrase(iter),
         size,
@@ -58,10 +63,9 @@ pub fn plan_phrase<T: Lists, L: Ledger>(
 fn phrase_iter<T: Lists, L: Ledger>(
     sources: &Sources<T>,
     phrase: &Phrase,
-    used: &mut usize,
     steps: &mut Steps<L>,
 ) -> Result<PhraseIter, NoMemory>
-    requires { HintsFit (T.held sources.now.lists.now) sources.now.hints.now }
+    requires { KnownFit (T.held sources.now.lists.now) sources.now.after (place_of sources.now.known.now) }
     ensures words { IfOk result (λ iter. list_names iter.words
         ≡ map (λ word. ListName.Word word) phrase.now.words.now) }
     ensures fields { IfOk result (λ iter. iter.fields ≡ phrase.now.fields.now) }
@@ -69,9 +73,13 @@ fn phrase_iter<T: Lists, L: Ledger>(
     ensures in_order { IfOk result (λ iter. iter.in_order ≡ phrase.now.in_order) }
     ensures ready { IfOk result (λ iter.
         LeavesReady (T.held sources.now.lists.now) iter.words (sources.now.after + 1)) }
+    ensures placed { IfOk result (λ iter.
+        AllOpen (T.held sources.now.lists.now) sources.now.after iter.words) }
+    ensures free { IfOk result (λ iter.
+        AllKnown (place_of sources.now.known.now) iter.words → steps.new ≡ steps.old) }
     ensures counts { steps.old ≤ steps.new }
 {
-    let words = phrase_leaves(sources, phrase, used, steps)?;
+    let words = phrase_leaves(sources, phrase, steps)?;
     let fields = copy_of(sources.alloc, phrase.fields)?;
     Ok(PhraseIter {
         alloc: sources.alloc,
@@ -87,6 +95,7 @@ fn plan_no_words(def: &IndexDef, fields: &Fields) -> Planned
     ensures set { (held : Held) → ids_of held result
         ≡ (λ id. list_any has_words (named def.now fields.now)) }
     ensures ready { (held : Held) (from : ℕ) → Ready held result.iter from }
+    ensures leaves { leaves_of result.iter ≡ [] }
 {
     if is_searched(def, fields) {
         Planned::all()
@@ -139,14 +148,41 @@ fn least_size<T: Lists>(lists: &T, words: &[Bytes]) -> u64 {
 fn phrase_leaves<T: Lists, L: Ledger>(
     sources: &Sources<T>,
     phrase: &Phrase,
-    used: &mut usize,
     steps: &mut Steps<L>,
 ) -> Result<ListOf<Leaf>, NoMemory>
-    requires { HintsFit (T.held sources.now.lists.now) sources.now.hints.now }
+    requires { KnownFit (T.held sources.now.lists.now) sources.now.after (place_of sources.now.known.now) }
     ensures names { IfOk result (λ leaves.
         list_names leaves ≡ map (λ word. ListName.Word word) phrase.now.words.now) }
     ensures ready { IfOk result (λ leaves.
         LeavesReady (T.held sources.now.lists.now) leaves (sources.now.after + 1)) }
+    ensures placed { IfOk result (λ leaves.
+        AllOpen (T.held sources.now.lists.now) sources.now.after leaves) }
+    ensures free { IfOk result (λ leaves.
+        AllKnown (place_of sources.now.known.now) leaves → steps.new ≡ steps.old) }
+    ensures counts { steps.old ≤ steps.new }
+{
+    let mut leaves = ListOf::new(sources.alloc);
+    add_leaves(sources, phrase, &mut leaves, steps)?;
+    Ok(leaves)
+}
+
+// The leaves of the words go into a list that has none.
+fn add_leaves<T: Lists, L: Ledger>(
+    sources: &Sources<T>,
+    phrase: &Phrase,
+    leaves: &mut ListOf<Leaf>,
+    steps: &mut Steps<L>,
+) -> Result<(), NoMemory>
+    requires known { KnownFit (T.held sources.now.lists.now) sources.now.after (place_of sources.now.known.now) }
+    requires empty { leaves.old ≡ [] }
+    ensures names { OnOk result
+        (list_names leaves.new ≡ map (λ word. ListName.Word word) phrase.now.words.now) }
+    ensures ready { OnOk result
+        (LeavesReady (T.held sources.now.lists.now) leaves.new (sources.now.after + 1)) }
+    ensures placed { OnOk result
+        (AllOpen (T.held sources.now.lists.now) sources.now.after leaves.new) }
+    ensures free { OnOk result
+        (AllKnown (place_of sources.now.known.now) leaves.new → steps.new ≡ steps.old) }
     ensures counts { steps.old ≤ steps.new }
 {
     let wanted = Wanted {
@@ -154,16 +190,17 @@ fn phrase_leaves<T: Lists, L: Ledger>(
         low: 0,
         high: 0,
     };
-    let mut leaves = ListOf::new(sources.alloc);
     'words: for word in phrase.words {
-        add_leaf(&mut leaves, word_leaf(sources, word, &wanted, used, steps)?)?;
+        add_leaf(leaves, word_leaf(sources, word, &wanted, steps))?;
     }
-    Ok(leaves)
+    Ok(())
 }
 
-fn add_leaf(leaves: &mut ListOf<Leaf>, leaf: Leaf) -> Result<(), NoMemory>
-    ensures { OnOk result (leaves.new ≡ leaves.old ++ leaf ∷ []) }
+// Puts a leaf behind the others, where it could be made.
+fn add_leaf(leaves: &mut ListOf<Leaf>, made: Result<Leaf, NoMemory>) -> Result<(), NoMemory>
+    ensures { OnOk result (Gains made leaves.old leaves.new) }
 {
+    let leaf = made?;
     leaves.push(leaf)?;
     Ok(())
 }
@@ -173,15 +210,18 @@ fn word_leaf<T: Lists, L: Ledger>(
     sources: &Sources<T>,
     word: &Bytes,
     wanted: &Wanted,
-    used: &mut usize,
     steps: &mut Steps<L>,
 ) -> Result<Leaf, NoMemory>
-    requires { HintsFit (T.held sources.now.lists.now) sources.now.hints.now }
+    requires { KnownFit (T.held sources.now.lists.now) sources.now.after (place_of sources.now.known.now) }
     ensures name { IfOk result (λ leaf. leaf.list ≡ ListName.Word word.now) }
     ensures ready { IfOk result (λ leaf.
         LeafReady (T.held sources.now.lists.now) leaf (sources.now.after + 1)) }
+    ensures placed { IfOk result (λ leaf.
+        IsOpenAt (T.held sources.now.lists.now) leaf.list sources.now.after leaf.place) }
+    ensures free { IfOk result (λ leaf.
+        IsSome (place_of sources.now.known.now leaf.list) → steps.new ≡ steps.old) }
     ensures counts { steps.old ≤ steps.new }
 {
     let text = word.clone()?;
-    leaf_of(sources, ListName::Word { text }, wanted, used, steps)
+    leaf_of(sources, ListName::Word { text }, wanted, steps)
 }

@@ -1,8 +1,10 @@
 //! Intervals of numbers as sets of ids.
 ghost use Rattle.std.specs.Prelude.{◌≡◌, ◌≤◌, ◌+◌, length, map, IfOk};
 ghost use Rattle.ft_meaning.specs.Holds.{has_of};
+ghost use Rattle.id_iters.specs.Fitting.{leaves_of};
 ghost use Rattle.id_iters.specs.Ready.{Ready};
-ghost use Rattle.query_plan.specs.Plans.{HintsFit, Tells, ids_of};
+ghost use Rattle.query_plan.specs.Known.{KnownFit, place_of};
+ghost use Rattle.query_plan.specs.Plans.{AllKnown, AllOpen, Tells, ids_of};
 ghost use Rattle.query_plan.specs.Sought.{rows_from};
 
 use crate::leaves::plan_lists;
@@ -20,16 +22,19 @@ pub fn plan_range<T: Lists, L: Ledger>(
     field: u16,
     low: i64,
     high: i64,
-    used: &mut usize,
     steps: &mut Steps<L>,
 ) -> Result<Planned, NoMemory>
-    requires { HintsFit (T.held sources.now.lists.now) sources.now.hints.now }
+    requires { KnownFit (T.held sources.now.lists.now) sources.now.after (place_of sources.now.known.now) }
     ensures set { IfOk result (λ planned.
         Tells sources.now.def.now sources.now.parts.now (T.held sources.now.lists.now)
         (λ doc. (has_of sources.now.def.now doc).range field low high)
         (ids_of (T.held sources.now.lists.now) planned)) }
     ensures ready { IfOk result (λ planned.
         Ready (T.held sources.now.lists.now) planned.iter (sources.now.after + 1)) }
+    ensures placed { IfOk result (λ planned.
+        AllOpen (T.held sources.now.lists.now) sources.now.after (leaves_of planned.iter)) }
+    ensures free { IfOk result (λ planned.
+        AllKnown (place_of sources.now.known.now) (leaves_of planned.iter) → steps.new ≡ steps.old) }
     ensures counts { steps.old ≤ steps.new }
 {
     let Some(ranges) = sources.parts.ranges_of(field) else {
@@ -44,7 +49,7 @@ pub fn plan_range<T: Lists, L: Ledger>(
         low,
         high,
     };
-    plan_lists(sources, lists, &wanted, used, steps)
+    plan_lists(sources, lists, &wanted, steps)
 }
 
 // The lists of the ranges from one place on and before another one.

@@ -1,8 +1,10 @@
 //! Planned parts, and how many ids each has at most.
-ghost use Rattle.std.specs.Prelude.{◌≡◌, ◌∷◌, ◌++◌, [], true, false, ℕ, OnOk};
+ghost use Rattle.std.specs.Prelude.{◌≡◌, [], true, false, ℕ, OnOk};
+ghost use Rattle.id_iters.specs.Fitting.{leaves_of};
 ghost use Rattle.id_iters.specs.Held.{Held};
 ghost use Rattle.id_iters.specs.Ready.{Ready};
 ghost use Rattle.id_iters.specs.Sets.{about};
+ghost use Rattle.query_plan.specs.Plans.{Gains};
 
 use ft_base::NoMemory;
 use id_iters::{Iter, ListName, Lists};
@@ -19,6 +21,7 @@ impl Planned {
     pub fn none() -> Planned
         ensures set { (held : Held) → (about held result.iter).has ≡ (λ id. false) }
         ensures ready { (held : Held) (from : ℕ) → Ready held result.iter from }
+        ensures leaves { leaves_of result.iter ≡ [] }
     {
         Planned {
             iter: Iter::of_none(),
@@ -30,6 +33,7 @@ impl Planned {
     pub fn all() -> Planned
         ensures set { (held : Held) → (about held result.iter).has ≡ (λ id. true) }
         ensures ready { (held : Held) (from : ℕ) → Ready held result.iter from }
+        ensures leaves { leaves_of result.iter ≡ [] }
     {
         Planned {
             iter: Iter::of_all(),
@@ -38,10 +42,14 @@ impl Planned {
     }
 }
 
-/// Puts a part behind the others.
-pub fn add_planned(plans: &mut Vec<Planned>, planned: Planned) -> Result<(), NoMemory>
-    ensures { OnOk result (plans.new.items ≡ plans.old.items ++ planned ∷ []) }
+/// Puts a part behind the others, where it could be made.
+pub fn add_planned(
+    plans: &mut Vec<Planned>,
+    made: Result<Planned, NoMemory>,
+) -> Result<(), NoMemory>
+    ensures { OnOk result (Gains made plans.old.items plans.new.items) }
 {
+    let planned = made?;
     plans.push(planned)?;
     Ok(())
 }

@@ -1,18 +1,18 @@
 //! What a plan is made from.
+use crate::known::Known;
 use ft_base::{Fields, IndexDef};
-use id_iters::Hint;
 use index_lists::IndexLists;
 use std::alloc::Global;
 
 /// An index by its definition; its lists, which `parts` finds by prefix and by interval and `lists` has as iterators
-/// read them; and where a reader starts: behind an id, in some lists at places that it knows.
+/// read them; and where a reader starts: behind an id, in some lists at places that are known.
 #[derive(Drop)]
-pub struct Sources<'a, T> {
+pub struct Sources<'a, 'h, T> {
     pub alloc: Global,
     pub def: &'a IndexDef,
     pub parts: &'a IndexLists,
     pub lists: &'a T,
-    pub hints: &'a [Hint],
+    pub known: &'a Known<'h>,
     pub after: u64,
 }
 

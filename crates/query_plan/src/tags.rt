@@ -1,15 +1,17 @@
 //! Tags as sets of ids.
 ghost use Rattle.std.specs.Prelude.{◌≡◌, ◌≤◌, ◌+◌, ◌++◌, map, IfOk, OnOk};
 ghost use Rattle.ft_meaning.specs.Holds.{has_of};
+ghost use Rattle.id_iters.specs.Fitting.{leaves_of};
 ghost use Rattle.id_iters.specs.Ready.{Ready};
-ghost use Rattle.query_plan.specs.Plans.{HintsFit, Tells, ids_of};
+ghost use Rattle.query_plan.specs.Known.{KnownFit, place_of};
+ghost use Rattle.query_plan.specs.Plans.{AllKnown, AllOpen, Tells, ids_of};
 ghost use Rattle.query_plan.specs.Sought.{all_sought, sought_by, words_with};
 ghost use Rattle.tag_index.specs.Tags.{tags_of};
 
 use crate::leaves::plan_lists;
 use crate::size::Planned;
 use crate::sources::{Sources, Wanted};
-use ft_base::{Bytes, Fields, NoMemory, Steps, TagPart};
+use ft_base::{Bytes, Fields, ListOf, NoMemory, Steps, TagPart};
 use id_iters::{ListName, Lists};
 use std::alloc::Global;
 use std::sync::ledger::Ledger;
@@ -19,26 +21,34 @@ use tag_index::TagLists;
 pub fn plan_tags<T: Lists, L: Ledger>(
     sources: &Sources<T>,
     field: u16,
-    parts: &[TagPart],
-    used: &mut usize,
+    parts: &ListOf<TagPart>,
     steps: &mut Steps<L>,
 ) -> Result<Planned, NoMemory>
-    requires { HintsFit (T.held sources.now.lists.now) sources.now.hints.now }
+    requires { KnownFit (T.held sources.now.lists.now) sources.now.after (place_of sources.now.known.now) }
     ensures set { IfOk result (λ planned.
         Tells sources.now.def.now sources.now.parts.now (T.held sources.now.lists.now)
         (λ doc. (has_of sources.now.def.now doc).tags field parts.now)
         (ids_of (T.held sources.now.lists.now) planned)) }
     ensures ready { IfOk result (λ planned.
         Ready (T.held sources.now.lists.now) planned.iter (sources.now.after + 1)) }
+    ensures placed { IfOk result (λ planned.
+        AllOpen (T.held sources.now.lists.now) sources.now.after (leaves_of planned.iter)) }
+    ensures free { IfOk result (λ planned.
+        AllKnown (place_of sources.now.known.now) (leaves_of planned.iter) → steps.new ≡ steps.old) }
     ensures counts { steps.old ≤ steps.new }
 {
-    let lists = tags_sought(sources.alloc, sources.parts.tag_lists(), field, parts)?;
+    let lists = tags_sought(
+        sources.alloc,
+        sources.parts.tag_lists(),
+        field,
+        parts.as_slice(),
+    )?;
     let wanted = Wanted {
         fields: &Fields::All,
         low: 0,
         high: 0,
     };
-    Ok(plan_lists(sources, lists, &wanted, used, steps)?)
+    Ok(plan_lists(sources, lists, &wanted, steps)?)
 }
 
 // The lists of the tags of a field that some part looks for.

@@ -1,9 +1,12 @@
 //! Parts put together.
-ghost use Rattle.std.specs.Prelude.{◌≡◌, ◌≤◌, ◌+◌, ◌*◌, ◌++◌, not, ℕ, [], ◌∷◌, length, IfOk};
+ghost use Rattle.std.specs.Prelude.{◌≡◌, ◌≤◌, ◌+◌, ◌*◌, ◌++◌, not, ℕ, [], ◌∷◌, length, IfOk, Option};
 ghost use Rattle.std.specs.List.{list_all};
+ghost use Rattle.id_iters.specs.Fitting.{leaves_of};
 ghost use Rattle.id_iters.specs.Held.{Held};
 ghost use Rattle.id_iters.specs.Ready.{Ready};
-ghost use Rattle.query_plan.specs.Plans.{AllReady, Joins, ids_of};
+ghost use Rattle.id_iters.specs.declared.list_name.ListName.{ListName};
+ghost use Rattle.inverted_list.specs.declared.place.Place.{Place};
+ghost use Rattle.query_plan.specs.Plans.{AllKnown, AllOpen, AllReady, Joins, PartsKnown, PartsOpen, ids_of};
 
 use crate::size::Planned;
 use ft_base::{ListOf, NoMemory};
@@ -79,6 +82,10 @@ pub fn every_of(alloc: Global, plans: Vec<Planned>) -> Result<Planned, NoMemory>
         → ids_of held made id ≡ list_all (λ planned. ids_of held planned id) plans.items) }
     ensures ready { IfOk result (λ made. (held : Held) (from : ℕ)
         → AllReady held plans.items from → Ready held made.iter from) }
+    ensures placed { IfOk result (λ made. (held : Held) (after : ℕ)
+        → PartsOpen held after plans.items → AllOpen held after (leaves_of made.iter)) }
+    ensures known { IfOk result (λ made. (known : ListName → Option Place)
+        → AllKnown known (leaves_of made.iter) → PartsKnown known plans.items) }
 {
     let mut ordered = plans;
     ordered.sort_by_key(|planned| planned.size)?;
@@ -99,6 +106,7 @@ pub fn other_of(alloc: Global, planned: Planned) -> Result<Planned, NoMemory>
         → ids_of held made id ≡ not (ids_of held planned id)) }
     ensures ready { IfOk result (λ made. (held : Held) (from : ℕ)
         → Ready held planned.iter from → Ready held made.iter from) }
+    ensures leaves { IfOk result (λ made. leaves_of made.iter ≡ leaves_of planned.iter) }
 {
     Ok(Planned {
         iter: Iter::of_other(alloc, planned.iter)?,

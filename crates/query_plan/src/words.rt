@@ -1,8 +1,10 @@
 //! Words and prefixes as sets of ids.
 ghost use Rattle.std.specs.Prelude.{◌≡◌, ◌≤◌, ◌+◌, map, IfOk};
 ghost use Rattle.ft_meaning.specs.Holds.{has_of};
+ghost use Rattle.id_iters.specs.Fitting.{leaves_of};
 ghost use Rattle.id_iters.specs.Ready.{Ready};
-ghost use Rattle.query_plan.specs.Plans.{HintsFit, Tells, ids_of};
+ghost use Rattle.query_plan.specs.Known.{KnownFit, place_of};
+ghost use Rattle.query_plan.specs.Plans.{AllKnown, AllOpen, Tells, ids_of};
 ghost use Rattle.query_plan.specs.Sought.{words_with};
 
 use crate::leaves::{plan_list, plan_lists};
@@ -19,16 +21,19 @@ pub fn plan_word<T: Lists, L: Ledger>(
     sources: &Sources<T>,
     fields: &Fields,
     word: &Bytes,
-    used: &mut usize,
     steps: &mut Steps<L>,
 ) -> Result<Planned, NoMemory>
-    requires { HintsFit (T.held sources.now.lists.now) sources.now.hints.now }
+    requires { KnownFit (T.held sources.now.lists.now) sources.now.after (place_of sources.now.known.now) }
     ensures set { IfOk result (λ planned.
         Tells sources.now.def.now sources.now.parts.now (T.held sources.now.lists.now)
         (λ doc. (has_of sources.now.def.now doc).word fields.now word.now)
         (ids_of (T.held sources.now.lists.now) planned)) }
     ensures ready { IfOk result (λ planned.
         Ready (T.held sources.now.lists.now) planned.iter (sources.now.after + 1)) }
+    ensures placed { IfOk result (λ planned.
+        AllOpen (T.held sources.now.lists.now) sources.now.after (leaves_of planned.iter)) }
+    ensures free { IfOk result (λ planned.
+        AllKnown (place_of sources.now.known.now) (leaves_of planned.iter) → steps.new ≡ steps.old) }
     ensures counts { steps.old ≤ steps.new }
 {
     let text = word.clone()?;
@@ -37,33 +42,36 @@ pub fn plan_word<T: Lists, L: Ledger>(
         low: 0,
         high: 0,
     };
-    Ok(plan_list(sources, ListName::Word { text }, &wanted, used, steps)?)
+    Ok(plan_list(sources, ListName::Word { text }, &wanted, steps)?)
 }
 
 /// The documents that have a word in some of the fields that begins with a text.
 pub fn plan_prefix<T: Lists, L: Ledger>(
     sources: &Sources<T>,
     fields: &Fields,
-    text: &[u8],
-    used: &mut usize,
+    text: &Bytes,
     steps: &mut Steps<L>,
 ) -> Result<Planned, NoMemory>
-    requires { HintsFit (T.held sources.now.lists.now) sources.now.hints.now }
+    requires { KnownFit (T.held sources.now.lists.now) sources.now.after (place_of sources.now.known.now) }
     ensures set { IfOk result (λ planned.
         Tells sources.now.def.now sources.now.parts.now (T.held sources.now.lists.now)
         (λ doc. (has_of sources.now.def.now doc).prefix fields.now text.now)
         (ids_of (T.held sources.now.lists.now) planned)) }
     ensures ready { IfOk result (λ planned.
         Ready (T.held sources.now.lists.now) planned.iter (sources.now.after + 1)) }
+    ensures placed { IfOk result (λ planned.
+        AllOpen (T.held sources.now.lists.now) sources.now.after (leaves_of planned.iter)) }
+    ensures free { IfOk result (λ planned.
+        AllKnown (place_of sources.now.known.now) (leaves_of planned.iter) → steps.new ≡ steps.old) }
     ensures counts { steps.old ≤ steps.new }
 {
-    let lists = words_with(sources.alloc, sources.parts.terms(), text)?;
+    let lists = words_with(sources.alloc, sources.parts.terms(), text.as_slice())?;
     let wanted = Wanted {
         fields,
         low: 0,
         high: 0,
     };
-    Ok(plan_lists(sources, lists, &wanted, used, steps)?)
+    Ok(plan_lists(sources, lists, &wanted, steps)?)
 }
 
 // The lists of the words that begin with a text.

@@ -1,24 +1,22 @@
-use Rattle.std.proofs.Common.{List, refl, sym, ap, ◌∙◌}
+use Rattle.std.proofs.Common.{rules, ◌+◌, take, List, refl, sym, ap, ◌∙◌}
 use Rattle.ft_base.specs.declared.query.Query.{Query}
 use Rattle.ft_base.specs.declared.query.Query.TheVariants as query
-use Rattle.query_plan.specs.Plans.{ids_of}
-use Rattle.query_plan.proofs.PlanLaws.{all_tell, every_tells, none_tells, optional_tells, other_tells, some_tells, tells_same}
+use Rattle.ft_meaning.specs.Holds.{holds}
+use Rattle.id_iters.specs.Fitting.{leaves_of}
+use Rattle.id_iters.specs.Ready.{Ready}
+use Rattle.query_plan.specs.Known.{place_of}
+use Rattle.query_plan.specs.declared.size.Planned.{Planned}
+use Rattle.query_plan.specs.Plans.{AllKnown, AllOpen, Tells, ids_of}
+use Rattle.query_plan.proofs.GainLaws.{all_more, of_item, same_more}
+use Rattle.query_plan.proofs.UnionLaws.{more}
+use Rattle.query_plan.proofs.OtherLaws.{other}
+use Rattle.query_plan.proofs.PlanLaws.{every_tells, one_more_tells, other_tells, some_tells, tells_same}
 use Rattle.query_plan.proofs.planner.+plan.Goals as goal
-
-pub plan-returns-in-Empty-clause-set : goal.plan-returns-in-Empty-clause-set
-plan-returns-in-Empty-clause-set g t c =
-    let held = g.T.Lists.held c.args.sources.now.lists.now in
-    none_tells c.args.sources.now.def.now c.args.sources.now.parts.now held c.args.query.now _ c.in-Empty.is (c.none.ensures.set held)
-
-pub plan-returns-in-All-clause-set : goal.plan-returns-in-All-clause-set
-plan-returns-in-All-clause-set g t c =
-    let held = g.T.Lists.held c.args.sources.now.lists.now in
-    all_tell c.args.sources.now.def.now c.args.sources.now.parts.now held c.args.query.now _ c.in-All.is (c.all.ensures.set held)
 
 pub plan-returns-in-And-clause-set : goal.plan-returns-in-And-clause-set
 plan-returns-in-And-clause-set g t c =
     tells_same c.args.sources.now.def.now c.args.sources.now.parts.now (g.T.Lists.held c.args.sources.now.lists.now) c.args.query.now _ c.plan_every.result
-    (c.in-And.is ∙ ap (λ (parts : List Query). query.And parts) (sym c.as_slice-in-And.ensures)) c.plan_every.ensures.set
+    (c.in-And.is ∙ ap (λ (parts : List Query). query.And parts) (sym c.as_slice.ensures)) c.plan_every.ensures.set
 
 pub plan-returns-in-Or-clause-set : goal.plan-returns-in-Or-clause-set
 plan-returns-in-Or-clause-set g t c =
@@ -33,14 +31,14 @@ plan-returns-in-Not-clause-set g t c =
 pub plan_every-returns-clause-set : goal.plan_every-returns-clause-set
 plan_every-returns-clause-set g t c =
     let held = g.T.Lists.held c.args.sources.now.lists.now in
-    every_tells c.args.sources.now.def.now c.args.sources.now.parts.now held c.args.queries.now _ c.in_ok-plans.plans.items
-    (ids_of held c.in_ok-every_of.field-0) refl c.in_ok-plans.ensures.set (c.in_ok-every_of.ensures.set held)
+    every_tells c.args.sources.now.def.now c.args.sources.now.parts.now held c.args.queries.now _ c.plan_each.new.plans.items
+    (ids_of held c.in_ok-every_of.field-0) refl c.in_ok-plan_each.ensures.set (c.in_ok-every_of.ensures.set held)
 
 pub plan_some-returns-clause-set : goal.plan_some-returns-clause-set
 plan_some-returns-clause-set g t c =
     let held = g.T.Lists.held c.args.sources.now.lists.now in
-    some_tells c.args.sources.now.def.now c.args.sources.now.parts.now held c.args.queries.now _ c.in_ok-plans.plans.items c.in_ok-some_of.field-0
-    refl c.in_ok-plans.ensures.set c.in_ok-some_of.ensures
+    some_tells c.args.sources.now.def.now c.args.sources.now.parts.now held c.args.queries.now _ c.plan_each.new.plans.items c.in_ok-some_of.field-0
+    refl c.in_ok-plan_each.ensures.set c.in_ok-some_of.ensures
 
 pub plan_other-returns-clause-set : goal.plan_other-returns-clause-set
 plan_other-returns-clause-set g t c =
@@ -48,7 +46,44 @@ plan_other-returns-clause-set g t c =
     other_tells c.args.sources.now.def.now c.args.sources.now.parts.now held c.args.query.now _
     (ids_of held c.in_ok-planned.planned) (ids_of held c.in_ok-other_of.field-0) refl c.in_ok-planned.ensures.set (c.in_ok-other_of.ensures.set held)
 
-pub plan-returns-in-Optional-clause-set : goal.plan-returns-in-Optional-clause-set
-plan-returns-in-Optional-clause-set g t c =
+pub plan-plan_other_leaf-requires : goal.plan-plan_other_leaf-requires
+plan-plan_other_leaf-requires g t c = record { known = c.requires; other = other c.args.query.now c.in_default.not-Word c.in_default.not-Prefix c.in_default.not-And c.in_default.not-Or c.in_default.not-Not }
+
+pub plan_every-returns-clause-placed : goal.plan_every-returns-clause-placed
+plan_every-returns-clause-placed g t c =
+    c.in_ok-every_of.ensures.placed (g.T.Lists.held c.args.sources.now.lists.now) c.args.sources.now.after c.in_ok-plan_each.ensures.placed
+
+pub plan_every-returns-clause-free : goal.plan_every-returns-clause-free
+plan_every-returns-clause-free g t c = λ known. c.in_ok-plan_each.ensures.free (c.in_ok-every_of.ensures.known (place_of c.args.sources.now.known.now) known)
+
+pub plan_some-returns-clause-placed : goal.plan_some-returns-clause-placed
+plan_some-returns-clause-placed g t c =
+    (c.in_ok-some_of.ensures.placed (g.T.Lists.held c.args.sources.now.lists.now) c.args.sources.now.after c.in_ok-plan_each.ensures.placed).0
+
+pub plan_some-returns-clause-free : goal.plan_some-returns-clause-free
+plan_some-returns-clause-free g t c = λ known. c.in_ok-plan_each.ensures.free (c.in_ok-some_of.ensures.known (place_of c.args.sources.now.known.now) (known, tt))
+
+pub plan_each-queries-preserved : goal.plan_each-queries-preserved
+plan_each-queries-preserved g t c =
     let held = g.T.Lists.held c.args.sources.now.lists.now in
-    optional_tells c.args.sources.now.def.now c.args.sources.now.parts.now held c.in-Optional.field-0 c.args.query.now _ c.in-Optional.is (c.all-in-Optional.ensures.set held)
+    let known = place_of c.args.sources.now.known.now in
+    let def = c.args.sources.now.def.now in
+    let parts = c.args.sources.now.parts.now in
+    let tells = of_item c.plan.result c.queries.plans.items c.add_planned.new.plans.items c.in_ok-add_planned.ensures
+    (λ (p : Planned). Tells def parts held (λ doc. holds c.query-item.result def doc) (ids_of held p)) c.plan.ensures.set in
+    record {
+      set =
+          one_more_tells def parts held (take c.queries.query-index c.args.queries.now) (take (c.queries.query-index + 1) c.args.queries.now) c.query-item.result
+          c.queries.plans.items _ c.in_ok-add_planned.ensures.item
+          (more c.args.queries.now c.queries.query-index c.query-item.result (search rules) c.query-item.is) c.in_ok-add_planned.ensures.items c.queries.invariant.set tells;
+      ready =
+          all_more c.plan.result c.queries.plans.items c.add_planned.new.plans.items c.in_ok-add_planned.ensures
+          (λ (p : Planned). Ready held p.iter (c.args.sources.now.after + 1)) c.queries.invariant.ready c.plan.ensures.ready;
+      placed =
+          all_more c.plan.result c.queries.plans.items c.add_planned.new.plans.items c.in_ok-add_planned.ensures
+          (λ (p : Planned). AllOpen held c.args.sources.now.after (leaves_of p.iter)) c.queries.invariant.placed c.plan.ensures.placed;
+      free =
+          same_more c.plan.result c.queries.plans.items c.add_planned.new.plans.items c.in_ok-add_planned.ensures
+          (λ (p : Planned). AllKnown known (leaves_of p.iter)) _ c.queries.steps _ c.queries.invariant.free c.plan.ensures.free;
+      counts = search rules;
+    }

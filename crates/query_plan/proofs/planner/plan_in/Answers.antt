@@ -1,4 +1,8 @@
+use Rattle.std.proofs.Common.{List, subst}
+use Rattle.id_iters.specs.declared.hint.Hint.{Hint}
+use Rattle.query_plan.specs.Known.{KnowsAll, place_of}
 use Rattle.query_plan.specs.Plans.{ids_of}
+use Rattle.query_plan.proofs.HintLaws.{all_known, all_placed}
 use Rattle.query_plan.proofs.MeetLaws.{are_lists, found_at}
 use Rattle.query_plan.proofs.planner.plan_in.Goals as goal
 
@@ -12,3 +16,15 @@ returns-clause-set g c = λ live docs are id.
 
 pub returns-clause-lists : goal.returns-clause-lists
 returns-clause-lists g c = λ live docs are. are_lists c.args.def.now c.args.parts.now (g.T.Lists.held c.args.lists.now) live docs are
+
+pub returns-in_err-known-clause-lists : goal.returns-in_err-known-clause-lists
+returns-in_err-known-clause-lists g c = λ live docs are. are_lists c.args.def.now c.args.parts.now (g.T.Lists.held c.args.lists.now) live docs are
+
+pub returns-clause-placed : goal.returns-clause-placed
+returns-clause-placed g c = all_placed (g.T.Lists.held c.args.lists.now) c.args.after c.args.hints.now.0 c.requires.hints _ c.in_ok-planned.ensures.placed
+
+pub returns-clause-free : goal.returns-clause-free
+returns-clause-free g c = λ fitting.
+    c.in_ok-planned.ensures.free
+    (all_known (g.T.Lists.held c.args.lists.now) c.args.after c.args.hints.now.0 (place_of c.in_ok-known.known)
+    (subst (λ (hints : List Hint). KnowsAll (g.T.Lists.held c.args.lists.now) c.args.after (place_of c.in_ok-known.known) hints) c.as_slice.ensures c.in_ok-known.ensures.all) _ fitting)

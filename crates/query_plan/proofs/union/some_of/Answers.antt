@@ -10,4 +10,4 @@ rounds-preserved c = joins_again _ _ _ c.rounds.invariant c.in_ok-left.ensures.j
 pub returns : goal.returns
 returns c =
     let none : c.rounds.left.items ≡ [] = nil c.rounds.left.items (omega (arith, c.in-None.ensures.cases.0)) in
-    joins_again _ [] _ (subst (λ (xs : List Planned). Joins c.args.plans.items xs) none c.rounds.invariant) (joins_none c.none.result c.none.ensures.set c.none.ensures.ready)
+    joins_again _ [] _ (subst (λ (xs : List Planned). Joins c.args.plans.items xs) none c.rounds.invariant) (joins_none c.none.result c.none.ensures.set c.none.ensures.ready c.none.ensures.leaves)

@@ -12,4 +12,5 @@ returns-clause-set g c =
     let held = g.T.Lists.held c.args.sources.now.lists.now in
     prefix_tells c.args.sources.now.def.now c.args.sources.now.parts.now held c.args.fields.now c.args.text.now (pos 0) (pos 0) _ _
     c.in_ok-plan_lists.ensures.set
-    (c.in_ok-lists.ensures ∙ ap (λ (terms : Lists TextHit). map (λ (word : List ℕ). names.Word word) (words_with c.args.text.now terms)) c.terms.ensures)
+    (c.in_ok-lists.ensures ∙ ap (λ (terms : Lists TextHit). map (λ (word : List ℕ). names.Word word) (words_with c.as_slice.result.now terms)) c.terms.ensures
+    ∙ ap (λ (text : List ℕ). map (λ (word : List ℕ). names.Word word) (words_with text c.args.sources.now.parts.now.words)) c.as_slice.ensures)
