@@ -6,8 +6,8 @@ use Rattle.std.specs.Option.{option_map}
 use Rattle.std.proofs.lemmas.Bool.{cases_Bool}
 use Rattle.doc_table.specs.Table.{Table}
 use Rattle.ft_base.specs.declared.doc.Doc.{Doc}
-use Rattle.index_lists.proofs.AliveLaws.{has_id-above}
-use Rattle.index_lists.specs.Lists.{AllLists, has_id}
+use Rattle.ft_index.proofs.AliveLaws.{has_id-above}
+use Rattle.ft_index.specs.Lists.{AllLists, has_id}
 use Rattle.inverted_list.specs.Listing.{RisesAbove, last_id}
 use Rattle.numeric_ranges.proofs.HalfLaws.{last_more, rises_low}
 use Rattle.ft_index.specs.Entering.{awaiting}

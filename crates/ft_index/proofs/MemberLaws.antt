@@ -13,11 +13,11 @@ use Rattle.ft_index.specs.Entering.{awaiting}
 use Rattle.ft_index.specs.Fits.{fit_of}
 use Rattle.ft_index.specs.Index.{Index, Indexes, IsIndex, WaitsIn, commits, commits_as, commits_ready, committed}
 use Rattle.ft_index.specs.Kept.{AreKept}
-use Rattle.index_lists.proofs.ListsLaws.{has-without}
-use Rattle.index_lists.proofs.PartedLaws.{filter-twice}
-use Rattle.index_lists.specs.Has.{Has}
-use Rattle.index_lists.specs.Lists.{AllLists}
-use Rattle.index_lists.specs.Without.{without}
+use Rattle.ft_index.proofs.ListsLaws.{has-without}
+use Rattle.ft_index.proofs.PartedLaws.{filter-twice}
+use Rattle.ft_index.specs.Has.{Has}
+use Rattle.ft_index.specs.Lists.{AllLists}
+use Rattle.ft_index.specs.Without.{without}
 use Rattle.ft_index.specs.declared.ready.Fit.{Fit}
 use Rattle.ft_index.specs.declared.ready.Fit.TheVariants.{Member, NoPrefix, Failed}
 use Rattle.ft_index.specs.declared.ready.Ready.{Ready}

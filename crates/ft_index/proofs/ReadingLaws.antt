@@ -4,8 +4,8 @@ use Rattle.std.proofs.Common.{◌∙◌, inl, inr, arith}
 use Rattle.std.proofs.lemmas.Bool.{cases_Bool}
 use Rattle.std.proofs.lemmas.Bool.Decides.{nat_tests}
 use Rattle.id_iters.specs.Least.{IsLeast}
-use Rattle.index_lists.proofs.AliveLaws.{above-no, below-no, has_id-below, same-yes}
-use Rattle.index_lists.specs.Lists.{has_id}
+use Rattle.ft_index.proofs.AliveLaws.{above-no, below-no, has_id-below, same-yes}
+use Rattle.ft_index.specs.Lists.{has_id}
 use Rattle.inverted_list.specs.Listing.{RisesAbove}
 
 -- two tests that agree from a number on have one least

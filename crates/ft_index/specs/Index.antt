@@ -5,8 +5,8 @@ use Rattle.doc_table.specs.Table.{Table}
 use Rattle.ft_base.specs.declared.definition.IndexDef.{IndexDef}
 use Rattle.ft_base.specs.declared.doc.Doc.{Doc}
 use Rattle.ft_meaning.specs.Member.{members, most_failures, one_more}
-use Rattle.index_lists.specs.Has.{Has}
-use Rattle.index_lists.specs.Lists.{AllLists}
+use Rattle.ft_index.specs.Has.{Has}
+use Rattle.ft_index.specs.Lists.{AllLists}
 use Rattle.ft_index.specs.Kept.{AreKept}
 use Rattle.ft_index.specs.declared.ready.Fit.{Fit}
 use Rattle.ft_index.specs.declared.ready.Fit.TheVariants.{Member, NoPrefix, Failed}

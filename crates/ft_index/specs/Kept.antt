@@ -1,9 +1,9 @@
 -- What holds of the documents and the posting lists of every index.
 use Rattle.std.specs.Prelude.{◌<◌, ◌≤◌, IfSome}
 use Rattle.doc_table.specs.Table.{Table}
-use Rattle.index_lists.specs.Lists.{AllLists}
-use Rattle.index_lists.specs.Markers.{MarkersDiffer}
-use Rattle.index_lists.specs.UpTo.{AreUpTo}
+use Rattle.ft_index.specs.Lists.{AllLists}
+use Rattle.ft_index.specs.Markers.{MarkersDiffer}
+use Rattle.ft_index.specs.UpTo.{AreUpTo}
 use Rattle.inverted_list.specs.Listing.{RisesAbove, last_id}
 
 -- Live ids rise, and one that waits is above the live ones. In every list the ids rise. No id is above the last that was

@@ -1,4 +1,16 @@
+pub mod Adding
+pub mod Collected
 pub mod Entering
+pub mod Entries
 pub mod Fits
+pub mod Has
 pub mod Index
 pub mod Kept
+pub mod Lists
+pub mod Markers
+pub mod Numbering
+pub mod Records
+pub mod Tagging
+pub mod Taking
+pub mod UpTo
+pub mod Without

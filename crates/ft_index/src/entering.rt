@@ -4,12 +4,12 @@ ghost use Rattle.ft_base.specs.declared.doc.Doc.{Doc};
 ghost use Rattle.ft_meaning.specs.Meaning.{ValuesFit};
 ghost use Rattle.ft_index.specs.Entering.{awaiting};
 ghost use Rattle.ft_index.specs.Kept.{AreKept};
-ghost use Rattle.index_lists.specs.Has.{Has};
-ghost use Rattle.index_lists.specs.Markers.{AreBefore, GainsMarkers};
+ghost use Rattle.ft_index.specs.Has.{Has};
+ghost use Rattle.ft_index.specs.Markers.{AreBefore, GainsMarkers};
 
 use doc_table::DocTable;
 use ft_base::{Doc, IndexDef, NoMemory};
-use index_lists::IndexLists;
+use crate::lists::IndexLists;
 use inverted_list::Markers;
 
 /// Puts a document's entries into the lists, under an id that is not live. Where memory is wanting

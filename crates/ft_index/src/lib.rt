@@ -4,15 +4,22 @@
 //! while it is not live yet, which may want memory; then it is made live, which wants none. A document
 //! that is written again gets a new id: the old id is killed, and what it left in the lists is dead.
 //! So a list may hold entries that no search may answer, and whoever reads one asks what is live.
-//! Read first `specs/Index.antt`, then `index.rt`.
+//! Read first `specs/Index.antt`, then `index.rt`; of the lists `specs/Entries.antt` and `specs/Has.antt`, which says how they
+//! stand for documents, then `lists.rt`.
 #![tactic(auto)]
 
 mod entering;
 mod index;
+mod lists;
+mod numbers;
 mod reading;
 mod ready;
+mod tags;
+mod words;
 
 /// One index. It is what iterators of ids read.
 pub use index::FtIndex;
+/// Its posting lists: of its words, of its tags, and of the ranges of its numbers.
+pub use lists::IndexLists;
 /// A document that was prepared, and how it fits the index.
 pub use ready::{Fit, Ready};

@@ -1,5 +1,5 @@
 //! What an iterator reads of an index.
-ghost use Rattle.index_lists.specs.Lists.{held_of};
+ghost use Rattle.ft_index.specs.Lists.{held_of};
 
 use crate::index::FtIndex;
 use id_iters::Lists;

@@ -14,8 +14,8 @@ use Rattle.ft_machine.specs.Step.{Told}
 use Rattle.index_commands.specs.Exactness.{IsRefusal, ReadsFew, ReadsRows, TellsEntries, TellsExactly, TellsOf}
 use Rattle.ft_machine.specs.Info.{info_reply}
 use Rattle.ft_machine.specs.declared.counts.Counts.{Counts}
-use Rattle.index_lists.specs.Lists.{AllLists}
-use Rattle.index_lists.specs.Records.{all_entries}
+use Rattle.ft_index.specs.Lists.{AllLists}
+use Rattle.ft_index.specs.Records.{all_entries}
 use Rattle.indexed_store.specs.Named.{is_named}
 use Rattle.hash_store.specs.Store.{reads_after}
 use Rattle.search_exec.specs.Ids.{reads_for}

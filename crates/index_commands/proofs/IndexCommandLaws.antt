@@ -18,7 +18,7 @@ use Rattle.ft_base.specs.declared.definition.IndexDef.{IndexDef}
 use Rattle.ft_base.specs.declared.doc.Doc.{Doc}
 use Rattle.ft_base.specs.declared.reply.Reply.{Reply}
 use Rattle.ft_base.specs.declared.reply.Reply.TheVariants.{Array, Bulk, Fault, Line}
-use Rattle.index_lists.proofs.AliveLaws.{row_of}
+use Rattle.ft_index.proofs.AliveLaws.{row_of}
 use Rattle.ft_index.specs.Index.{Index}
 use Rattle.ft_schema.specs.Gives.{IsFaultOf}
 use Rattle.ft_schema.specs.Schema.{extended, has_any_alias, is_over}

@@ -13,8 +13,8 @@ use Rattle.ft_base.specs.declared.reply.Reply.TheVariants.{Fault}
 use Rattle.ft_index.specs.Index.{Index, Indexes}
 use Rattle.ft_meaning.specs.Member.{members}
 use Rattle.ft_machine.specs.Info.{info_reply}
-use Rattle.index_lists.specs.Has.{Has}
-use Rattle.index_lists.specs.Lists.{AllLists}
+use Rattle.ft_index.specs.Has.{Has}
+use Rattle.ft_index.specs.Lists.{AllLists}
 use Rattle.ft_meaning.specs.Records.{live_records}
 use Rattle.ft_machine.proofs.Stepping.{gives, told}
 use Rattle.ft_machine.specs.Arguments.{first}

@@ -13,7 +13,7 @@ use Rattle.ft_machine.specs.Info.{info_reply}
 use Rattle.ft_machine.specs.Replies.{found_reply}
 use Rattle.ft_machine.specs.declared.counts.Counts.{Counts}
 use Rattle.hash_store.specs.Store.{reads_after}
-use Rattle.index_lists.specs.Records.{all_entries}
+use Rattle.ft_index.specs.Records.{all_entries}
 use Rattle.indexed_store.specs.Named.{is_named}
 use Rattle.search_exec.specs.Ids.{reads_for}
 

@@ -9,9 +9,9 @@ use Rattle.std.proofs.lemmas.List.Kept.{AllPairs-cons}
 use Rattle.std.proofs.lemmas.List.Quantifiers.{all_pairs_push}
 use Rattle.ft_base.specs.declared.doc.Doc.{Doc}
 use Rattle.ft_index.specs.Index.{Index}
-use Rattle.index_lists.proofs.TakingLaws.{before-of, not-again}
-use Rattle.index_lists.specs.Lists.{AllLists}
-use Rattle.index_lists.specs.Markers.{AreBefore, GainsMarkers, HasMarker, IsBefore, marker_at}
+use Rattle.ft_index.proofs.TakingLaws.{before-of, not-again}
+use Rattle.ft_index.specs.Lists.{AllLists}
+use Rattle.ft_index.specs.Markers.{AreBefore, GainsMarkers, HasMarker, IsBefore, marker_at}
 use Rattle.inverted_list.proofs.ReachLaws.{le_or_lt}
 use Rattle.inverted_list.specs.declared.marker.Marker.{Marker}
 use Rattle.inverted_list.specs.declared.marker.Markers.{Markers}

@@ -17,7 +17,7 @@ use Rattle.ft_machine.specs.Step.{last_number, next_number}
 use Rattle.indexed_store.specs.declared.change.Change.{Change}
 use Rattle.indexed_store.specs.declared.change.Change.TheVariants.{Alter, Create, Drop, DropMembers, EraseKey, EraseKeys, Flush, Move, Nothing, Write}
 use Rattle.ft_index.proofs.IndexLaws.{last-push}
-use Rattle.index_lists.proofs.AliveLaws.{row_of}
+use Rattle.ft_index.proofs.AliveLaws.{row_of}
 use Rattle.ft_index.specs.Index.{Index}
 use Rattle.hash_store.specs.Store.{Store}
 use Rattle.inverted_list.specs.Listing.{last_id}

@@ -7,7 +7,7 @@ use Rattle.std.proofs.Common.{sym, ap, ◌∙◌, subst, arith}
 use Rattle.std.proofs.lemmas.Bool.Decides.{nat_tests}
 use Rattle.ft_base.specs.Space.{erase}
 use Rattle.ft_base.specs.declared.doc.Doc.{Doc}
-use Rattle.index_lists.proofs.AliveLaws.{row_of, same-yes}
+use Rattle.ft_index.proofs.AliveLaws.{row_of, same-yes}
 use Rattle.ft_index.specs.Index.{Index}
 use Rattle.ft_meaning.specs.Member.{members}
 use Rattle.hash_store.specs.Store.{Store}

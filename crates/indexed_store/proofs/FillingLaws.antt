@@ -8,7 +8,7 @@ use Rattle.std.proofs.lemmas.Bool.Decides.{nat_tests}
 use Rattle.ft_base.specs.declared.doc.Doc.{Doc}
 use Rattle.hash_store.specs.Store.{reads_after}
 use Rattle.indexed_store.specs.Filling.{beyond, upto}
-use Rattle.index_lists.proofs.AliveLaws.{last_id-low, row_of}
+use Rattle.ft_index.proofs.AliveLaws.{last_id-low, row_of}
 use Rattle.inverted_list.specs.Listing.{RisesAbove, last_id}
 
 -- all ids are above

@@ -4,9 +4,9 @@ use Rattle.std.proofs.Common.{sym, ap, ◌∙◌, subst, inl, inr, arith, add-on
 use Rattle.std.proofs.lemmas.Bool.Decides.{eqb_tells}
 use Rattle.ft_base.specs.declared.doc.Doc.{Doc}
 use Rattle.indexed_store.specs.Standing.{IndexStands}
-use Rattle.index_lists.proofs.TakingLaws.{all-before, before-of}
-use Rattle.index_lists.specs.Lists.{AllLists}
-use Rattle.index_lists.specs.Markers.{AreBefore, IsBefore, marker_at}
+use Rattle.ft_index.proofs.TakingLaws.{all-before, before-of}
+use Rattle.ft_index.specs.Lists.{AllLists}
+use Rattle.ft_index.specs.Markers.{AreBefore, IsBefore, marker_at}
 use Rattle.ft_index.specs.Index.{Index, Indexes, IsIndex}
 use Rattle.inverted_list.specs.declared.marker.Marker.{Marker}
 use Rattle.inverted_list.specs.declared.marker.Markers.{Markers}

@@ -11,12 +11,12 @@ use Rattle.std.proofs.lemmas.List.Elements.{All-map, All-append, All-cons, All-f
 use Rattle.ft_base.specs.Space.{doc_of, erase, write}
 use Rattle.ft_base.specs.declared.doc.Doc.{Doc}
 use Rattle.ft_index.proofs.IndexLaws.{last-push, last-removed, rises-push, rises-removed}
-use Rattle.index_lists.proofs.AliveLaws.{above-no, below-no, last_id-low, row_of, rows-without, same-yes, without-below}
+use Rattle.ft_index.proofs.AliveLaws.{above-no, below-no, last_id-low, row_of, rows-without, same-yes, without-below}
 use Rattle.ft_index.proofs.MemberLaws.{commits-is, index-committed, index-gone, indexes-gone}
 use Rattle.ft_index.specs.Fits.{fit_of}
 use Rattle.ft_index.specs.Index.{Index, Indexes, IsIndex, commits, commits_as, commits_ready, committed}
-use Rattle.index_lists.specs.Markers.{AreBefore}
-use Rattle.index_lists.specs.Without.{without}
+use Rattle.ft_index.specs.Markers.{AreBefore}
+use Rattle.ft_index.specs.Without.{without}
 use Rattle.ft_index.specs.declared.ready.Fit.{Fit}
 use Rattle.ft_index.specs.declared.ready.Fit.TheVariants.{Member, NoPrefix, Failed}
 use Rattle.ft_index.specs.declared.ready.Ready.{Ready}

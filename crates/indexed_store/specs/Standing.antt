@@ -3,7 +3,7 @@ use Rattle.std.specs.Prelude.{◌≡◌, ◌<◌, ℕ, List, map, length}
 use Rattle.std.specs.List.{All, AllPairs}
 use Rattle.ft_base.specs.declared.doc.Doc.{Doc}
 use Rattle.ft_index.specs.Index.{Index, Indexes, IsIndex}
-use Rattle.index_lists.specs.Markers.{AreBefore, HasMarker}
+use Rattle.ft_index.specs.Markers.{AreBefore, HasMarker}
 use Rattle.ft_meaning.specs.Meaning.{ValuesFit}
 use Rattle.hash_store.specs.Store.{Store}
 use Rattle.inverted_list.specs.Listing.{RisesAbove, last_id}

@@ -3,7 +3,7 @@ ghost use Rattle.std.specs.Prelude.{◌≡◌, ◌≤◌, ◌+◌, [], length, I
 ghost use Rattle.ft_meaning.specs.Member.{most_failures};
 ghost use Rattle.ft_index.specs.Index.{Indexes, IsIndex};
 ghost use Rattle.hash_store.specs.Store.{reads_after};
-ghost use Rattle.index_lists.specs.Markers.{AreBefore};
+ghost use Rattle.ft_index.specs.Markers.{AreBefore};
 ghost use Rattle.ft_machine.specs.Definitions.{failures_over};
 ghost use Rattle.indexed_store.specs.Standing.{AreOfEvent, AreWritten, IndexStands, markers_at};
 

@@ -5,7 +5,7 @@ ghost use Rattle.hash_store.specs.Store.{reads_after};
 ghost use Rattle.indexed_store.specs.Filling.{beyond, upto};
 ghost use Rattle.ft_machine.specs.Definitions.{failures_over};
 ghost use Rattle.indexed_store.specs.Standing.{AreOfEvent, AreWritten, IndexStands};
-ghost use Rattle.index_lists.specs.Markers.{AreBefore};
+ghost use Rattle.ft_index.specs.Markers.{AreBefore};
 ghost use Rattle.ft_index.specs.Index.{Indexes, IsIndex};
 ghost use Rattle.inverted_list.specs.Listing.{last_id};
 

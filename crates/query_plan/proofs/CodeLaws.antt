@@ -15,7 +15,7 @@ use Rattle.ft_base.specs.declared.doc.Doc.{Doc}
 use Rattle.ft_meaning.specs.Holds.{places_of}
 use Rattle.ft_meaning.specs.Meaning.{ValuesFit, field_tokens, has_word}
 use Rattle.id_iters.specs.Entries.{field_of, place_of, places_in}
-use Rattle.index_lists.specs.Entries.{codes, codes_among, occurrence, occurrences_from}
+use Rattle.ft_index.specs.Entries.{codes, codes_among, occurrence, occurrences_from}
 use Rattle.phrase_match.specs.Phrase.{has, rises}
 use Rattle.phrase_match.proofs.PlacesLaws.{has_cases, has_none, above_first}
 use Rattle.query_plan.proofs.AnyLaws.{any_from}

@@ -10,8 +10,8 @@ use Rattle.ft_base.specs.declared.doc.Doc.{Doc}
 use Rattle.ft_meaning.specs.Meaning.{ValuesFit}
 use Rattle.id_iters.specs.Entries.{has_entry, wanted}
 use Rattle.id_iters.proofs.EntryLaws.{has_at_low}
-use Rattle.index_lists.specs.Has.{alive}
-use Rattle.index_lists.specs.Lists.{has_id}
+use Rattle.ft_index.specs.Has.{alive}
+use Rattle.ft_index.specs.Lists.{has_id}
 use Rattle.inverted_list.specs.Listing.{RisesAbove, last_id}
 use Rattle.numeric_ranges.proofs.HalfLaws.{rises_low}
 use Rattle.query_plan.specs.Plans.{IsIn}

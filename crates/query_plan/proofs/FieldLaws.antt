@@ -11,7 +11,7 @@ use Rattle.ft_base.specs.declared.query.Fields.TheVariants as fields
 use Rattle.ft_meaning.specs.Holds.{searched, has_phrase, places_of}
 use Rattle.ft_meaning.specs.Meaning.{ValuesFit, has_words, field_tokens, has_word}
 use Rattle.id_iters.specs.Entries.{counts_in, field_of, looks_in, places_in, stand_in, stand_together, wanted}
-use Rattle.index_lists.specs.Entries.{codes}
+use Rattle.ft_index.specs.Entries.{codes}
 use Rattle.phrase_match.specs.Phrase.{fits, some_choice, within}
 use Rattle.query_plan.proofs.AnyLaws.{any_from, from_any, from_cong, any_filter, all_named}
 use Rattle.query_plan.proofs.CodeLaws.{codes_any, places_at}

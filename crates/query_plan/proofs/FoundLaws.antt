@@ -10,7 +10,7 @@ use Rattle.ft_base.specs.declared.query.Query.{Query}
 use Rattle.ft_meaning.specs.Holds.{holds}
 use Rattle.id_iters.specs.Held.{Held}
 use Rattle.id_iters.specs.Least.{IsLeastAt, NoneFrom}
-use Rattle.index_lists.specs.Lists.{AllLists}
+use Rattle.ft_index.specs.Lists.{AllLists}
 use Rattle.inverted_list.specs.Listing.{RisesAbove}
 use Rattle.query_plan.specs.Finds.{AreOf, finds, found_from, found_ids}
 use Rattle.query_plan.proofs.EntryLaws.{Rise, eqb_itself, missed, rise_from}

@@ -16,9 +16,9 @@ use Rattle.ft_meaning.specs.Holds.{begins, has_of, holds, searched}
 use Rattle.ft_meaning.specs.Meaning.{ValuesFit, field_tokens}
 use Rattle.id_iters.specs.Entries.{counts_in, has_entry, lies_in, range_has, stand_together, tag_has, word_has}
 use Rattle.id_iters.specs.Held.{Held, AreLists, codes_of, entries_of}
-use Rattle.index_lists.specs.Entries.{codes, has_tag}
-use Rattle.index_lists.specs.Has.{NumbersHave}
-use Rattle.index_lists.specs.Lists.{AllLists, has_id, list_from, rows_of}
+use Rattle.ft_index.specs.Entries.{codes, has_tag}
+use Rattle.ft_index.specs.Has.{NumbersHave}
+use Rattle.ft_index.specs.Lists.{AllLists, has_id, list_from, rows_of}
 use Rattle.inverted_list.specs.Listing.{Listing, RisesAbove, last_id}
 use Rattle.numeric_ranges.specs.Ranges.{IsPartition, Rows, list_at, meets}
 use Rattle.phrase_match.specs.Phrase.{has, rises}

@@ -10,7 +10,7 @@ use Rattle.ft_base.specs.declared.query.Query.TheViews.{out-Query, roll-Query, r
 use Rattle.ft_base.specs.declared.query.TagPart.{TagPart}
 use Rattle.ft_meaning.specs.Holds.{holds}
 use Rattle.id_iters.specs.Held.{Held}
-use Rattle.index_lists.specs.Lists.{AllLists}
+use Rattle.ft_index.specs.Lists.{AllLists}
 use Rattle.query_plan.specs.Plans.{Tells}
 use Rattle.query_plan.specs.Sought.{asks_other_step, asks_other}
 use Rattle.query_plan.proofs.PlanLaws.{all_tell, optional_tells}

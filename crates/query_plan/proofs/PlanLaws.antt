@@ -24,7 +24,7 @@ use Rattle.id_iters.specs.Ready.{Ready}
 use Rattle.id_iters.specs.declared.list_name.ListName.{ListName}
 use Rattle.id_iters.specs.declared.list_name.ListName.TheVariants as names
 use Rattle.id_iters.specs.declared.phrase.PhraseIter.{PhraseIter}
-use Rattle.index_lists.specs.Lists.{AllLists, rows_of}
+use Rattle.ft_index.specs.Lists.{AllLists, rows_of}
 use Rattle.numeric_ranges.specs.Ranges.{IsPartition, Rows, meets}
 use Rattle.phrase_match.specs.Phrase.{within}
 use Rattle.tag_index.specs.Tags.{tags_of}

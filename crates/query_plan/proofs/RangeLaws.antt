@@ -16,7 +16,7 @@ use Rattle.ft_meaning.specs.Holds.{field_number, has_number, is_between}
 use Rattle.ft_meaning.proofs.HoldsLaws.{value_number-none}
 use Rattle.id_iters.specs.Entries.{lies_in, range_has, wanted}
 use Rattle.id_iters.specs.Held.{entries_of}
-use Rattle.index_lists.specs.Entries.{is_ranged, searched_number}
+use Rattle.ft_index.specs.Entries.{is_ranged, searched_number}
 use Rattle.inverted_list.specs.Listing.{Listing}
 use Rattle.numeric_ranges.specs.Ranges as ranges
 use Rattle.numeric_ranges.specs.Ranges.{AreParted, EntriesLie, IsPartition, Rows, is_below, list_at, low_of, meets}

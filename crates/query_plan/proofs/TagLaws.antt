@@ -11,7 +11,7 @@ use Rattle.ft_base.specs.declared.doc.Doc.{Doc}
 use Rattle.ft_base.specs.declared.query.TagPart.{TagPart}
 use Rattle.ft_meaning.specs.Holds as holds
 use Rattle.ft_meaning.specs.Holds.{begins, is_sought}
-use Rattle.index_lists.specs.Entries.{searched_tags}
+use Rattle.ft_index.specs.Entries.{searched_tags}
 use Rattle.posting_block.specs.declared.hits.TagHit.{TagHit}
 use Rattle.term_dict.specs.Terms.{Lists}
 use Rattle.query_plan.specs.Sought.{sought_by, all_sought}

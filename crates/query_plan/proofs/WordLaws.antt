@@ -9,9 +9,9 @@ use Rattle.ft_base.specs.declared.definition.IndexDef.{IndexDef}
 use Rattle.ft_base.specs.declared.doc.Doc.{Doc}
 use Rattle.id_iters.specs.Entries.{has_entry, wanted, hit_codes}
 use Rattle.id_iters.specs.Held.{Held, entries_of, codes_of}
-use Rattle.index_lists.specs.Entries.{codes, entry, word_entries, has_tag, tag_entries, number_entries, searched_number}
-use Rattle.index_lists.specs.Has.{alive}
-use Rattle.index_lists.specs.Lists.{AllLists, has_id}
+use Rattle.ft_index.specs.Entries.{codes, entry, word_entries, has_tag, tag_entries, number_entries, searched_number}
+use Rattle.ft_index.specs.Has.{alive}
+use Rattle.ft_index.specs.Lists.{AllLists, has_id}
 use Rattle.inverted_list.specs.Listing.{Listing, RisesAbove}
 use Rattle.posting_block.specs.declared.hits.NumHit.{NumHit}
 use Rattle.posting_block.specs.declared.hits.TagHit.{TagHit}

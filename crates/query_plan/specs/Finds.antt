@@ -7,8 +7,8 @@ use Rattle.ft_base.specs.declared.query.Query.{Query}
 use Rattle.ft_meaning.specs.Holds.{holds}
 use Rattle.ft_meaning.specs.Meaning.{ValuesFit}
 use Rattle.id_iters.specs.Held.{Held}
-use Rattle.index_lists.specs.Has.{Has}
-use Rattle.index_lists.specs.Lists.{AllLists, held_of}
+use Rattle.ft_index.specs.Has.{Has}
+use Rattle.ft_index.specs.Lists.{AllLists, held_of}
 use Rattle.inverted_list.specs.Listing.{RisesAbove, last_id}
 
 -- whether the document of an id is there and meets the query

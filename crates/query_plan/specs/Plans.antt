@@ -15,7 +15,7 @@ use Rattle.id_iters.specs.Sets.{about}
 use Rattle.id_iters.specs.declared.hint.Hint.{Hint}
 use Rattle.id_iters.specs.declared.leaf.Leaf.{Leaf}
 use Rattle.id_iters.specs.declared.list_name.ListName.{ListName}
-use Rattle.index_lists.specs.Lists.{AllLists}
+use Rattle.ft_index.specs.Lists.{AllLists}
 use Rattle.inverted_list.specs.declared.place.Place.{Place}
 use Rattle.query_plan.specs.Finds.{AreOf}
 use Rattle.query_plan.specs.declared.size.Planned.{Planned}

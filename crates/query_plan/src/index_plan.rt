@@ -8,7 +8,7 @@ ghost use Rattle.id_iters.specs.Fitting.{HasFitting, IsPlaced, leaves_of};
 ghost use Rattle.id_iters.specs.Held.{AreLists};
 ghost use Rattle.id_iters.specs.Ready.{Ready};
 ghost use Rattle.id_iters.specs.Sets.{in_set};
-ghost use Rattle.index_lists.specs.Lists.{held_of};
+ghost use Rattle.ft_index.specs.Lists.{held_of};
 ghost use Rattle.query_plan.specs.Finds.{IsKept, finds};
 ghost use Rattle.query_plan.specs.Plans.{HintsFit};
 

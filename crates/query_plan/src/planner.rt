@@ -23,7 +23,7 @@ use crate::union::{every_of, other_of, some_of};
 use crate::words::{plan_prefix, plan_word};
 use ft_base::{IndexDef, NoMemory, Query, Steps};
 use id_iters::{Hints, Iter, Lists};
-use index_lists::IndexLists;
+use ft_index::IndexLists;
 use std::alloc::Global;
 use std::sync::ledger::Ledger;
 

@@ -1,7 +1,7 @@
 //! What a plan is made from.
 use crate::known::Known;
 use ft_base::{Fields, IndexDef};
-use index_lists::IndexLists;
+use ft_index::IndexLists;
 use std::alloc::Global;
 
 /// An index by its definition; its lists, which `parts` finds by prefix and by interval and `lists` has as iterators

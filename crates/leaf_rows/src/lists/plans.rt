@@ -2,7 +2,7 @@
 //! each `COUNT:TEXT` is so many documents with that text.
 ghost use Rattle.std.specs.Prelude.{◌≡◌, ◌<◌, ◌≤◌, IfOk, IfSome, IsTrue, OnOk};
 ghost use Rattle.ft_meaning.specs.Meaning.{ValuesFit};
-ghost use Rattle.index_lists.specs.Markers.{AreBefore};
+ghost use Rattle.ft_index.specs.Markers.{AreBefore};
 
 use super::numbers::{number, parted, put_number};
 use crate::answer::Answer;

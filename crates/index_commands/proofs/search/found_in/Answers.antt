@@ -3,7 +3,7 @@ use Rattle.std.specs.Prelude.{Bool, IfOk, OnOk, length}
 use Rattle.ft_base.specs.declared.doc.Doc.{Doc}
 use Rattle.ft_meaning.specs.Holds.{found_of}
 use Rattle.id_iters.specs.Sets.{in_set}
-use Rattle.index_lists.specs.Lists.{held_of}
+use Rattle.ft_index.specs.Lists.{held_of}
 use Rattle.hash_store.specs.Store.{reads_after}
 use Rattle.search_exec.specs.Ids.{AreKnown, docs_in, reads_for}
 use Rattle.ft_machine.specs.Replies.{found_reply}

@@ -2,8 +2,8 @@ use Rattle.std.specs.Prelude.{◌≡◌, ◌+◌}
 use Rattle.std.proofs.Common.{◌∙◌, ap, sym, subst}
 use Rattle.std.proofs.lemmas.Result.{IfOk-weaker}
 use Rattle.ft_index.specs.Index.{Index}
-use Rattle.index_lists.specs.Lists.{AllLists}
-use Rattle.index_lists.specs.Markers.{HasMarker}
+use Rattle.ft_index.specs.Lists.{AllLists}
+use Rattle.ft_index.specs.Markers.{HasMarker}
 use Rattle.indexed_store.specs.Standing.{AreOfEvent, IndexStands, markers_at}
 use Rattle.indexed_store.proofs.creation.index_over.Goals as goal
 

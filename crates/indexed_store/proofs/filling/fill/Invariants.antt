@@ -2,7 +2,7 @@ use Rattle.std.specs.Prelude.{◌≡◌, ◌<◌, ◌≤◌, length}
 use Rattle.ft_machine.specs.Definitions.{failures_over}
 use Rattle.hash_store.specs.Store.{reads_after}
 use Rattle.indexed_store.specs.Filling.{beyond, upto}
-use Rattle.index_lists.specs.Markers.{AreBefore}
+use Rattle.ft_index.specs.Markers.{AreBefore}
 use Rattle.ft_index.specs.Index.{Indexes, IsIndex}
 use Rattle.indexed_store.specs.Standing.{AreOfEvent}
 use Rattle.indexed_store.proofs.filling.fill.Given as goal

@@ -6,9 +6,9 @@ use Rattle.ft_meaning.specs.Member.{failures_with}
 use Rattle.ft_machine.specs.Definitions.{Defined, failures_over}
 use Rattle.indexed_store.proofs.StepLaws.{defined-committed, lists-committed}
 use Rattle.std.proofs.Common.{◌∙◌, ap, sym, subst, inl, inr, arith}
-use Rattle.index_lists.specs.Lists.{AllLists}
+use Rattle.ft_index.specs.Lists.{AllLists}
 use Rattle.hash_store.specs.Store.{Store, read_count}
-use Rattle.index_lists.specs.Markers.{HasMarker}
+use Rattle.ft_index.specs.Markers.{HasMarker}
 use Rattle.ft_base.specs.declared.doc.Doc.{Doc}
 use Rattle.indexed_store.specs.Filling.{beyond, upto}
 use Rattle.ft_index.specs.Index.{Index, Indexes, IsIndex, committed}

@@ -1,10 +1,10 @@
 -- A document that is no member changes nothing that is seen; a member enters the lists.
 use Rattle.std.proofs.Common.{ℕ, List, ◌≡◌, ◌∙◌, ◌⊎◌, Some, ap, sym, subst, inl, inr, refl, arith}
 use Rattle.ft_meaning.specs.Member.{members}
-use Rattle.index_lists.specs.Has.{Has}
+use Rattle.ft_index.specs.Has.{Has}
 use Rattle.ft_index.specs.Fits.{fit_of}
 use Rattle.ft_index.specs.Index.{Index, Indexes}
-use Rattle.index_lists.specs.Markers.{AreBefore, GainsMarkers}
+use Rattle.ft_index.specs.Markers.{AreBefore, GainsMarkers}
 use Rattle.ft_index.specs.contracts.index.FtIndex.{the_view}
 use Rattle.ft_index.specs.declared.ready.Fit.{Fit}
 use Rattle.ft_index.specs.declared.ready.Fit.TheVariants.{Member, NoPrefix, Failed}

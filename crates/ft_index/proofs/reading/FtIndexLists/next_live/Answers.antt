@@ -2,7 +2,7 @@ use Rattle.std.proofs.Common.{ap, sym, subst, ◌∙◌, map, find}
 use Rattle.std.specs.Prelude.{nat_le}
 use Rattle.doc_table.specs.Table.{Table}
 use Rattle.id_iters.specs.Least.{IsLeast}
-use Rattle.index_lists.specs.Lists.{has_id}
+use Rattle.ft_index.specs.Lists.{has_id}
 use Rattle.ft_index.proofs.ReadingLaws.{least-live}
 use Rattle.ft_index.proofs.reading.FtIndexLists.next_live.Goals as goal
 

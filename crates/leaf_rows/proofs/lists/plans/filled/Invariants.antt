@@ -1,5 +1,5 @@
 use Rattle.std.proofs.Common.{◌≤◌}
-use Rattle.index_lists.specs.Markers.{AreBefore}
+use Rattle.ft_index.specs.Markers.{AreBefore}
 use Rattle.leaf_rows.proofs.lists.plans.filled.Given as goal
 
 -- the next documents may be written

@@ -1,0 +1,32 @@
+use Rattle.std.proofs.Common.{List, Option, sym, subst}
+use Rattle.ft_base.specs.declared.definition.IndexDef.{IndexDef}
+use Rattle.numeric_ranges.specs.Ranges.{Rows}
+use Rattle.ft_index.specs.Adding.{IsUnseen, RangesHaveAll}
+use Rattle.ft_index.specs.Markers.{range_marker}
+use Rattle.ft_index.proofs.NumberLaws.{gain-next, gain-unseen}
+use Rattle.ft_index.proofs.TakingLaws.{before-taken, takes-again}
+use Rattle.ft_index.proofs.numbers.add_all.Goals as goal
+
+pub add_field-requires-clause-before : goal.add_field-requires-clause-before
+add_field-requires-clause-before c =
+    before-taken c.args.markers.now c.loop-number.markers (range_marker c.args.ranges.now) (range_marker c.loop-number.ranges) c.requires.before c.loop-number.invariant.takes
+
+pub returns-in_err-add_field-clause-unseen : goal.returns-in_err-add_field-clause-unseen
+returns-in_err-add_field-clause-unseen c =
+    subst (λ (ranges : List (Option Rows)). (def : IndexDef) → IsUnseen c.args.doc.now.id (RangesHaveAll def c.args.ranges.now) (RangesHaveAll def ranges)) (sym c.in_err-add_field.ensures.err) c.loop-number.invariant.unseen
+
+pub returns-in_err-add_field-clause-takes : goal.returns-in_err-add_field-clause-takes
+returns-in_err-add_field-clause-takes c =
+    takes-again c.args.markers.now c.loop-number.markers c.add_field.new.markers (range_marker c.args.ranges.now) (range_marker c.loop-number.ranges) (range_marker c.add_field.new.ranges)
+    c.requires.before c.loop-number.invariant.takes c.add_field.ensures.takes
+
+pub loop-number-preserved : goal.loop-number-preserved
+loop-number-preserved c = record {
+  added = gain-next c.loop-number.number c.args.fields.now c.index-fields-number.result c.searched_number-value.result c.args.doc.now c.args.ranges.now c.loop-number.ranges c.add_field.new.ranges
+      c.loop-number-test.true c.index-fields-number.is c.searched_number-value.ensures c.loop-number.invariant.added c.in_ok-add_field.ensures.here c.add_field.ensures.others;
+  unseen = λ def. gain-unseen c.loop-number.number c.searched_number-value.result c.args.doc.now.id c.args.ranges.now c.loop-number.ranges c.add_field.new.ranges def
+      (c.loop-number.invariant.unseen def) c.in_ok-add_field.ensures.here c.add_field.ensures.others;
+  up_to = c.add_field.ensures.up_to;
+  takes = takes-again c.args.markers.now c.loop-number.markers c.add_field.new.markers (range_marker c.args.ranges.now) (range_marker c.loop-number.ranges) (range_marker c.add_field.new.ranges)
+      c.requires.before c.loop-number.invariant.takes c.add_field.ensures.takes;
+}

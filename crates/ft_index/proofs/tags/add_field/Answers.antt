@@ -1,0 +1,31 @@
+use Rattle.ft_index.specs.Adding.{IsUnseen, TagsHave}
+use Rattle.ft_base.specs.declared.definition.IndexDef.{IndexDef}
+use Rattle.std.proofs.Common.{sym, subst}
+use Rattle.tag_index.specs.Tags.{FieldTags}
+use Rattle.ft_index.specs.Markers.{tag_marker}
+use Rattle.ft_index.proofs.TagLaws.{tag-later, tag-next, tagged-unseen}
+use Rattle.ft_index.proofs.TakingLaws.{takes-again}
+use Rattle.ft_index.proofs.tags.add_field.Goals as goal
+
+pub add-requires-clause-later : goal.add-requires-clause-later
+add-requires-clause-later c =
+    tag-later c.loop-tag.tag-index c.args.tags.now c.tag-item.result c.as_slice.result.now c.args.field c.args.id c.args.lists.now c.loop-tag.lists
+    c.requires.apart c.loop-tag-test.true c.tag-item.is c.as_slice.ensures c.loop-tag.invariant.added (c.requires.later c.as_slice.result.now)
+
+pub returns-in_err-add-clause-unseen : goal.returns-in_err-add-clause-unseen
+returns-in_err-add-clause-unseen c =
+    subst (λ (lists : FieldTags). (def : IndexDef) → IsUnseen c.args.id (TagsHave def c.args.lists.now) (TagsHave def lists)) (sym c.in_err-add.ensures.err)
+    (tagged-unseen c.loop-tag.tag-index c.args.tags.now c.args.field c.args.id c.args.lists.now c.loop-tag.lists c.loop-tag.invariant.added)
+
+pub returns-clause-unseen : goal.returns-clause-unseen
+returns-clause-unseen c =
+    tagged-unseen c.loop-tag.tag-index c.args.tags.now c.args.field c.args.id c.args.lists.now c.loop-tag.lists c.loop-tag.invariant.added
+
+pub loop-tag-preserved : goal.loop-tag-preserved
+loop-tag-preserved c = record {
+  added = tag-next c.loop-tag.tag-index c.args.tags.now c.tag-item.result c.as_slice.result.now c.args.field c.args.id c.args.lists.now c.loop-tag.lists c.add.new.lists
+      c.requires.apart c.loop-tag-test.true c.tag-item.is c.as_slice.ensures c.loop-tag.invariant.added c.in_ok-add.ensures.ok;
+  up_to = c.add.ensures.up_to;
+  takes = takes-again c.args.markers.now c.loop-tag.markers c.add.new.markers (tag_marker c.args.lists.now) (tag_marker c.loop-tag.lists) (tag_marker c.add.new.lists)
+      c.requires.before c.loop-tag.invariant.takes c.add.ensures.takes;
+}

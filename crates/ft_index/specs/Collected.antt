@@ -1,0 +1,40 @@
+-- The words of one document as they are collected, each once with its codes, and how they go into the lists.
+use Rattle.std.specs.Prelude.{◌≡◌, ◌<◌, ℕ, List, [], ◌++◌, Bool, Option, None, Some, length}
+use Rattle.std.specs.List.{AllByRecursion}
+use Rattle.std.specs.Map.{lookup}
+use Rattle.std.specs.Option.{unwrap_or}
+use Rattle.std.specs.Str.{bytes_eq}
+use Rattle.std.specs.declared.alloc.Global.{Global}
+use Rattle.std.specs.declared.vec.Vec.{Vec}
+use Rattle.posting_block.specs.declared.hits.TextHit.{TextHit}
+use Rattle.term_dict.specs.Terms.{Lists, entries_of}
+use Rattle.ft_index.specs.Entries.{entry}
+
+-- words and their codes, as an index map holds them
+abbrev pub Collected : Type 0
+Collected = List (Vec ℕ Global × List ℕ)
+
+-- whether a key is a word
+abbrev pub is_key : List ℕ → Vec ℕ Global → Bool
+is_key word key = bytes_eq word key.items
+
+-- the codes of a word, of which there are none where it was not met
+abbrev pub codes_of : Collected → List ℕ → List ℕ
+codes_of found word = unwrap_or (lookup (is_key word) found) []
+
+-- each word that was met has a code
+abbrev pub AreMet : Collected → Type 0
+AreMet found = AllByRecursion (λ (one : Vec ℕ Global × List ℕ). 0 < length one.1) found
+
+-- The lists are as they were but for one entry of this id at the end of some.
+abbrev pub GrowBy : ℕ → Lists TextHit → Lists TextHit → Type 0
+GrowBy id old new = (word : List ℕ) → (codes : List ℕ) × (entries_of new word ≡ entries_of old word ++ entry id codes)
+
+-- A word whose codes are still to come has its old entries, and one with none left has its new entry behind them.
+abbrev pub IsAddedBut : Option (List ℕ) → Collected → ℕ → Lists TextHit → Lists TextHit → List ℕ → Type 0
+IsAddedBut None found id old new word = entries_of new word ≡ entries_of old word ++ entry id (codes_of found word)
+IsAddedBut (Some codes) found id old new word = (entries_of new word ≡ entries_of old word) × (codes_of found word ≡ codes)
+
+-- All that was found is in the lists, but for the words that are left.
+abbrev pub AreAddedBut : Collected → Collected → ℕ → Lists TextHit → Lists TextHit → Type 0
+AreAddedBut left found id old new = (word : List ℕ) → IsAddedBut (lookup (is_key word) left) found id old new word

@@ -1,0 +1,19 @@
+-- How many records an index has: the entries of all its lists.
+use Rattle.std.specs.Prelude.{ℕ, ◌+◌, List, Option, Some, None, sum_by}
+use Rattle.numeric_ranges.specs.Ranges.{Rows, entries_in_rows}
+use Rattle.tag_index.specs.Tags.{entries_in_fields}
+use Rattle.term_dict.specs.Terms.{entries_in_all}
+use Rattle.ft_index.specs.Lists.{AllLists}
+
+-- how many entries the ranges of a field have together, where it has ranges
+abbrev pub entries_in_slot : Option Rows → ℕ
+entries_in_slot None = 0
+entries_in_slot (Some rows) = entries_in_rows rows
+
+-- how many the ranges of all fields have
+abbrev pub entries_in_ranges : List (Option Rows) → ℕ
+entries_in_ranges ranges = sum_by entries_in_slot ranges
+
+-- the entries of all lists, of live documents or not
+abbrev pub all_entries : AllLists → ℕ
+all_entries lists = entries_in_all lists.words + entries_in_fields lists.tags + entries_in_ranges lists.ranges

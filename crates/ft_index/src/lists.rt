@@ -1,0 +1,143 @@
+//! The lists of an index, by kind, and how a document's entries go into them.
+ghost use Rattle.std.specs.Prelude.{◌≡◌, ◌<◌, ◌≤◌, ◌+◌, ◌*◌, ◌^◌, ℕ, List, [], ◌∷◌, ◌++◌, false, length, IfOk, IfNone, IfSome, OnOk};
+ghost use Rattle.std.specs.Option.{option_copied};
+ghost use Rattle.ft_base.specs.declared.definition.IndexDef.{IndexDef};
+ghost use Rattle.ft_base.specs.declared.doc.Doc.{Doc};
+ghost use Rattle.ft_meaning.specs.Meaning.{ValuesFit};
+ghost use Rattle.ft_meaning.specs.Records.{live_records};
+ghost use Rattle.inverted_list.specs.declared.marker.Marker.{Marker};
+ghost use Rattle.ft_index.specs.Has.{Has};
+ghost use Rattle.ft_index.specs.Lists.{has_id, rows_of};
+ghost use Rattle.ft_index.specs.Markers.{AreBefore, GainsMarkers, HasMarker, IsGiven, MarkersDiffer};
+ghost use Rattle.ft_index.specs.Records.{all_entries};
+ghost use Rattle.ft_index.specs.UpTo.{AreUpTo};
+
+use crate::numbers::{add_numbers, entries_in_ranges, first_ranges};
+use crate::tags::add_tags;
+use crate::words::add_words;
+use ft_base::{Doc, IndexDef, NoMemory};
+use inverted_list::Markers;
+use numeric_ranges::Ranges;
+use std::alloc::Global;
+use std::marker::Model;
+use tag_index::TagLists;
+use term_dict::Terms;
+
+/// Above every integer of the wire.
+const WIRE_END: u64 = 1 << 63;
+
+/// The lists of an index: those of its words, of the tags of its TAG fields, and of the ranges of
+/// its NUMERIC fields.
+#[derive(Drop)]
+pub struct IndexLists {
+    alloc: Global,
+    terms: Terms,
+    tags: TagLists,
+    // By the field's number.
+    ranges: Vec<Option<Ranges>>,
+}
+
+impl Model for IndexLists {
+    ghost use Rattle.ft_index.specs.Lists.{AllLists};
+
+    ghost Value = { AllLists };
+
+    ghost view = { λ l. record {
+      words = l.terms;
+      tags = l.tags;
+      ranges = l.ranges.items;
+    } };
+}
+
+impl IndexLists {
+    /// Lists without entries: none but a range over all numbers for each NUMERIC field that is not
+    /// NOINDEX. Each takes a marker.
+    pub fn new(alloc: Global, def: &IndexDef, markers: &mut Markers) -> Result<IndexLists, NoMemory>
+        requires { length def.now.fields ≤ 1_024 }
+        ensures empty { IfOk result (λ lists. Has def.now [] lists []) }
+        // No word and no tag has even a list without entries.
+        ensures words { IfOk result (λ lists. lists.words ≡ []) }
+        ensures tags { IfOk result (λ lists. lists.tags ≡ []) }
+        ensures up_to { IfOk result (λ lists. AreUpTo 0 lists) }
+        // Which markers its lists have.
+        ensures differ { IfOk result (λ lists. MarkersDiffer lists) }
+        ensures before { IfOk result (λ lists. AreBefore markers.new lists) }
+        ensures given { IfOk result (λ lists. (marker : Marker)
+            → HasMarker lists marker → IsGiven markers.old markers.new marker) }
+        ensures event { markers.new.event ≡ markers.old.event }
+        ensures next { markers.old.next ≤ markers.new.next }
+    {
+        let ranges = first_ranges(alloc, def, markers)?;
+        Ok(IndexLists {
+            alloc,
+            terms: Terms::new(alloc),
+            tags: TagLists::new(alloc),
+            ranges,
+        })
+    }
+
+    /// The lists of words, lent.
+    pub fn terms(&self) -> &Terms
+        ensures { result.now ≡ self.now.words }
+    {
+        &self.terms
+    }
+
+    /// The lists of tags, lent.
+    pub fn tag_lists(&self) -> &TagLists
+        ensures { result.now ≡ self.now.tags }
+    {
+        &self.tags
+    }
+
+    /// The ranges of the field of a number: none exactly where the field has none.
+    pub fn ranges_of(&self, field: u16) -> Option<&Ranges>
+        ensures { option_copied result ≡ rows_of self.now.ranges field }
+    {
+        self.ranges.get(usize::from(field))?.as_ref()
+    }
+
+    /// The number of entries of all lists, of live documents or not: none where it does not fit an
+    /// integer of the wire. It walks over the lists, and reads no entry.
+    pub fn records(&self) -> Option<u64>
+        ensures some { IfSome result (λ n. n ≡ all_entries self.now) }
+        ensures fits { IfSome result (λ n. n < 2 ^ 63) }
+        ensures none { IfNone result (2 ^ 63 ≤ all_entries self.now) }
+        // There are at least the live ones.
+        ensures least { (def : IndexDef) (live : List (ℕ × List ℕ)) (docs : List Doc)
+            → Has def live self.now docs → IfSome result (λ n. live_records def docs ≤ n) }
+    {
+        let words = self.terms.entries()?;
+        let tags = self.tags.entries()?;
+        let numbers = entries_in_ranges(self.ranges.as_slice())?;
+        let all = words.checked_add(tags)?.checked_add(numbers)?;
+        if all < WIRE_END { Some(all) } else { None }
+    }
+
+    /// Puts a document's entries into the lists: one in the list of each of its words, of each of its
+    /// tags, and in a range for each of its numbers. Where memory is wanting some may have come.
+    pub fn add(&mut self, def: &IndexDef, doc: &Doc, markers: &mut Markers) -> Result<(), NoMemory>
+        requires fields { length def.now.fields ≤ 1_024 }
+        requires values { ValuesFit doc.now.hash }
+        requires later { (last : ℕ) × (last < doc.now.id) × AreUpTo last self.old }
+        requires differ { MarkersDiffer self.old }
+        requires before { AreBefore markers.old self.old }
+        // Nothing of it is seen while its id is not live, whether memory was wanting or not.
+        ensures unseen { (live : List (ℕ × List ℕ)) (docs : List Doc) → has_id live doc.now.id ≡ false
+            → Has def.now live self.old docs → Has def.now live self.new docs }
+        // Once the id is live, the lists stand for the document too.
+        ensures seen { OnOk result ((live : List (ℕ × List ℕ)) (docs : List Doc) → Has def.now live self.old docs
+            → Has def.now (live ++ (doc.now.id, doc.now.key) ∷ []) self.new (docs ++ doc.now ∷ [])) }
+        ensures up_to { AreUpTo doc.now.id self.new }
+        // Which markers its lists have.
+        ensures differ { MarkersDiffer self.new }
+        ensures before { AreBefore markers.new self.new }
+        ensures gains { GainsMarkers self.old self.new markers.old markers.new }
+        ensures event { markers.new.event ≡ markers.old.event }
+        ensures next { markers.old.next ≤ markers.new.next }
+    {
+        add_words(&mut self.terms, self.alloc, def, doc, markers)?;
+        add_tags(&mut self.tags, self.alloc, def, doc, markers)?;
+        add_numbers(self.ranges.as_mut_slice(), def, doc, markers)
+    }
+}

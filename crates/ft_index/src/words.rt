@@ -1,0 +1,176 @@
+//! The words of a document: they are collected in one pass, each with the codes of where it stands,
+//! and then each word's list gets one entry.
+ghost use Rattle.std.specs.Prelude.{◌≡◌, ◌<◌, ◌≤◌, ◌+◌, ◌*◌, ◌^◌, List, ℕ, [], ◌∷◌, ◌++◌, map, length, if◌then◌else◌, IfOk, OnOk, OnErr};
+ghost use Rattle.std.specs.Str.{bytes_eq};
+ghost use Rattle.ft_meaning.specs.Meaning.{ValuesFit, field_tokens};
+ghost use Rattle.inverted_list.specs.Listing.{last_id};
+ghost use Rattle.term_dict.specs.Terms.{entries_of};
+ghost use Rattle.ft_index.specs.Adding.{IsSeen, IsUnseen, WordsHave};
+ghost use Rattle.ft_index.specs.Collected.{AreMet, GrowBy, codes_of};
+ghost use Rattle.ft_index.specs.Entries.{codes, codes_among, entry, occurrence};
+ghost use Rattle.ft_index.specs.Markers.{word_marker};
+ghost use Rattle.ft_index.specs.Taking.{AllBefore, TakesMarkers};
+ghost use Rattle.ft_index.specs.UpTo.{WordsUpTo};
+
+use ft_base::{Doc, Field, IndexDef, NoMemory};
+use ft_meaning::field_tokens;
+use indexmap::IndexMap;
+use inverted_list::Markers;
+use posting_block::{ListOfPlaces, TextHit};
+use std::alloc::Global;
+use term_dict::Terms;
+use token_text::Token;
+
+/// What a field's number counts for in a code, above every place.
+const PLACES: u64 = 1 << 32;
+
+/// Words, each with its codes in rising order.
+type WordCodes = IndexMap<Vec<u8>, ListOfPlaces>;
+
+/// Puts an entry for the document into the list of each of its words. Where memory is wanting some
+/// have theirs.
+pub fn add_words(
+    terms: &mut Terms,
+    alloc: Global,
+    def: &IndexDef,
+    doc: &Doc,
+    markers: &mut Markers,
+) -> Result<(), NoMemory>
+    requires fields { length def.now.fields ≤ 1_024 }
+    requires values { ValuesFit doc.now.hash }
+    requires later { (word : List ℕ) → last_id 0 (entries_of terms.old word) < doc.now.id }
+    requires up_to { WordsUpTo doc.now.id terms.old }
+    requires before { AllBefore markers.old (word_marker terms.old) }
+    ensures unseen { IsUnseen doc.now.id (WordsHave def.now terms.old) (WordsHave def.now terms.new) }
+    ensures seen { OnOk result (IsSeen doc.now (WordsHave def.now terms.old) (WordsHave def.now terms.new)) }
+    ensures up_to { WordsUpTo doc.now.id terms.new }
+    ensures takes { TakesMarkers markers.old markers.new (word_marker terms.old) (word_marker terms.new) }
+{
+    let found = occurrences(alloc, def, doc)?;
+    add_all(terms, found, doc.id, markers)
+}
+
+/// The words of a document's indexed TEXT fields.
+fn occurrences(alloc: Global, def: &IndexDef, doc: &Doc) -> Result<WordCodes, NoMemory>
+    requires fields { length def.now.fields ≤ 1_024 }
+    requires values { ValuesFit doc.now.hash }
+    ensures codes { IfOk result (λ found. (word : List ℕ)
+        → codes_of found.entries word ≡ codes def.now word doc.now) }
+    ensures met { IfOk result (λ found. AreMet found.entries) }
+{
+    let mut found = IndexMap::new(alloc);
+    for (number, field) in def.fields.as_slice().iter().enumerate() {
+        note_field(&mut found, alloc, def, doc, number as u64, field)?;
+    }
+    Ok(found)
+}
+
+/// Notes the words of one field, which has this number.
+fn note_field(
+    found: &mut WordCodes,
+    alloc: Global,
+    def: &IndexDef,
+    doc: &Doc,
+    number: u64,
+    field: &Field,
+) -> Result<(), NoMemory>
+    requires number { number < 1_024 }
+    requires values { ValuesFit doc.now.hash }
+    ensures codes { OnOk result ((word : List ℕ) → codes_of found.new.entries word
+        ≡ codes_of found.old.entries word ++ codes_among word (map (occurrence number) (field_tokens def.now doc.now field.now))) }
+    ensures met { OnOk result (AreMet found.old.entries → AreMet found.new.entries) }
+{
+    let tokens = field_tokens(alloc, def, doc, field)?;
+    note_all(found, number, tokens.as_slice())
+}
+
+/// Notes the tokens of the field with this number.
+fn note_all(found: &mut WordCodes, number: u64, tokens: &[Token]) -> Result<(), NoMemory>
+    requires { number < 1_024 }
+    ensures codes { OnOk result ((word : List ℕ) → codes_of found.new.entries word
+        ≡ codes_of found.old.entries word ++ codes_among word (map (occurrence number) tokens.now)) }
+    ensures met { OnOk result (AreMet found.old.entries → AreMet found.new.entries) }
+{
+    for token in tokens {
+        let code = code_of(number, token.place);
+        note(found, token.word.as_slice(), code)?;
+    }
+    Ok(())
+}
+
+/// The code of a place in the field with this number.
+fn code_of(number: u64, place: u32) -> u64
+    requires { number < 1_024 }
+    ensures { result ≡ number * 2 ^ 32 + place }
+{
+    number * PLACES + u64::from(place)
+}
+
+/// Adds a code behind those of its word.
+fn note(found: &mut WordCodes, word: &[u8], code: u64) -> Result<(), NoMemory>
+    ensures codes { OnOk result ((other : List ℕ) → codes_of found.new.entries other
+        ≡ codes_of found.old.entries other ++ (if bytes_eq other word.now then code ∷ [] else [])) }
+    ensures met { OnOk result (AreMet found.old.entries → AreMet found.new.entries) }
+{
+    if let Some(places) = found.get_mut(word) {
+        return places.push(code);
+    }
+    let alloc = *found.allocator();
+    let (name, places) = first_code(alloc, word, code)?;
+    found.insert(name, places)?;
+    Ok(())
+}
+
+/// A word with one code.
+fn first_code(alloc: Global, word: &[u8], code: u64) -> Result<(Vec<u8>, ListOfPlaces), NoMemory>
+    ensures word { IfOk result (λ first. first.0.items ≡ word.now) }
+    ensures code { IfOk result (λ first. first.1 ≡ code ∷ []) }
+{
+    let mut places = ListOfPlaces::new(alloc);
+    places.push(code)?;
+    Ok((Vec::from_slice(alloc, word)?, places))
+}
+
+/// Adds an entry of this id to the list of each word. Where memory is wanting some have theirs.
+fn add_all(
+    terms: &mut Terms,
+    found: WordCodes,
+    id: u64,
+    markers: &mut Markers,
+) -> Result<(), NoMemory>
+    requires later { (word : List ℕ) → last_id 0 (entries_of terms.old word) < id }
+    requires up_to { WordsUpTo id terms.old }
+    requires met { AreMet found.entries }
+    requires before { AllBefore markers.old (word_marker terms.old) }
+    ensures ok { OnOk result ((word : List ℕ) → entries_of terms.new word
+        ≡ entries_of terms.old word ++ entry id (codes_of found.entries word)) }
+    ensures some { GrowBy id terms.old terms.new }
+    ensures up_to { WordsUpTo id terms.new }
+    ensures takes { TakesMarkers markers.old markers.new (word_marker terms.old) (word_marker terms.new) }
+{
+    for (word, codes) in found {
+        add(terms, word.as_slice(), codes, id, markers)?;
+    }
+    Ok(())
+}
+
+/// Adds an entry of this id to the list of one word.
+fn add(
+    terms: &mut Terms,
+    word: &[u8],
+    codes: ListOfPlaces,
+    id: u64,
+    markers: &mut Markers,
+) -> Result<(), NoMemory>
+    requires later { last_id 0 (entries_of terms.old word.now) < id }
+    requires up_to { WordsUpTo id terms.old }
+    requires before { AllBefore markers.old (word_marker terms.old) }
+    ensures ok { OnOk result ((other : List ℕ) → entries_of terms.new other ≡ (if bytes_eq word.now other
+        then entries_of terms.old other ++ (id, record { places = codes }) ∷ []
+        else entries_of terms.old other)) }
+    ensures err { OnErr result (terms.new ≡ terms.old) }
+    ensures up_to { WordsUpTo id terms.new }
+    ensures takes { TakesMarkers markers.old markers.new (word_marker terms.old) (word_marker terms.new) }
+{
+    terms.add(word, id, &TextHit { places: codes }, markers)
+}

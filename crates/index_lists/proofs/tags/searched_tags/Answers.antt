@@ -1,9 +1,0 @@
-use Rattle.std.proofs.Common.{sym, subst}
-use Rattle.std.proofs.lemmas.Result.{IfOk-weaker}
-use Rattle.index_lists.specs.Tagging.{AreApart}
-use Rattle.index_lists.proofs.TagLaws.{tags-apart}
-use Rattle.index_lists.proofs.tags.searched_tags.Goals as goal
-
-pub returns-in-Some-clause-apart : goal.returns-in-Some-clause-apart
-returns-in-Some-clause-apart c =
-    IfOk-weaker c.tags.result _ AreApart (λ tags is. subst AreApart (sym is) (tags-apart c.as_slice-in-Some.result.now c.in-Tag.separator c.in-Tag.case)) c.tags.ensures

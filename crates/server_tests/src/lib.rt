@@ -1,0 +1,34 @@
+//! Tests of what no row of data can show: links that fail, commands that are abandoned, what is read, and sessions
+//! against a plain machine.
+//!
+//! They are against mistakes that the check would pass: a definition that says something else than a client or a reader
+//! of the server's documents expects, a call that always finds memory wanting, a condition that no caller can meet.
+//! Read `session.rt` first, which has sessions with the engine, then `links.rt`, which has those with the server.
+#![tactic(auto)]
+
+#[cfg(test)]
+mod answers;
+#[cfg(test)]
+mod compared;
+#[cfg(test)]
+mod cuts;
+#[cfg(test)]
+mod events;
+#[cfg(test)]
+mod failed_calls;
+#[cfg(test)]
+mod links;
+#[cfg(test)]
+mod plain;
+#[cfg(test)]
+mod queries;
+#[cfg(test)]
+mod reads;
+#[cfg(test)]
+mod rows;
+#[cfg(test)]
+mod session;
+#[cfg(test)]
+mod turns;
+#[cfg(test)]
+mod wide;

@@ -1,0 +1,102 @@
+//! The server over links in memory: bytes in, bytes out, and how the run ended. Where memory is wanting an answer is None,
+//! or a text is left out, as the comparison then shows.
+use fs_ports::{ListOfCalls, MemLink, ScriptedClock};
+use ft_base::{Bytes, ListOf};
+use ft_server::{End, Exit, run, serve_connection};
+use std::alloc::Global;
+
+/// A command that answers `:1`.
+pub const HSET: &[u8] = b"*4\r\n$4\r\nHSET\r\n$2\r\nd1\r\n$1\r\nt\r\n$11\r\nHello world\r\n";
+
+/// The same field once more, which answers `:0`.
+pub const HSET_AGAIN: &[u8] = b"*4\r\n$4\r\nhSet\r\n$2\r\nd1\r\n$1\r\nt\r\n$1\r\nx\r\n";
+
+/// A command that is known, and not built.
+pub const CURSOR: &[u8] = b"*2\r\n$9\r\nFT.CURSOR\r\n$1\r\ni\r\n";
+
+pub const QUIT: &[u8] = b"*1\r\n$4\r\nqUIt\r\n";
+
+pub const NOPE: &[u8] = b"*1\r\n$4\r\nNOPE\r\n";
+
+pub const PING: &[u8] = b"*1\r\n$4\r\nPING\r\n";
+
+/// Which calls of a link fail, counted from 1, and the most bytes that it takes at once.
+#[derive(Clone, Copy)]
+pub struct Faults {
+    pub read: u64,
+    pub write: u64,
+    pub write_max: usize,
+}
+
+/// No call fails.
+pub const NONE: Faults = Faults {
+    read: 0,
+    write: 0,
+    write_max: 1_000,
+};
+
+/// A link that gives the texts, a piece a read.
+pub fn link_of(alloc: Global, texts: &[&[u8]], faults: &Faults) -> Option<MemLink> {
+    let mut pieces = ListOf::new(alloc);
+    for text in texts {
+        let _ = pieces.push(bytes_of(alloc, text));
+    }
+    let reads = calls_of(alloc, faults.read);
+    let writes = calls_of(alloc, faults.write);
+    MemLink::new(alloc, pieces, reads, writes, faults.write_max).ok()
+}
+
+fn bytes_of(alloc: Global, text: &[u8]) -> Bytes {
+    let mut bytes = Vec::new(alloc);
+    let _ = bytes.extend_from_slice(text);
+    Bytes::from_vec(bytes)
+}
+
+fn calls_of(alloc: Global, call: u64) -> ListOfCalls {
+    let mut calls = ListOf::new(alloc);
+    let _ = calls.push(call);
+    calls
+}
+
+fn clock_of(alloc: Global) -> Option<ScriptedClock> {
+    let moments = ListOf::from_vec([5].to_vec(alloc).ok()?);
+    Some(ScriptedClock::new(moments))
+}
+
+/// How the program ends with these words over a link.
+pub fn run_words(alloc: Global, texts: &[&str], link: &mut MemLink) -> Option<Exit> {
+    let mut words = Vec::new(alloc);
+    for text in texts {
+        if let Ok(word) = String::from_str(alloc, text) {
+            let _ = words.push(word);
+        }
+    }
+    run_over(alloc, words.as_slice(), link)
+}
+
+fn run_over(alloc: Global, words: &[String], link: &mut MemLink) -> Option<Exit> {
+    let mut clock = clock_of(alloc)?;
+    Some(run(alloc, words, link, &mut clock))
+}
+
+/// How a connection over a link ends.
+pub fn serve(alloc: Global, link: &mut MemLink) -> Option<End> {
+    let mut clock = clock_of(alloc)?;
+    Some(serve_connection(alloc, link, &mut clock))
+}
+
+/// Whether `script` over a link that gives the texts ends so, and the link took these bytes.
+pub fn is_run(alloc: Global, texts: &[&[u8]], faults: &Faults, want: &[u8], exit: Exit) -> bool {
+    let Some(mut link) = link_of(alloc, texts, faults) else {
+        return false;
+    };
+    run_words(alloc, &["script"], &mut link) == Some(exit) && link.output() == want
+}
+
+/// Whether a link that gives the texts is served to this end, and took these bytes.
+pub fn is_served(alloc: Global, texts: &[&[u8]], want: &[u8], end: End) -> bool {
+    let Some(mut link) = link_of(alloc, texts, &NONE) else {
+        return false;
+    };
+    serve(alloc, &mut link) == Some(end) && link.output() == want
+}

@@ -1,0 +1,146 @@
+//! Sessions with an engine: lines of words in, replies out. All buffers are made once, so that asking takes no memory of
+//! its own.
+ghost use Rattle.std.specs.Prelude.{◌≡◌, ◌<◌, ◌≤◌, ◌↔◌, ◌^◌, [], false, length, vec_capacity, IsTrue};
+ghost use Rattle.ft_base.specs.Words.{KeepsLimits, LieIn, words_of};
+ghost use Rattle.cmd_parse.specs.Asking.{IsAsked};
+ghost use Rattle.cmd_parse.specs.Lawful.{HasSerial};
+ghost use Rattle.cmd_parse.specs.Read.{command_of};
+
+use cmd_parse::{Command, read_command};
+use ft_base::{Span, Words};
+use ft_engine::Engine;
+use std::alloc::Global;
+
+/// The most bytes of a line, and the most words.
+const LINE: usize = 100;
+
+/// An engine that no event is prepared in, and its last reply.
+#[derive(Drop)]
+pub struct Session {
+    engine: Engine,
+    spans: Vec<Span>,
+    reply: Vec<u8>,
+    ghost free: { engine.pending ≡ false },
+    ghost room: { 64 ≤ vec_capacity reply },
+}
+
+/// A session whose first event has this number; none where memory is wanting.
+pub fn begin_at(alloc: Global, first: u64) -> Option<Session>
+    requires least { 1 ≤ first }
+    requires most { first ≤ 2 ^ 62 }
+{
+    let reply = Vec::with_capacity(alloc, 64).ok()?;
+    let engine = Engine::open_at(alloc, first).ok()?;
+    Some(Session {
+        engine,
+        spans: Vec::new(alloc),
+        reply,
+    })
+}
+
+impl Session {
+    /// The number of the next event.
+    pub fn next(&self) -> u64 {
+        self.engine.next()
+    }
+
+    /// The last reply.
+    pub fn reply(&self) -> &[u8] {
+        self.reply.as_slice()
+    }
+
+    /// Executes a line of words with one such byte between each two.
+    pub fn ask(&mut self, line: &[u8], separator: u8) {
+        part(line, separator, &mut self.spans);
+        self.reply.clear();
+        if is_small(line, self.spans.as_slice()) {
+            let now = self.engine.next();
+            let words = Words::new(line, self.spans.as_slice());
+            self.engine.exec(now, words, &mut self.reply);
+        }
+    }
+
+    /// Prepares a line of words, and commits or abandons it. It answers whether the command writes. A line that asks
+    /// nothing has no reply, and is no event.
+    pub fn prepare(&mut self, alloc: Global, line: &[u8], commits: bool) -> bool {
+        part(line, b'|', &mut self.spans);
+        self.reply.clear();
+        if !is_small(line, self.spans.as_slice()) {
+            return false;
+        }
+        let now = self.engine.next();
+        match read_command(alloc, Words::new(line, self.spans.as_slice()), now) {
+            Ok(command) => end(&mut self.engine, now, command, &mut self.reply, commits),
+            Err(_) => false,
+        }
+    }
+}
+
+// Prepares a command, and commits or abandons it. It answers whether the command writes.
+fn end(
+    engine: &mut Engine,
+    now: u64,
+    command: Command<'_>,
+    reply: &mut Vec<u8>,
+    commits: bool,
+) -> bool
+    requires asked { IsAsked (command_of command) }
+    requires serial { HasSerial engine.old.next (command_of command) }
+    requires empty { reply.old.items ≡ [] }
+    requires room { 64 ≤ vec_capacity reply.old }
+    requires free { engine.old.pending ≡ false }
+    ensures free { engine.new.pending ≡ false }
+    ensures room { vec_capacity reply.old ≤ vec_capacity reply.new }
+{
+    let prepared = engine.prepare(now, command, reply);
+    let writes = prepared.writes();
+    if commits {
+        engine.commit(prepared);
+    } else {
+        engine.abandon(prepared);
+    }
+    writes
+}
+
+/// Writes where the words of a line begin and end, which has one such byte between each two. A word for which memory is
+/// wanting is left out.
+pub fn part(line: &[u8], separator: u8, spans: &mut Vec<Span>) {
+    spans.clear();
+    let mut from = 0;
+    for to in 0..line.len() {
+        if line[to] == separator {
+            let _ = spans.push(Span { from, to });
+            from = to + 1;
+        }
+    }
+    let _ = spans.push(Span {
+        from,
+        to: line.len(),
+    });
+}
+
+/// Whether there are words that keep the limits, with much to spare.
+pub fn is_small(line: &[u8], spans: &[Span]) -> bool
+    ensures inside { IsTrue result → LieIn line.now spans.now }
+    ensures some { IsTrue result → 0 < length spans.now }
+    ensures limits { IsTrue result → KeepsLimits (words_of line.now spans.now) }
+{
+    if !lie_in(line, spans) {
+        return false;
+    }
+    if LINE < line.len() {
+        return false;
+    }
+    if LINE < spans.len() {
+        return false;
+    }
+    0 < spans.len()
+}
+
+fn lie_in(bytes: &[u8], spans: &[Span]) -> bool
+    ensures { IsTrue result ↔ LieIn bytes.now spans.now }
+{
+    spans
+        .iter()
+        .all(|span| span.from <= span.to && span.to <= bytes.len())
+}

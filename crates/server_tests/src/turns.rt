@@ -1,0 +1,160 @@
+//! The commands of random sessions: what each turn is about, and its words with one `/` between each two.
+ghost use Rattle.std.specs.Prelude.{◌<◌, ◌≤◌, ◌+◌};
+
+use crate::queries::query_of;
+use ft_base::put_int;
+
+/// A document: its key and its fields t, n and g.
+#[derive(Clone, Copy)]
+pub struct Row {
+    pub key: [u8; 2],
+    pub text: [u8; 3],
+    pub number: u8,
+    pub tags: [u8; 3],
+}
+
+impl Row {
+    /// The words of the text, one letter each.
+    pub fn words(&self) -> [u8; 2] {
+        let [first, _, second] = self.text;
+        [first.to_ascii_lowercase(), second.to_ascii_lowercase()]
+    }
+
+    /// Whether the text has a word.
+    pub fn has(&self, word: u8) -> bool {
+        let [first, second] = self.words();
+        first == word || second == word
+    }
+
+    /// Whether the document has a tag; without case a capital is as its small letter.
+    pub fn has_tag(&self, tag: u8, case: bool) -> bool {
+        let [first, _, second] = self.tags;
+        if case {
+            return first == tag || second == tag;
+        }
+        first.eq_ignore_ascii_case(&tag) || second.eq_ignore_ascii_case(&tag)
+    }
+}
+
+/// What one turn is about.
+#[derive(Clone, Copy)]
+pub struct Turn {
+    pub kind: u8,
+    pub to: [u8; 2],
+    pub name: [u8; 2],
+    pub schema: u8,
+    pub query: u8,
+    pub row: Row,
+}
+
+/// The next number of a run that looks random.
+pub fn next(seed: u64) -> u64 {
+    seed.wrapping_mul(6_364_136_223_846_793_005)
+        .wrapping_add(1_442_695_040_888_963_407)
+}
+
+// One of `count` letters from `first` on.
+fn letter(seed: u64, shift: u32, first: u8, count: u8) -> u8
+    requires some { 0 < count }
+    requires small { first + count ≤ 255 }
+    requires within { shift ≤ 63 }
+{
+    first + ((seed >> shift) % u64::from(count)) as u8
+}
+
+pub fn turn_of(seed: u64) -> Turn {
+    Turn {
+        kind: letter(seed, 48, 0, 16),
+        to: [letter(seed, 26, b'a', 3), letter(seed, 29, b'a', 6)],
+        name: [b'i', letter(seed, 44, b'x', 3)],
+        schema: letter(seed, 46, 0, 3),
+        query: letter(seed, 56, 0, 24),
+        row: row_of(seed),
+    }
+}
+
+fn row_of(seed: u64) -> Row {
+    Row {
+        key: [letter(seed, 20, b'a', 3), letter(seed, 23, b'a', 6)],
+        text: [letter(seed, 33, b'p', 5), b' ', letter(seed, 36, b'P', 5)],
+        number: letter(seed, 52, b'0', 12),
+        tags: [letter(seed, 39, b'A', 3), b',', letter(seed, 41, b'a', 3)],
+    }
+}
+
+/// Writes the words of the turn's command.
+pub fn write_line(line: &mut Vec<u8>, turn: &Turn) {
+    line.clear();
+    put(line, verb(turn.kind));
+    match turn.kind {
+        0..=7 => put(line, &turn.row.key),
+        12 => {}
+        _ => put(line, &turn.name),
+    }
+    put_rest(line, turn);
+}
+
+/// Appends a text. One for which memory is wanting is left out, as the comparison then shows.
+pub fn put(out: &mut Vec<u8>, text: &[u8]) {
+    let _ = out.extend_from_slice(text);
+}
+
+/// Appends a line of a text and a number.
+pub fn put_line(out: &mut Vec<u8>, text: &[u8], number: usize) {
+    put(out, text);
+    let _ = put_int(out, i64::try_from(number).unwrap_or(0));
+    put(out, b"\r\n");
+}
+
+fn verb(kind: u8) -> &'static [u8] {
+    match kind {
+        0..=5 => b"HSET/",
+        6 => b"DEL/",
+        7 => b"RENAME/",
+        8 => b"FT.CREATE/",
+        9 => b"FT.ALTER/",
+        10 | 11 => b"FT.DROPINDEX/",
+        12 => b"FT._LIST",
+        13 => b"FT.TAGVALS/",
+        _ => b"FT.SEARCH/",
+    }
+}
+
+// Appends the words behind the key or the index.
+fn put_rest(line: &mut Vec<u8>, turn: &Turn) {
+    match turn.kind {
+        0..=5 => put_fields(line, &turn.row),
+        7 => {
+            put(line, b"/");
+            put(line, &turn.to);
+        }
+        8 => put(line, schema(turn.schema)),
+        9 => put(line, b"/SCHEMA/ADD/n/NUMERIC"),
+        11 => put(line, b"/DD"),
+        13 => put(line, b"/g"),
+        14 | 15 => {
+            put(line, b"/");
+            put(line, query_of(turn.query));
+            put(line, b"/NOCONTENT");
+        }
+        _ => {}
+    }
+}
+
+// Appends the words of HSET behind the key.
+fn put_fields(line: &mut Vec<u8>, row: &Row) {
+    put(line, b"/t/");
+    put(line, &row.text);
+    put(line, b"/g/");
+    put(line, &row.tags);
+    put(line, b"/n/");
+    put(line, &[row.number]);
+}
+
+fn schema(which: u8) -> &'static [u8] {
+    match which {
+        0 => b"/SCHEMA/t/TEXT/g/TAG",
+        1 => b"/PREFIX/1/a/SCHEMA/g/TAG/CASESENSITIVE/t/TEXT",
+        _ => b"/SCHEMA/t/TEXT/n/NUMERIC",
+    }
+}
