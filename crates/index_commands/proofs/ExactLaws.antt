@@ -1,7 +1,7 @@
 -- What is read for a search, and what is told of an index, exactly.
 use Rattle.std.specs.Prelude.{◌≡◌, ◌≤◌, ℕ, List, length, Bool, Option, None, Some, Result, Ok, Err, IfOk, OnOk, find}
 use Rattle.std.proofs.Common.{ap, ◌∙◌, inl, inr}
-use Rattle.cmd_parse.specs.Read.{Asked, Plain, CreateIndex, AlterIndex, Search}
+use Rattle.cmd_parse.specs.Read.{Asked, Plain, Search}
 use Rattle.cmd_parse.specs.declared.command.Verb.TheVariants.{Info}
 use Rattle.ft_machine.specs.Arguments.{first}
 use Rattle.ft_base.specs.Reply.{spelling}

@@ -1,5 +1,5 @@
 -- What the commands of indexes give.
-use Rattle.std.proofs.Common.{◌≡◌, ◌<◌, ◌≤◌, ◌+◌, ℕ, Bool, true, false, cond, List, [], ◌∷◌, ◌++◌, length, map, Option, Some, None, refl, sym, ap, ◌∙◌, subst, inl, inr, arith}
+use Rattle.std.proofs.Common.{◌≡◌, ◌<◌, ◌≤◌, ◌+◌, ℕ, Bool, true, false, cond, List, [], ◌∷◌, ◌++◌, length, map, Option, Some, None, refl, sym, ap, ◌∙◌, subst, arith}
 use Rattle.std.specs.Prelude.{◌||◌, Result, Ok, Err, IfOk, IsTrue, codes, drop, find, is_some, nat_le, nat_lt}
 use Rattle.std.specs.Borrow.{Bor}
 use Rattle.std.specs.List.{All}
@@ -36,14 +36,13 @@ use Rattle.hash_replies.proofs.ReadsLaws.{fits-Bulk, shown-fits}
 use Rattle.ft_machine.proofs.Stepping.{gives, told, wants}
 use Rattle.ft_machine.specs.Arguments.{first, second}
 use Rattle.ft_machine.specs.Indexes.{altered, altered_to, created, defines, dropped, index_over, listed, most_indexes, name_bulk, tag_field, tag_vals, tags_reply, unknown_index}
-use Rattle.ft_machine.specs.Machine.{Outcome, State, answered}
+use Rattle.ft_machine.specs.Machine.{State, answered}
 use Rattle.indexed_store.specs.Changing.{HasMore}
 use Rattle.indexed_store.specs.Holding.{Holding, state_at}
 use Rattle.indexed_store.specs.Preparing.{IsMade, Prepares, Stays}
 use Rattle.indexed_store.specs.Standing.{AreApart}
 use Rattle.indexed_store.specs.declared.change.Change.TheVariants.{Alter, Nothing}
 use Rattle.ft_schema.specs.Refusals.{schema_refusal}
-use Rattle.ft_machine.specs.PlainCommands.{plain}
 use Rattle.ft_machine.specs.Step.{Does, MayWant, Told}
 
 -- whether a name is taken, as a look-up says
@@ -193,7 +192,7 @@ pub alter-prepares : (name : List ℕ) (fields : List Field) (old new : Holding)
 alter-prepares name fields old new index made read def count written found some reads is counted done stays same said =
     let all : extended index.def fields ≡ Ok made.def = extended-as read index.def def made.def fields reads is done.same in
     let failed : made.failures ≡ failures_over made.def old.space index.failures =
-        done.failures ∙ (ap (λ (d : IndexDef). failures_over d old.space count) (sym done.same) ∙ ap (failures_over made.def old.space) counted) in
+    done.failures ∙ (ap (λ (d : IndexDef). failures_over d old.space count) (sym done.same) ∙ ap (failures_over made.def old.space) counted) in
     record {
       does = λ latest. alter-done name fields old.next (state_at latest old) written (defined index) made (named-some old.indexes (definitions_of old.indexes) name index refl found) all failed said;
       stays = stays;
@@ -241,7 +240,7 @@ drop-two (word ∷ how ∷ args) number state written name there two is said = b
         (record state { space = without_members (index_of state.definitions name) state.space; definitions = without_index state.definitions name })
         (sym (ap (λ (i : Option Defined). dropped i word (how ∷ args) state) found)) said
         (ap (λ (w : List ℕ). record state { space = without_members (index_of state.definitions w) state.space; definitions = without_index state.definitions w }) is
-            ∙ ap (λ (i : Option Defined). record state { space = without_members i state.space; definitions = without_index state.definitions word }) found)
+        ∙ ap (λ (i : Option Defined). record state { space = without_members i state.space; definitions = without_index state.definitions word }) found)
 
 -- FT._LIST
 names-listed : (indexes : List Index) → map (λ (index : Index). Bulk index.def.name) indexes ≡ map name_bulk (definitions_of indexes)
@@ -280,7 +279,7 @@ pub tags-told : {E : Type 0} (args : List (List ℕ)) (number : ℕ) (state : St
 tags-told args number state written index field made there here is said =
     told (Plain TagVals args) number state written made tt
     (IfOk-weaker made _ _ (λ reply tags. ap (λ (r : Reply). answered r state) tags
-        ∙ sym (ap (λ (i : Option Defined). answered (tag_vals i (second args) state.space) state) there ∙ ap (λ (f : Option Field). answered (tags_reply f index.def state.space) state) here)) is) said
+    ∙ sym (ap (λ (i : Option Defined). answered (tag_vals i (second args) state.space) state) there ∙ ap (λ (f : Option Field). answered (tags_reply f index.def state.space) state) here)) is) said
 
 -- ids that rise are above 0
 pub ids-above : (low : ℕ) (docs : List Doc) → RisesAbove low (map row_of docs) → All (λ (doc : Doc). 0 < doc.id) docs

@@ -1,6 +1,6 @@
 -- What FT.INFO tells of an index is true of its documents.
 use Rattle.std.specs.Prelude.{◌≡◌, ◌≤◌, ◌+◌, ℕ, List, [], ◌∷◌, Option, None, Some, Result, Ok, Err, IfOk, find, length, refl}
-use Rattle.std.proofs.Common.{sym, ap, ◌∙◌, arith, inl, inr, subst}
+use Rattle.std.proofs.Common.{sym, ap, ◌∙◌, arith, subst}
 use Rattle.std.proofs.lemmas.List.{length-map}
 use Rattle.std.proofs.lemmas.Result.{IfOk-weaker}
 use Rattle.cmd_parse.specs.Read.{Plain}

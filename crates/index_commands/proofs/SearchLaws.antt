@@ -1,5 +1,5 @@
 -- What a search answers is what its query says of the documents.
-use Rattle.std.specs.Prelude.{◌≡◌, ◌≢◌, ◌<◌, ◌^◌, ◌⊎◌, ℕ, List, Bool, Option, None, Some, Result, Ok, Err, IfOk, find, refl}
+use Rattle.std.specs.Prelude.{◌≡◌, ◌≢◌, ◌<◌, ◌^◌, ◌⊎◌, ℕ, List, Option, None, Some, Result, Ok, Err, IfOk, find, refl}
 use Rattle.std.proofs.Common.{sym, ap, ◌∙◌, arith, inl, inr, subst}
 use Rattle.std.specs.List.{All}
 use Rattle.std.specs.Option.{option_map}

@@ -1,6 +1,4 @@
-use Rattle.std.proofs.Common.{◌∙◌, ap, sym, subst, List}
-use Rattle.std.specs.List.{All}
-use Rattle.ft_base.specs.declared.doc.Doc.{Doc}
+use Rattle.std.proofs.Common.{◌∙◌, ap, sym}
 use Rattle.index_commands.proofs.IndexCommandLaws.{ids-above}
 use Rattle.indexed_store.specs.DefinitionsOf.{definitions_of}
 use Rattle.indexed_store.specs.Holding.{Holding, state_at}
