@@ -1,2 +1,5 @@
+pub mod BehindLaws
 pub mod PlainLaws
+pub mod PreparedLaws
+pub mod ReadLaws
 pub mod RemovalLaws

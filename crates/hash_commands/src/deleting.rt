@@ -1,58 +1,38 @@
 //! HDEL.
-ghost use Rattle.reply_buffer.specs.declared.short_reply.TheConstants.{SHORT_REPLY};
-ghost use Rattle.std.specs.Prelude.{◌≡◌, ◌<◌, ◌≤◌, ◌+◌, ◌-◌, ℕ, [], length, vec_capacity, IfOk, nat_lt, ◌⊎◌, false};
+ghost use Rattle.std.specs.Prelude.{◌≡◌, ◌<◌, ◌≤◌, ◌-◌, length, IfOk};
 ghost use Rattle.cmd_parse.specs.Read.{Plain};
 ghost use Rattle.cmd_parse.specs.declared.command.Verb.TheVariants.{Hdel};
-ghost use Rattle.ft_base.specs.Reply.{spelling};
 ghost use Rattle.ft_base.specs.Space.{doc_of};
 ghost use Rattle.ft_machine.specs.Machine.{State};
-ghost use Rattle.indexed_store.specs.Changing.{IsReady, changed, is_change};
-ghost use Rattle.indexed_store.specs.Standing.{InStep};
-ghost use Rattle.indexed_store.specs.DefinitionsOf.{definitions_of};
-ghost use Rattle.indexed_store.specs.States.{state_of};
-ghost use Rattle.ft_base.specs.Memory.{out_of_memory};
-ghost use Rattle.ft_machine.specs.Step.{Does};
-ghost use Rattle.ft_machine.specs.Writes.{fields_gone, without_fields};
 ghost use Rattle.ft_machine.specs.Reads.{hash_in};
+ghost use Rattle.ft_machine.specs.Step.{last_number};
+ghost use Rattle.ft_machine.specs.Writes.{fields_gone, without_fields};
+ghost use Rattle.indexed_store.specs.Changing.{changed};
+ghost use Rattle.indexed_store.specs.Preparing.{IsPrepared, Prepares, Stays};
 
 use ft_base::{NoMemory, Words};
-use ft_index::FtIndex;
-use hash_store::HashStore;
-use indexed_store::{Change, left_of, prepare_hash};
-use reply_buffer::{put_no_memory, put_number};
-use std::alloc::Global;
+use indexed_store::{Change, IndexedStore};
+use reply_buffer::ReplyBuffer;
 
 /// Prepares HDEL, and writes the reply.
 pub fn hdel<'a>(
-    store: &mut HashStore,
-    indexes: &mut [FtIndex],
-    alloc: Global,
-    id: u64,
+    held: &mut IndexedStore,
     args: &Words<'a>,
-    out: &mut Vec<u8>,
+    reply: &mut ReplyBuffer,
 ) -> Change<'a>
-    requires number { 2 ≤ length args.now }
-    requires kept { InStep store.old indexes.old id }
-    requires empty { out.old.items ≡ [] }
-    requires room { SHORT_REPLY ≤ vec_capacity out.old }
-    ensures does { (latest : ℕ) → Does (Plain Hdel args.now) id
-        (state_of store.old indexes.old latest) out.new.items
-        (changed result store.new.ready (state_of store.old indexes.old latest)) }
-    ensures space { store.new.space ≡ store.old.space }
-    ensures definitions { definitions_of indexes.new ≡ definitions_of indexes.old }
-    ensures kept { InStep store.new indexes.new (id + 1) }
-    ensures ready { IsReady result id store.new.space store.new.ready indexes.new }
-    ensures still { is_change result ≡ false → (out.new.items ≡ spelling out_of_memory) ⊎ (indexes.new ≡ indexes.old) }
-    ensures room { vec_capacity out.old ≤ vec_capacity out.new }
+    requires number { held.old.next < last_number }
+    requires some { 2 ≤ length args.now }
+    ensures prepares { Prepares (Plain Hdel args.now) held.old held.new reply.new.bytes result }
+    ensures room { reply.old.room ≤ reply.new.room }
 {
     let fields = args.rest(1);
-    match take_fields(store, indexes, alloc, id, args.word(0), &fields) {
+    match take_fields(held, args.word(0), &fields) {
         Ok((change, gone)) => {
-            put_number(gone, out);
+            reply.set_number(gone);
             change
         }
         Err(_) => {
-            put_no_memory(out);
+            reply.set_no_memory();
             Change::Nothing
         }
     }
@@ -60,25 +40,19 @@ pub fn hdel<'a>(
 
 /// Takes fields out of a key's hash, and answers the change and how many there were.
 fn take_fields<'a>(
-    store: &mut HashStore,
-    indexes: &mut [FtIndex],
-    alloc: Global,
-    id: u64,
+    held: &mut IndexedStore,
     key: &'a [u8],
     fields: &Words<'_>,
 ) -> Result<(Change<'a>, usize), NoMemory>
-    requires kept { InStep store.old indexes.old id }
-    ensures change { IfOk result (λ made. (state : State) → state.space ≡ store.old.space
-        → changed made.0 store.new.ready state ≡ fields_gone key.now fields.now id state) }
-    ensures gone { IfOk result (λ made. made.1 ≡ length (hash_in (doc_of store.old.space key.now))
-        - length (without_fields (hash_in (doc_of store.old.space key.now)) fields.now)) }
-    ensures ready { IfOk result (λ made. IsReady made.0 id store.new.space store.new.ready indexes.new) }
-    ensures space { store.new.space ≡ store.old.space }
-    ensures kept { InStep store.new indexes.new (id + 1) }
-    ensures definitions { definitions_of indexes.new ≡ definitions_of indexes.old }
-    ensures still { IfOk result (λ made. is_change made.0 ≡ false → indexes.new ≡ indexes.old) }
+    requires number { held.old.next < last_number }
+    ensures change { IfOk result (λ made. (state : State) → state.space ≡ held.old.space
+        → changed made.0 held.new.waits state ≡ fields_gone key.now fields.now held.old.next state) }
+    ensures gone { IfOk result (λ made. made.1 ≡ length (hash_in (doc_of held.old.space key.now))
+        - length (without_fields (hash_in (doc_of held.old.space key.now)) fields.now)) }
+    ensures ready { IfOk result (λ made. IsPrepared made.0 held.old held.new) }
+    ensures stays { Stays held.old held.new }
 {
-    let (before, left) = left_of(store, alloc, key, fields)?;
+    let (before, left) = held.left_of(key, fields)?;
     let gone = before - left.len();
     if gone == 0 {
         drop(left);
@@ -88,6 +62,6 @@ fn take_fields<'a>(
         drop(left);
         return Ok((Change::EraseKey(key), gone));
     }
-    let put = prepare_hash(store, indexes, alloc, id, key, left)?;
+    let put = held.prepare_hash(key, left)?;
     Ok((Change::Write(put), gone))
 }

@@ -1,55 +1,105 @@
 //! The commands that change nothing: of the connection, and those that read hashes and keys.
-ghost use Rattle.reply_buffer.specs.declared.short_reply.TheConstants.{SHORT_REPLY};
-ghost use Rattle.std.specs.Prelude.{◌≤◌, ℕ, ◌≡◌, [], vec_capacity};
+ghost use Rattle.std.specs.Prelude.{◌≡◌, ◌≤◌, ◌⊎◌, ℕ};
 ghost use Rattle.cmd_parse.specs.Lawful.{Lawful};
 ghost use Rattle.cmd_parse.specs.Read.{Plain};
-ghost use Rattle.hash_commands.specs.Reads.{IsRead};
-ghost use Rattle.ft_machine.specs.Machine.{State};
+ghost use Rattle.ft_base.specs.Memory.{out_of_memory};
+ghost use Rattle.ft_base.specs.Reply.{spelling};
+ghost use Rattle.ft_base.specs.declared.reply.Reply.TheVariants.{Bulk};
 ghost use Rattle.ft_machine.specs.Step.{Does};
+ghost use Rattle.hash_commands.specs.Reads.{IsCount, IsRead, IsTold, IsValue};
+ghost use Rattle.indexed_store.specs.Holding.{state_at};
+ghost use Rattle.indexed_store.specs.Preparing.{OnlyReads};
 
-use crate::ping::answer_say;
 use cmd_parse::Verb;
 use ft_base::Words;
-use hash_replies::{hexists, hget, hgetall, hkeys, hlen, hmget, hvals, is_there, present};
-use hash_store::HashStore;
-use reply_buffer::{put_flag, put_kind, put_made, put_number, put_short};
-use std::alloc::Global;
+use indexed_store::IndexedStore;
+use reply_buffer::ReplyBuffer;
 
 /// Does a plain command that changes nothing, and writes the reply.
 pub fn answer_plain(
-    store: &mut HashStore,
-    alloc: Global,
+    held: &mut IndexedStore,
     verb: Verb,
     args: &Words<'_>,
-    out: &mut Vec<u8>,
+    reply: &mut ReplyBuffer,
 )
-    requires reads { IsRead verb }
+    requires read { IsRead verb }
     requires lawful { Lawful verb args.now }
-    requires empty { out.old.items ≡ [] }
-    requires room { SHORT_REPLY ≤ vec_capacity out.old }
-    ensures does { (number : ℕ) (state : State) → state.space ≡ store.old.space
-        → Does (Plain verb args.now) number state out.new.items state }
-    ensures space { store.new.space ≡ store.old.space }
-    ensures ready { store.new.ready ≡ store.old.ready }
-    ensures last { store.new.last ≡ store.old.last }
-    ensures room { vec_capacity out.old ≤ vec_capacity out.new }
+    ensures does { (latest : ℕ) → Does (Plain verb args.now) held.old.next
+        (state_at latest held.old) reply.new.bytes (state_at latest held.old) }
+    ensures stays { OnlyReads held.old held.new }
+    ensures room { reply.old.room ≤ reply.new.room }
 {
     match verb {
-        Verb::Ping if args.len() == 0 => put_short(out, b"+PONG\r\n"),
-        Verb::Ping => answer_say(alloc, args.word(0), out),
-        Verb::Echo => answer_say(alloc, args.word(0), out),
-        Verb::Select => put_short(out, b"+OK\r\n"),
-        Verb::Quit => put_short(out, b"+OK\r\n"),
-        Verb::Hget => put_made(hget(store, alloc, args.word(0), args.word(1)), out),
-        Verb::Hmget => put_made(hmget(store, alloc, args), out),
-        Verb::Hgetall => put_made(hgetall(store, alloc, args.word(0)), out),
-        Verb::Hkeys => put_made(hkeys(store, alloc, args.word(0)), out),
-        Verb::Hvals => put_made(hvals(store, alloc, args.word(0)), out),
-        Verb::Hlen => put_number(hlen(store, args.word(0)), out),
-        Verb::Hexists => put_flag(hexists(store, args.word(0), args.word(1)), out),
-        Verb::Exists => put_number(present(store, args), out),
-        Verb::TypeOf => put_kind(is_there(store, args.word(0)), out),
-        Verb::Dbsize => put_number(store.len(), out),
+        Verb::Ping | Verb::Echo | Verb::Select | Verb::Quit => answer_told(held, verb, args, reply),
+        Verb::Hget | Verb::Hmget | Verb::Hgetall | Verb::Hkeys | Verb::Hvals => {
+            answer_values(held, verb, args, reply)
+        }
+        _ => answer_count(held, verb, args, reply),
+    }
+}
+
+/// Answers a command of the connection.
+fn answer_told(held: &mut IndexedStore, verb: Verb, args: &Words<'_>, reply: &mut ReplyBuffer)
+    requires read { IsTold verb }
+    requires lawful { Lawful verb args.now }
+    ensures does { (latest : ℕ) → Does (Plain verb args.now) held.old.next
+        (state_at latest held.old) reply.new.bytes (state_at latest held.old) }
+    ensures stays { OnlyReads held.old held.new }
+    ensures room { reply.old.room ≤ reply.new.room }
+{
+    match verb {
+        Verb::Ping if args.len() == 0 => reply.set_short(b"+PONG\r\n"),
+        Verb::Ping => answer_message(held, args.word(0), reply),
+        Verb::Echo => answer_message(held, args.word(0), reply),
+        Verb::Select => reply.set_short(b"+OK\r\n"),
+        Verb::Quit => reply.set_short(b"+OK\r\n"),
+        _ => unreachable!(),
+    }
+}
+
+/// Answers with a message as it came.
+fn answer_message(held: &IndexedStore, message: &[u8], reply: &mut ReplyBuffer)
+    ensures bytes { (reply.new.bytes ≡ spelling (Bulk message.now))
+        ⊎ (reply.new.bytes ≡ spelling out_of_memory) }
+    ensures room { reply.old.room ≤ reply.new.room }
+{
+    reply.set_message(held.alloc, message);
+}
+
+/// Answers with values and names of fields.
+fn answer_values(held: &mut IndexedStore, verb: Verb, args: &Words<'_>, reply: &mut ReplyBuffer)
+    requires read { IsValue verb }
+    requires lawful { Lawful verb args.now }
+    ensures does { (latest : ℕ) → Does (Plain verb args.now) held.old.next
+        (state_at latest held.old) reply.new.bytes (state_at latest held.old) }
+    ensures stays { OnlyReads held.old held.new }
+    ensures room { reply.old.room ≤ reply.new.room }
+{
+    match verb {
+        Verb::Hget => reply.set_made(held.hget(args.word(0), args.word(1))),
+        Verb::Hmget => reply.set_made(held.hmget(args)),
+        Verb::Hgetall => reply.set_made(held.hgetall(args.word(0))),
+        Verb::Hkeys => reply.set_made(held.hkeys(args.word(0))),
+        Verb::Hvals => reply.set_made(held.hvals(args.word(0))),
+        _ => unreachable!(),
+    }
+}
+
+/// Answers with a number, or with the type of a key's value.
+fn answer_count(held: &mut IndexedStore, verb: Verb, args: &Words<'_>, reply: &mut ReplyBuffer)
+    requires read { IsCount verb }
+    requires lawful { Lawful verb args.now }
+    ensures does { (latest : ℕ) → Does (Plain verb args.now) held.old.next
+        (state_at latest held.old) reply.new.bytes (state_at latest held.old) }
+    ensures stays { OnlyReads held.old held.new }
+    ensures room { reply.old.room ≤ reply.new.room }
+{
+    match verb {
+        Verb::Hlen => reply.set_number(held.hlen(args.word(0))),
+        Verb::Hexists => reply.set_flag(held.has_field(args.word(0), args.word(1))),
+        Verb::Exists => reply.set_number(held.present(args)),
+        Verb::TypeOf => reply.set_kind(held.has(args.word(0))),
+        Verb::Dbsize => reply.set_number(held.len()),
         _ => unreachable!(),
     }
 }

@@ -1,22 +1,49 @@
-use Rattle.std.proofs.Common.{◌∙◌, ap, sym}
+use Rattle.std.specs.Fmt.{signed_decimal}
+use Rattle.std.proofs.Common.{◌∙◌, List, ap, of_z, sym, to_z, w64}
+use Rattle.cmd_parse.specs.Read.{Plain}
+use Rattle.cmd_parse.specs.declared.command.Verb.TheVariants.{Hincrby}
+use Rattle.ft_base.specs.Hash.{set_field}
 use Rattle.ft_base.specs.Number.{int_of}
+use Rattle.ft_base.specs.Space.{doc_of}
+use Rattle.ft_base.specs.declared.doc.Doc.{Doc}
+use Rattle.ft_base.specs.declared.reply.Reply.TheVariants.{Number}
 use Rattle.ft_machine.specs.Arguments.{first, second}
-use Rattle.indexed_store.specs.States.{state_of}
-use Rattle.hash_commands.proofs.PlainLaws.{increment-fits, not-number, overflows, same-field, too-wide, value-fits}
-use Rattle.indexed_store.proofs.StepLaws.{in_step-read}
+use Rattle.ft_machine.specs.Reads.{hash_in}
+use Rattle.indexed_store.specs.Holding.{state_at}
+use Rattle.indexed_store.proofs.PreparingLaws.{prepares-read}
+use Rattle.hash_commands.proofs.BehindLaws.{stays-behind, waits-behind}
+use Rattle.hash_commands.proofs.PlainLaws.{increment-fits, not-number, overflows, same-field, sum-is, too-wide, value-fits}
+use Rattle.hash_commands.proofs.PreparedLaws.{hincrby-gives, prepares-wanting, prepares-write}
 use Rattle.hash_commands.proofs.incrementing.hincrby.Goals as goal
 
-pub returns-in_default-number_of-clause-does : goal.returns-in_default-number_of-clause-does
-returns-in_default-number_of-clause-does c latest =
-    not-number c.args.args.now c.args.id (state_of c.args.store.now c.args.indexes.now latest) _ c.in-Some.by
-    (sym (same-field c.args.store.now.space c.word-key.result.now _ c.word-field.result.now _ c.word-key.ensures c.word-field.ensures) ∙ (sym c.number_of.ensures.number ∙ c.in_default-number_of.is)) (sym (ap int_of c.word.ensures) ∙ (sym c.read_int.ensures.exact ∙ c.in-Some.is)) c.put_fault.ensures.fault
-
-pub returns-in_default-checked_add-clause-does : goal.returns-in_default-checked_add-clause-does
-returns-in_default-checked_add-clause-does c latest =
-    let value = sym (same-field c.args.store.now.space c.word-key.result.now (first c.args.args.now) c.word-field.result.now (second c.args.args.now) c.word-key.ensures c.word-field.ensures) ∙ (sym c.number_of.ensures.number ∙ c.in-Some-number_of.is) in
+pub returns-in_default-number_of-clause-prepares : goal.returns-in_default-number_of-clause-prepares
+returns-in_default-number_of-clause-prepares c =
+    let value = sym (same-field c.args.held.now.space c.word-key.result.now (first c.args.args.now) c.word-field.result.now (second c.args.args.now) c.word-key.ensures c.word-field.ensures) ∙ (sym c.number_of.ensures.number ∙ c.in_default-number_of.is) in
     let increment = sym (ap int_of c.word.ensures) ∙ (sym c.read_int.ensures.exact ∙ c.in-Some.is) in
-    overflows c.args.args.now c.args.id (state_of c.args.store.now c.args.indexes.now latest) _ c.in-Some-number_of.old c.in-Some.by value increment
-    (too-wide c.in-Some-number_of.old c.in-Some.by (value-fits _ c.in-Some-number_of.old value) (increment-fits _ c.in-Some.by increment) c.in_default-checked_add.ensures) c.put_fault-in_default-checked_add.ensures.fault
+    prepares-read (Plain Hincrby c.args.args.now) c.args.held.now c.number_of.new.self _ c.number_of.ensures.stays
+    (λ latest. not-number c.args.args.now c.args.held.now.next (state_at latest c.args.held.now) _ c.in-Some.by value increment c.set_fault.ensures.bytes)
 
-pub returns-in_default-checked_add-clause-kept : goal.returns-in_default-checked_add-clause-kept
-returns-in_default-checked_add-clause-kept c = in_step-read c.args.store.now c.number_of.new.store c.args.indexes.now c.args.id c.number_of.ensures.space c.number_of.ensures.last c.requires.kept
+pub returns-in_default-checked_add-clause-prepares : goal.returns-in_default-checked_add-clause-prepares
+returns-in_default-checked_add-clause-prepares c =
+    let value = sym (same-field c.args.held.now.space c.word-key.result.now (first c.args.args.now) c.word-field.result.now (second c.args.args.now) c.word-key.ensures c.word-field.ensures) ∙ (sym c.number_of.ensures.number ∙ c.in-Some-number_of.is) in
+    let increment = sym (ap int_of c.word.ensures) ∙ (sym c.read_int.ensures.exact ∙ c.in-Some.is) in
+    prepares-read (Plain Hincrby c.args.args.now) c.args.held.now c.number_of.new.self _ c.number_of.ensures.stays
+    (λ latest. overflows c.args.args.now c.args.held.now.next (state_at latest c.args.held.now) _ c.in-Some-number_of.old c.in-Some.by value increment
+    (too-wide c.in-Some-number_of.old c.in-Some.by (value-fits _ c.in-Some-number_of.old value) (increment-fits _ c.in-Some.by increment) c.in_default-checked_add.ensures) c.set_fault-in_default-checked_add.ensures.bytes)
+
+pub returns-in-Ok-clause-prepares : goal.returns-in-Ok-clause-prepares
+returns-in-Ok-clause-prepares c =
+    let value = sym (same-field c.args.held.now.space c.word-key.result.now (first c.args.args.now) c.word-field.result.now (second c.args.args.now) c.word-key.ensures c.word-field.ensures) ∙ (sym c.number_of.ensures.number ∙ c.in-Some-number_of.is) in
+    let increment = sym (ap int_of c.word.ensures) ∙ (sym c.read_int.ensures.exact ∙ c.in-Some.is) in
+    let sum = sum-is c.in-Some-number_of.old c.in-Some.by c.in-Some-checked_add.sum (value-fits _ c.in-Some-number_of.old value) (increment-fits _ c.in-Some.by increment) c.in-Some-checked_add.ensures.0 c.in-Some-checked_add.ensures.1 in
+    prepares-write (Plain Hincrby c.args.args.now) c.args.held.now c.set_number.new.held _ c.word-key.result.now _ c.in-Ok.put (Number (to_z w64 (of_z w64 c.in-Some-checked_add.sum)))
+    (λ latest. hincrby-gives c.args.args.now c.args.held.now.next (state_at latest c.args.held.now) c.word-key.result.now c.word-field.result.now c.in-Some-number_of.old c.in-Some.by (to_z w64 (of_z w64 c.in-Some-checked_add.sum))
+    c.word-key.ensures c.word-field.ensures value increment sum.0 sum.1)
+    (waits-behind c.word-key.result.now (λ (docs : List Doc). set_field (hash_in (doc_of docs c.word-key.result.now)) c.word-field.result.now (signed_decimal (to_z w64 (of_z w64 c.in-Some-checked_add.sum))))
+    c.in-Ok.put c.args.held.now c.number_of.new.self c.set_number.new.held c.number_of.ensures.stays c.in-Ok.ensures.waits)
+    (stays-behind c.args.held.now c.number_of.new.self c.set_number.new.held c.number_of.ensures.stays c.set_number.ensures.stays) c.set_signed.ensures.bytes
+
+pub returns-in-Err-clause-prepares : goal.returns-in-Err-clause-prepares
+returns-in-Err-clause-prepares c =
+    prepares-wanting (Plain Hincrby c.args.args.now) c.args.held.now _ _ tt
+    (stays-behind c.args.held.now c.number_of.new.self _ c.number_of.ensures.stays c.set_number.ensures.stays) c.set_no_memory.ensures.bytes

@@ -1,0 +1,44 @@
+-- What waits behind a read, waits.
+use Rattle.std.specs.Prelude.{◌≡◌, ◌≤◌, ◌+◌, ℕ, List, Some}
+use Rattle.std.proofs.Common.{◌∙◌, ap, arith, subst}
+use Rattle.ft_base.specs.Hash.{Hash}
+use Rattle.ft_base.specs.declared.doc.Doc.{Doc}
+use Rattle.ft_index.specs.Index.{Index}
+use Rattle.indexed_store.specs.DefinitionsOf.{definitions_of}
+use Rattle.indexed_store.specs.Holding.{Holding}
+use Rattle.indexed_store.specs.Preparing.{OnlyReads, Stays, WaitsFor}
+use Rattle.indexed_store.specs.Writing.{Waits}
+
+-- a hash that is made of the documents, and waits behind a read, waits
+pub waits-behind : (key : List ℕ) (hash : List Doc → Hash) (put : ℕ) (old mid new : Holding) → OnlyReads old mid → WaitsFor key (hash mid.space) put mid new → WaitsFor key (hash old.space) put old new
+waits-behind key hash put old mid new reads waits =
+    let doc : ℕ → List Doc → Doc = λ (n : ℕ) (docs : List Doc). record { id = n; key = key; hash = hash docs } in
+    record {
+      ready = waits.ready ∙ (ap (λ (n : ℕ). Some (doc n mid.space)) reads.next ∙ ap (λ (docs : List Doc). Some (doc old.next docs)) reads.space);
+      waits = subst (λ (n : ℕ). Waits put n new.space new.indexes new.waits) reads.next waits.waits;
+    }
+
+-- what is not seen behind a read is not seen
+pub stays-behind : (old mid new : Holding) → OnlyReads old mid → Stays mid new → Stays old new
+stays-behind old mid new reads stays = record {
+  space = stays.space ∙ reads.space;
+  definitions = stays.definitions ∙ ap (λ (is : List Index). definitions_of is) reads.indexes;
+  next = omega (arith, stays.next, reads.next);
+}
+
+-- a read is not seen
+pub stays-read : (old new : Holding) → OnlyReads old new → Stays old new
+stays-read old new reads = record {
+  space = reads.space;
+  definitions = ap (λ (is : List Index). definitions_of is) reads.indexes;
+  next = omega (arith, reads.next);
+}
+
+-- what is the same only reads
+pub reads-nothing : (old new : Holding) → new ≡ old → OnlyReads old new
+reads-nothing old new same = record {
+  space = ap (λ (held : Holding). held.space) same;
+  indexes = ap (λ (held : Holding). held.indexes) same;
+  waits = ap (λ (held : Holding). held.waits) same;
+  next = ap (λ (held : Holding). held.next) same;
+}
