@@ -146,10 +146,13 @@ fn bytes_behind_quit_are_not_executed(rt: HostRuntime) {
 
 /// Whether the program refuses these words, and writes nothing to its link.
 fn is_refused(alloc: Global, words: &[&str]) -> bool {
-    let Some(mut link) = link_of(alloc, &[CURSOR], &NONE) else {
-        return false;
-    };
-    run_words(alloc, words, &mut link) == Some(Exit::Usage) && link.output().is_empty()
+    match link_of(alloc, &[CURSOR], &NONE) {
+        Some(mut link) => {
+            let ended = run_words(alloc, words, &mut link);
+            (ended == Some(Exit::Usage)) & link.output().is_empty()
+        }
+        None => false,
+    }
 }
 
 #[test]

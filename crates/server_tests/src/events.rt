@@ -1,34 +1,27 @@
-//! Events: what is prepared and not committed, and the last event.
+//! Events: what is prepared and not committed, and the last event. Each table is a session, a row a command, which the
+//! rows before it have left as it finds it.
 use crate::rows::{behind, cut, is_spelled};
 use crate::session::{Session, begin_at};
 use std::alloc::Global;
 
-/// Whether all that is seen of the hash h, the index, the documents and the hash i is as a row has it.
-fn is_seen(session: &mut Session, want: &[u8]) -> bool {
-    session.ask(b"HGETALL|h", b'|');
-    let Some(want) = behind(session.reply(), want) else {
-        return false;
-    };
-    session.ask(b"FT.SEARCH|ix|red|NOCONTENT", b'|');
-    let Some(want) = behind(session.reply(), want) else {
-        return false;
-    };
-    session.ask(b"DBSIZE", b'|');
-    let Some(want) = behind(session.reply(), want) else {
-        return false;
-    };
-    session.ask(b"TYPE|i", b'|');
-    is_spelled(session.reply(), want)
+/// What the rows of a table say.
+#[derive(Clone, Copy)]
+enum Table {
+    /// An abandoned command, its reply, and whether it writes. It leaves all as it was.
+    Abandoned,
+    /// A command that is committed or abandoned, whether it writes, and what is seen then.
+    Committed,
+    /// A line and its reply; one behind `!` is abandoned.
+    Waiting,
+    /// A command that is refused for the last event.
+    Late,
 }
-
-/// All that is seen before each row of the first table.
-const SEEN: &[u8] = b"*2 $1 t $3 red *2 :1 $1 h :1 +none";
 
 /// The document h and the index ix.
-fn fill(session: &mut Session) {
-    session.ask(b"FT.CREATE|ix|SCHEMA|t|TEXT", b'|');
-    session.ask(b"HSET|h|t|red", b'|');
-}
+const FILL: [&[u8]; 2] = [b"FT.CREATE|ix|SCHEMA|t|TEXT", b"HSET|h|t|red"];
+
+/// All that is seen of them.
+const SEEN: &[u8] = b"*2 $1 t $3 red *2 :1 $1 h :1 +none";
 
 /// Commands that are prepared and abandoned, their replies, and whether they write.
 const ABANDONED: &str = "PING = +PONG = reads
@@ -58,89 +51,18 @@ FT._LIST = *1 $2 ix = reads
 FT.TAGVALS|ix|t = -Unknown field at word 2 = reads
 FLUSHALL = +OK = writes";
 
-/// Whether a row's command, abandoned, is one event that leaves all as it was.
-fn is_undone(alloc: Global, session: &mut Session, row: &[u8]) -> bool {
-    let (line, said) = cut(row);
-    let (want, deed) = cut(said);
-    let number = session.next();
-    let writes = session.prepare(alloc, line, false);
-    writes == (deed == b"writes".as_slice())
-        && is_spelled(session.reply(), want)
-        && session.next().saturating_sub(number) == 1
-        && is_seen(session, SEEN)
-}
+/// Commands that are committed or abandoned, and what is seen behind each. In the end nothing is left to flush.
+const COMMITTED: &str = "HSET|h|t|blue = abandoned = writes = *2 $1 t $3 red *2 :1 $1 h :1 +none
+HSET|h|u|1 = committed = writes = *4 $1 t $3 red $1 u $1 1 *2 :1 $1 h :1 +none
+HDEL|h|u = committed = writes = *2 $1 t $3 red *2 :1 $1 h :1 +none
+RENAME|h|i = committed = writes = *0 *2 :1 $1 i :1 +hash
+FLUSHALL = abandoned = writes = *0 *2 :1 $1 i :1 +hash
+RENAME|i|h = committed = writes = *2 $1 t $3 red *2 :1 $1 h :1 +none
+FLUSHALL = committed = writes = *0 -Unknown index name :0 +none
+FLUSHALL = committed = reads = *0 -Unknown index name :0 +none";
 
-/// How many rows hold until one does not.
-fn undone(alloc: Global, session: &mut Session) -> u64 {
-    let mut count = 0u64;
-    for row in ABANDONED.as_bytes().split(|byte| *byte == b'\n') {
-        if !is_undone(alloc, session, row) {
-            return count;
-        }
-        count = count.saturating_add(1);
-    }
-    count
-}
-
-/// The same for a new session.
-fn undone_in_new(alloc: Global) -> u64 {
-    match begin_at(alloc, 1) {
-        Some(mut session) => {
-            fill(&mut session);
-            undone(alloc, &mut session)
-        }
-        None => 0,
-    }
-}
-
-#[test]
-fn an_abandoned_command_leaves_all_as_it_was(rt: HostRuntime) {
-    assert!(rt; undone_in_new(rt.alloc()) == 26);
-}
-
-/// Commands that are committed or abandoned, and what is seen behind each.
-const COMMITTED: &str = "HSET|h|t|blue = abandoned = *2 $1 t $3 red *2 :1 $1 h :1 +none
-HSET|h|u|1 = committed = *4 $1 t $3 red $1 u $1 1 *2 :1 $1 h :1 +none
-HDEL|h|u = committed = *2 $1 t $3 red *2 :1 $1 h :1 +none
-RENAME|h|i = committed = *0 *2 :1 $1 i :1 +hash
-FLUSHALL = abandoned = *0 *2 :1 $1 i :1 +hash
-RENAME|i|h = committed = *2 $1 t $3 red *2 :1 $1 h :1 +none
-FLUSHALL = committed = *0 -Unknown index name :0 +none";
-
-/// How many rows hold until one does not.
-fn told(alloc: Global, session: &mut Session) -> u64 {
-    let mut count = 0u64;
-    for row in COMMITTED.as_bytes().split(|byte| *byte == b'\n') {
-        let (line, said) = cut(row);
-        let (end, want) = cut(said);
-        session.prepare(alloc, line, end == b"committed".as_slice());
-        if !is_seen(session, want) {
-            return count;
-        }
-        count = count.saturating_add(1);
-    }
-    count
-}
-
-/// The same for a new session, and whether something is left to flush then.
-fn told_in_new(alloc: Global) -> (u64, bool) {
-    match begin_at(alloc, 1) {
-        Some(mut session) => {
-            fill(&mut session);
-            let count = told(alloc, &mut session);
-            (count, session.prepare(alloc, b"FLUSHALL", true))
-        }
-        None => (0, false),
-    }
-}
-
-#[test]
-fn a_committed_command_is_seen(rt: HostRuntime) {
-    assert!(rt; told_in_new(rt.alloc()) == (7, false));
-}
-
-/// Lines and their replies. The documents b and c are prepared and abandoned: their words and tags are in the lists of
-/// the index, where no search and no removal finds them, and those that are written later are found beside them.
+/// The documents b and c are prepared and abandoned: their words and tags are in the lists of the index, where no
+/// search and no removal finds them, and those that are written later are found beside them.
 const WAITING: &str = "FT.CREATE|ix|SCHEMA|t|TEXT|t|AS|g|TAG = +OK
 HSET|a|t|fox = :1
 ! HSET|b|t|lost red = :1
@@ -160,43 +82,6 @@ FT.SEARCH|ix|*|NOCONTENT = *4 :3 $1 a $1 c $1 b
 FT.SEARCH|ix|@g:{lost*}|NOCONTENT = *2 :1 $1 b
 DBSIZE = :3";
 
-/// Whether a line is answered so; one behind `!` is abandoned.
-fn is_answered(alloc: Global, session: &mut Session, row: &[u8]) -> bool {
-    let (line, want) = cut(row);
-    match line {
-        [b'!', b' ', line @ ..] => {
-            session.prepare(alloc, line, false);
-        }
-        _ => session.ask(line, b'|'),
-    }
-    is_spelled(session.reply(), want)
-}
-
-/// How many lines are answered so until one is not.
-fn answered(alloc: Global, session: &mut Session) -> u64 {
-    let mut count = 0u64;
-    for row in WAITING.as_bytes().split(|byte| *byte == b'\n') {
-        if !is_answered(alloc, session, row) {
-            return count;
-        }
-        count = count.saturating_add(1);
-    }
-    count
-}
-
-/// The same for a new session.
-fn answered_in_new(alloc: Global) -> u64 {
-    match begin_at(alloc, 1) {
-        Some(mut session) => answered(alloc, &mut session),
-        None => 0,
-    }
-}
-
-#[test]
-fn an_abandoned_document_is_unseen(rt: HostRuntime) {
-    assert!(rt; answered_in_new(rt.alloc()) == 18);
-}
-
 /// The number at which no event can begin.
 const LAST: u64 = 4_611_686_018_427_387_904;
 
@@ -214,6 +99,57 @@ HSET|h
 SELECT|1
 QUIT";
 
+/// Whether all that is seen of the hash h, the index, the documents and the hash i is as a row has it.
+fn is_seen(session: &mut Session, want: &[u8]) -> bool {
+    session.ask(b"HGETALL|h", b'|');
+    let Some(want) = behind(session.reply(), want) else {
+        return false;
+    };
+    session.ask(b"FT.SEARCH|ix|red|NOCONTENT", b'|');
+    let Some(want) = behind(session.reply(), want) else {
+        return false;
+    };
+    session.ask(b"DBSIZE", b'|');
+    let Some(want) = behind(session.reply(), want) else {
+        return false;
+    };
+    session.ask(b"TYPE|i", b'|');
+    is_spelled(session.reply(), want)
+}
+
+/// Whether a command, abandoned, is one event that leaves all as it was.
+fn is_undone(alloc: Global, session: &mut Session, row: &[u8]) -> bool {
+    let (line, said) = cut(row);
+    let (want, deed) = cut(said);
+    let number = session.next();
+    let writes = session.prepare(alloc, line, false);
+    writes == (deed == b"writes".as_slice())
+        && is_spelled(session.reply(), want)
+        && session.next().saturating_sub(number) == 1
+        && is_seen(session, SEEN)
+}
+
+/// Whether a command, committed or abandoned, is one that writes or not, and what is seen then.
+fn is_told(alloc: Global, session: &mut Session, row: &[u8]) -> bool {
+    let (line, said) = cut(row);
+    let (end, said) = cut(said);
+    let (deed, want) = cut(said);
+    let writes = session.prepare(alloc, line, end == b"committed".as_slice());
+    writes == (deed == b"writes".as_slice()) && is_seen(session, want)
+}
+
+/// Whether a line is answered so.
+fn is_answered(alloc: Global, session: &mut Session, row: &[u8]) -> bool {
+    let (line, want) = cut(row);
+    match line {
+        [b'!', b' ', line @ ..] => {
+            session.prepare(alloc, line, false);
+        }
+        _ => session.ask(line, b'|'),
+    }
+    is_spelled(session.reply(), want)
+}
+
 /// Whether a command is refused for the last event, also where it is prepared.
 fn is_late(alloc: Global, session: &mut Session, line: &[u8]) -> bool {
     let is_last = session.next() == LAST;
@@ -223,11 +159,21 @@ fn is_late(alloc: Global, session: &mut Session, line: &[u8]) -> bool {
     is_last && refused && !writes && (session.reply().is_empty() || session.reply() == REFUSED)
 }
 
-/// How many of them are refused until one is not.
-fn late(alloc: Global, session: &mut Session) -> u64 {
+/// Whether a row holds.
+fn holds(alloc: Global, session: &mut Session, table: Table, row: &[u8]) -> bool {
+    match table {
+        Table::Abandoned => is_undone(alloc, session, row),
+        Table::Committed => is_told(alloc, session, row),
+        Table::Waiting => is_answered(alloc, session, row),
+        Table::Late => is_late(alloc, session, row),
+    }
+}
+
+/// How many rows hold until one does not.
+fn holding(alloc: Global, session: &mut Session, table: Table, rows: &str) -> u64 {
     let mut count = 0u64;
-    for line in LATE.as_bytes().split(|byte| *byte == b'\n') {
-        if !is_late(alloc, session, line) {
+    for row in rows.as_bytes().split(|byte| *byte == b'\n') {
+        if !holds(alloc, session, table, row) {
             return count;
         }
         count = count.saturating_add(1);
@@ -235,21 +181,39 @@ fn late(alloc: Global, session: &mut Session) -> u64 {
     count
 }
 
-/// The same for a new session that comes to the last event with a document.
-fn late_in_new(alloc: Global) -> u64 {
-    match begin_at(alloc, LAST - 1) {
+/// The same for a new session that was asked some lines; for late commands its second event is the last.
+fn holding_behind(alloc: Global, fill: &[&[u8]], table: Table, rows: &str) -> u64 {
+    let first = match table {
+        Table::Late => LAST - 1,
+        _ => 1,
+    };
+    match begin_at(alloc, first) {
         Some(mut session) => {
-            session.ask(b"HSET|h|t|red", b'|');
-            if is_spelled(session.reply(), b":1") {
-                return late(alloc, &mut session);
+            for line in fill {
+                session.ask(line, b'|');
             }
-            0
+            holding(alloc, &mut session, table, rows)
         }
         None => 0,
     }
 }
 
 #[test]
+fn an_abandoned_command_leaves_all_as_it_was(rt: HostRuntime) {
+    assert!(rt; holding_behind(rt.alloc(), &FILL, Table::Abandoned, ABANDONED) == 26);
+}
+
+#[test]
+fn a_committed_command_is_seen(rt: HostRuntime) {
+    assert!(rt; holding_behind(rt.alloc(), &FILL, Table::Committed, COMMITTED) == 8);
+}
+
+#[test]
+fn an_abandoned_document_is_unseen(rt: HostRuntime) {
+    assert!(rt; holding_behind(rt.alloc(), &[], Table::Waiting, WAITING) == 18);
+}
+
+#[test]
 fn the_last_event_refuses_everything(rt: HostRuntime) {
-    assert!(rt; late_in_new(rt.alloc()) == 10);
+    assert!(rt; holding_behind(rt.alloc(), &[b"HSET|h|t|red"], Table::Late, LATE) == 10);
 }

@@ -87,16 +87,22 @@ pub fn serve(alloc: Global, link: &mut MemLink) -> Option<End> {
 
 /// Whether `script` over a link that gives the texts ends so, and the link took these bytes.
 pub fn is_run(alloc: Global, texts: &[&[u8]], faults: &Faults, want: &[u8], exit: Exit) -> bool {
-    let Some(mut link) = link_of(alloc, texts, faults) else {
-        return false;
-    };
-    run_words(alloc, &["script"], &mut link) == Some(exit) && link.output() == want
+    match link_of(alloc, texts, faults) {
+        Some(mut link) => {
+            let ended = run_words(alloc, &["script"], &mut link);
+            (ended == Some(exit)) & (link.output() == want)
+        }
+        None => false,
+    }
 }
 
 /// Whether a link that gives the texts is served to this end, and took these bytes.
 pub fn is_served(alloc: Global, texts: &[&[u8]], want: &[u8], end: End) -> bool {
-    let Some(mut link) = link_of(alloc, texts, &NONE) else {
-        return false;
-    };
-    serve(alloc, &mut link) == Some(end) && link.output() == want
+    match link_of(alloc, texts, &NONE) {
+        Some(mut link) => {
+            let ended = serve(alloc, &mut link);
+            (ended == Some(end)) & (link.output() == want)
+        }
+        None => false,
+    }
 }

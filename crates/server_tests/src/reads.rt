@@ -1,5 +1,6 @@
 //! Searches by an iterator of all ids: what is shown, and how many documents are read for it.
 ghost use Rattle.std.specs.Prelude.{◌≡◌, ◌<◌, ◌≤◌, ℕ, length, nat_eq, IfOk, IsSome, IsTrue, OnOk};
+ghost use Rattle.ft_base.specs.Reply.{fits_wire};
 ghost use Rattle.std.specs.Map.{lookup};
 ghost use Rattle.std.specs.Option.{option_map};
 ghost use Rattle.search_exec.specs.Ids.{doc_at};
@@ -7,7 +8,7 @@ ghost use Rattle.search_exec.specs.Ids.{doc_at};
 use crate::rows::is_spelled;
 use crate::turns::put;
 use doc_table::DocTable;
-use ft_base::{Bytes, Doc, HashRec, NoMemory, Steps, put_int, put_reply};
+use ft_base::{Bytes, Doc, HashRec, NoMemory, Reply, Steps, put_int, put_reply};
 use hash_store::HashStore;
 use id_iters::{Iter, Lists};
 use inverted_list::List;
@@ -18,7 +19,7 @@ use std::marker::Brand;
 use std::sync::ledger::{Blank, Ledger};
 
 // No lists; the ids from 1 to the count are live.
-#[derive(Drop)]
+#[derive(Clone, Copy)]
 struct Bare {
     count: u8,
 }
@@ -178,6 +179,13 @@ fn put_found<L: Ledger>(
     let lists = Bare { count: row.count };
     let (all, no_content) = (Iter::of_all(), row.no_content);
     let found = search_index(alloc, &lists, table, store, all, no_content, &mut steps);
+    put_answer(found, out);
+}
+
+// Writes a reply.
+fn put_answer(found: Result<Reply, NoMemory>, out: &mut Vec<u8>)
+    requires { IfOk found (λ reply. IsTrue (fits_wire reply)) }
+{
     if let Ok(reply) = found {
         let _ = put_reply(out, &reply);
     }
