@@ -55,7 +55,6 @@ fn put_command(alloc: Global, command: &Command<'_>, out: &mut Answer) -> Result
             put_named(b"alter ", index, out);
             put_fields(fields.as_slice(), out);
         }
-        Command::Info { index } => put_named(b"info ", index, out),
         Command::Search(spec) => put_search(spec, out),
     }
     Ok(())
