@@ -149,7 +149,12 @@ impl Engine {
     }
 
     // The same, where the buffer of replies is in hand.
-    fn answer<'a>(&mut self, now: u64, command: Command<'a>, reply: &mut ReplyBuffer) -> Prepared<'a>
+    fn answer<'a>(
+        &mut self,
+        now: u64,
+        command: Command<'a>,
+        reply: &mut ReplyBuffer,
+    ) -> Prepared<'a>
         requires asked { IsAsked (command_of command) }
         requires free { self.old.pending ≡ false }
         ensures answer { At self.old.next now (outcomes (command_of command.entry) self.old.next)

@@ -7,9 +7,9 @@ ghost use Rattle.ft_index.specs.Kept.{AreKept};
 ghost use Rattle.ft_index.specs.Has.{Has};
 ghost use Rattle.ft_index.specs.Markers.{AreBefore, GainsMarkers};
 
+use crate::lists::IndexLists;
 use doc_table::DocTable;
 use ft_base::{Doc, IndexDef, NoMemory};
-use crate::lists::IndexLists;
 use inverted_list::Markers;
 
 /// Puts a document's entries into the lists, under an id that is not live. Where memory is wanting

@@ -13,10 +13,10 @@ ghost use Rattle.ft_index.specs.Without.{without};
 ghost use Rattle.inverted_list.specs.declared.marker.Marker.{Marker};
 
 use crate::entering::enter;
+use crate::lists::IndexLists;
 use crate::ready::{Fit, Ready, fit_of};
 use doc_table::DocTable;
 use ft_base::{Doc, IndexDef, NoMemory};
-use crate::lists::IndexLists;
 use inverted_list::Markers;
 use std::alloc::Global;
 use std::marker::Model;

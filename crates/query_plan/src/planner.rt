@@ -22,8 +22,8 @@ use crate::tags::plan_tags;
 use crate::union::{every_of, other_of, some_of};
 use crate::words::{plan_prefix, plan_word};
 use ft_base::{IndexDef, NoMemory, Query, Steps};
-use id_iters::{Hints, Iter, Lists};
 use ft_index::IndexLists;
+use id_iters::{Hints, Iter, Lists};
 use std::alloc::Global;
 use std::sync::ledger::Ledger;
 
