@@ -15,11 +15,7 @@ use indexed_store::{Change, IndexedStore};
 use reply_buffer::ReplyBuffer;
 
 /// Prepares HDEL, and writes the reply.
-pub fn hdel<'a>(
-    held: &mut IndexedStore,
-    args: &Words<'a>,
-    reply: &mut ReplyBuffer,
-) -> Change<'a>
+pub fn hdel<'a>(held: &mut IndexedStore, args: &Words<'a>, reply: &mut ReplyBuffer) -> Change<'a>
     requires number { held.old.next < last_number }
     requires some { 2 ≤ length args.now }
     ensures prepares { Prepares (Plain Hdel args.now) held.old held.new reply.new.bytes result }

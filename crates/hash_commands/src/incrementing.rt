@@ -21,11 +21,7 @@ use reply_buffer::ReplyBuffer;
 use std::alloc::Global;
 
 /// Prepares HINCRBY, and writes the reply.
-pub fn hincrby<'a>(
-    held: &mut IndexedStore,
-    args: &Words<'a>,
-    reply: &mut ReplyBuffer,
-) -> Change<'a>
+pub fn hincrby<'a>(held: &mut IndexedStore, args: &Words<'a>, reply: &mut ReplyBuffer) -> Change<'a>
     requires number { held.old.next < last_number }
     requires three { length args.now ≡ 3 }
     requires increment { IsSome (int_of (third args.now)) }

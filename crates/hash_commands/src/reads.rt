@@ -16,12 +16,7 @@ use indexed_store::IndexedStore;
 use reply_buffer::ReplyBuffer;
 
 /// Does a plain command that changes nothing, and writes the reply.
-pub fn answer_plain(
-    held: &mut IndexedStore,
-    verb: Verb,
-    args: &Words<'_>,
-    reply: &mut ReplyBuffer,
-)
+pub fn answer_plain(held: &mut IndexedStore, verb: Verb, args: &Words<'_>, reply: &mut ReplyBuffer)
     requires read { IsRead verb }
     requires lawful { Lawful verb args.now }
     ensures does { (latest : ℕ) → Does (Plain verb args.now) held.old.next

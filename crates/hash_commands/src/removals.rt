@@ -9,11 +9,7 @@ use indexed_store::{Change, IndexedStore};
 use reply_buffer::ReplyBuffer;
 
 /// Prepares FLUSHALL, and writes the reply.
-pub fn flush<'a>(
-    held: &mut IndexedStore,
-    args: &Words<'a>,
-    reply: &mut ReplyBuffer,
-) -> Change<'a>
+pub fn flush<'a>(held: &mut IndexedStore, args: &Words<'a>, reply: &mut ReplyBuffer) -> Change<'a>
     ensures prepares { Prepares (Plain Flushall args.now) held.old held.new reply.new.bytes result }
     ensures room { reply.old.room ≤ reply.new.room }
 {

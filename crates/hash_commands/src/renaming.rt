@@ -13,11 +13,7 @@ use indexed_store::{Change, IndexedStore};
 use reply_buffer::ReplyBuffer;
 
 /// Prepares RENAME, and writes the reply.
-pub fn rename<'a>(
-    held: &mut IndexedStore,
-    args: &Words<'a>,
-    reply: &mut ReplyBuffer,
-) -> Change<'a>
+pub fn rename<'a>(held: &mut IndexedStore, args: &Words<'a>, reply: &mut ReplyBuffer) -> Change<'a>
     requires number { held.old.next < last_number }
     requires two { length args.now ≡ 2 }
     ensures prepares { Prepares (Plain Rename args.now) held.old held.new reply.new.bytes result }

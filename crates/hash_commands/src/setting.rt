@@ -16,11 +16,7 @@ use indexed_store::{Change, IndexedStore, set_pairs};
 use reply_buffer::ReplyBuffer;
 
 /// Prepares HSET, and writes the reply.
-pub fn hset<'a>(
-    held: &mut IndexedStore,
-    args: &Words<'a>,
-    reply: &mut ReplyBuffer,
-) -> Change<'a>
+pub fn hset<'a>(held: &mut IndexedStore, args: &Words<'a>, reply: &mut ReplyBuffer) -> Change<'a>
     requires number { held.old.next < last_number }
     requires some { 3 ≤ length args.now }
     requires words { AreWords args.now }
@@ -86,11 +82,7 @@ fn copy_with(
 }
 
 /// Prepares HSETNX, which is HSET where the field is not there, and writes the reply.
-pub fn hsetnx<'a>(
-    held: &mut IndexedStore,
-    args: &Words<'a>,
-    reply: &mut ReplyBuffer,
-) -> Change<'a>
+pub fn hsetnx<'a>(held: &mut IndexedStore, args: &Words<'a>, reply: &mut ReplyBuffer) -> Change<'a>
     requires number { held.old.next < last_number }
     requires three { length args.now ≡ 3 }
     requires words { AreWords args.now }
