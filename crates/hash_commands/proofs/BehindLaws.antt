@@ -1,5 +1,5 @@
 -- What waits behind a read, waits.
-use Rattle.std.specs.Prelude.{◌≡◌, ◌≤◌, ◌+◌, ℕ, List, Some}
+use Rattle.std.specs.Prelude.{◌≡◌, ℕ, List, Some}
 use Rattle.std.proofs.Common.{◌∙◌, ap, arith, subst}
 use Rattle.ft_base.specs.Hash.{Hash}
 use Rattle.ft_base.specs.declared.doc.Doc.{Doc}

@@ -19,7 +19,7 @@ use Rattle.ft_base.specs.declared.doc.Doc.{Doc}
 use Rattle.ft_base.specs.declared.reply.Reply.{Reply}
 use Rattle.ft_base.specs.declared.reply.Reply.TheVariants.{Fault, Line}
 use Rattle.ft_machine.specs.Reads.{hash_in}
-use Rattle.ft_machine.specs.Machine.{Outcome, State, answered, hash_of}
+use Rattle.ft_machine.specs.Machine.{State, answered, hash_of}
 use Rattle.ft_machine.specs.Definitions.{all_tried}
 use Rattle.indexed_store.specs.Writing.{written}
 use Rattle.ft_machine.specs.PlainCommands.{plain}

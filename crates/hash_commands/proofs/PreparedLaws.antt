@@ -1,6 +1,6 @@
 -- Commands that are prepared, and those for which memory was wanting.
-use Rattle.std.proofs.Common.{◌≡◌, ◌≢◌, ◌-◌, Bor, ℕ, List, [], length, drop, refl, sym, ap, ◌∙◌, subst, inl, inr}
-use Rattle.std.specs.Prelude.{◌⊎◌, ◌+ℤ◌, ℤ, pos, codes, Bool, true, false, Option, Some, None, is_some, IsTrue}
+use Rattle.std.proofs.Common.{◌≡◌, ◌-◌, Bor, ℕ, List, length, drop, refl, sym, ap, ◌∙◌, subst, inl, inr}
+use Rattle.std.specs.Prelude.{◌+ℤ◌, ℤ, pos, codes, Bool, true, false, Option, Some, is_some}
 use Rattle.std.specs.Fmt.{signed_decimal}
 use Rattle.std.specs.Str.{bytes_eq}
 use Rattle.std.proofs.lemmas.Slice.Eq.{bytes_eq-Decides}
@@ -10,24 +10,24 @@ use Rattle.ft_base.specs.Hash.{Hash, get_field, set_field}
 use Rattle.ft_base.specs.Memory.{out_of_memory}
 use Rattle.ft_base.specs.Number.{int_of, is_i64}
 use Rattle.ft_base.specs.Reply.{spelling}
-use Rattle.ft_base.specs.Space.{doc_of, erase}
+use Rattle.ft_base.specs.Space.{doc_of}
 use Rattle.ft_base.specs.declared.doc.Doc.{Doc}
 use Rattle.ft_base.specs.declared.reply.Reply.{Reply}
 use Rattle.ft_base.specs.declared.reply.Reply.TheVariants.{Line, Number}
 use Rattle.ft_machine.specs.Arguments.{first, second, third}
 use Rattle.ft_machine.specs.Definitions.{all_tried}
-use Rattle.ft_machine.specs.Machine.{Outcome, State, answered, hash_of}
+use Rattle.ft_machine.specs.Machine.{Outcome, State, hash_of}
 use Rattle.ft_machine.specs.Reads.{hash_in}
 use Rattle.ft_machine.specs.Step.{Does, MayWant, given, outcomes}
-use Rattle.ft_machine.specs.Writes.{fields_gone, hdel, hincrby, hset, hset_unless, number_in, put, set_pairs, without_fields}
+use Rattle.ft_machine.specs.Writes.{fields_gone, hdel, hincrby, hset_unless, number_in, put, set_pairs, without_fields}
 use Rattle.ft_machine.proofs.Stepping.{gives, wants, widened}
 use Rattle.indexed_store.specs.Changing.{IsOther, changed}
 use Rattle.indexed_store.specs.Holding.{Holding, state_at}
 use Rattle.indexed_store.specs.Preparing.{IsPrepared, OnlyReads, Prepares, Stays, WaitsFor}
 use Rattle.indexed_store.proofs.PreparingLaws.{prepares-read}
-use Rattle.hash_commands.proofs.BehindLaws.{reads-nothing}
+use Rattle.hash_commands.proofs.BehindLaws.{reads-nothing, stays-behind, waits-behind}
 use Rattle.hash_commands.proofs.PlainLaws.{moved, renamed, same-words, stays-plain}
-use Rattle.indexed_store.specs.Writing.{Waits, written}
+use Rattle.indexed_store.specs.Writing.{written}
 use Rattle.indexed_store.specs.declared.change.Change.{Change}
 use Rattle.indexed_store.specs.declared.change.Change.TheVariants.{Nothing, Move, Write}
 
@@ -118,7 +118,7 @@ hdel-prepares args old new said key fields change gone k f made count prepared s
     lost word words = length (hash_in (doc_of old.space word)) - length (without_fields (hash_in (doc_of old.space word)) words)
 
 -- HINCRBY whose sum has 64 bits
-pub hincrby-gives : (args : List (List ℕ)) (number : ℕ) (state : State) (key field : List ℕ) (old by sum : ℤ) → key ≡ first args → field ≡ second args → number_in (get_field (hash_of state (first args)) (second args)) ≡ Some old
+hincrby-gives : (args : List (List ℕ)) (number : ℕ) (state : State) (key field : List ℕ) (old by sum : ℤ) → key ≡ first args → field ≡ second args → number_in (get_field (hash_of state (first args)) (second args)) ≡ Some old
     → int_of (third args) ≡ Some by → is_i64 (old +ℤ by) ≡ true → sum ≡ old +ℤ by
     → given (Plain Hincrby args) number state (record { reply = Number sum; after = put key (set_field (hash_of state key) field (signed_decimal sum)) number state })
 hincrby-gives args number state key field old by sum k f is more fits same =
@@ -131,6 +131,16 @@ hincrby-gives args number state key field old by sum k f is more fits same =
   where
     summed : hincrby (Some old) (Some by) args number state ≡ record { reply = Number (old +ℤ by); after = put (first args) (set_field (hash_of state (first args)) (second args) (signed_decimal (old +ℤ by))) number state }
     summed = rw fits refl
+
+-- HINCRBY whose sum has 64 bits, behind a read
+pub hincrby-prepares : (args : List (List ℕ)) (old mid new : Holding) (said key field : List ℕ) (first_value by sum : ℤ) (token : ℕ) → key ≡ first args → field ≡ second args
+    → number_in (get_field (hash_in (doc_of old.space (first args))) (second args)) ≡ Some first_value → int_of (third args) ≡ Some by → (is_i64 (first_value +ℤ by) ≡ true) × (sum ≡ first_value +ℤ by)
+    → OnlyReads old mid → WaitsFor key (set_field (hash_in (doc_of mid.space key)) field (signed_decimal sum)) token mid new → Stays mid new → said ≡ spelling (Number sum)
+    → Prepares (Plain Hincrby args) old new said (Write token)
+hincrby-prepares args old mid new said key field first_value by sum token k f is more total reads waits stays told =
+    prepares-write (Plain Hincrby args) old new said key (set_field (hash_in (doc_of old.space key)) field (signed_decimal sum)) token (Number sum)
+    (λ latest. hincrby-gives args old.next (state_at latest old) key field first_value by sum k f is more total.0 total.1)
+    (waits-behind key (λ (docs : List Doc). set_field (hash_in (doc_of docs key)) field (signed_decimal sum)) token old mid new reads waits) (stays-behind old mid new reads stays) told
 
 -- a hash that waits is under another key than this one
 pub is-other : (waits : Option Doc) (doc : Doc) (from : List ℕ) → waits ≡ Some doc → bytes_eq from doc.key ≡ false → IsOther from waits

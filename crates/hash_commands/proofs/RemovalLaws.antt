@@ -1,31 +1,12 @@
 -- What DEL and FLUSHALL give.
-use Rattle.std.proofs.Common.{◌≡◌, ◌≢◌, ◌<◌, ◌≤◌, ◌+◌, ℕ, suc, Bool, true, false, List, [], ◌∷◌, ◌++◌, length, take, map, Option, Some, None, refl, sym, ap, ◌∙◌, subst, inl, inr, arith}
-use Rattle.std.specs.Prelude.{◌||◌, ◌&&◌, ◌-◌, ◌==◌, filter, not, pos, slice_index_or, codes, drop, ◌⊎◌}
-use Rattle.std.specs.List.{AllByRecursion, IsDistinct, dedup, dedup_from, list_any}
-use Rattle.std.specs.List.Retain.{DiffersFromLast, IsFiltered}
-use Rattle.std.specs.List.Sorted.{IsPermutation, IsSorted, IsStrictlyIncreasing}
-use Rattle.std.specs.Ordering.{eq_by_cmp, nat_cmp}
-use Rattle.std.specs.Map.{keys_of}
-use Rattle.std.specs.Option.{option_map}
-use Rattle.std.specs.Str.{bytes_eq}
-use Rattle.std.proofs.Math.Dec.{eqb}
-use Rattle.std.proofs.lemmas.Bool.{cases_Bool}
-use Rattle.std.proofs.lemmas.Bool.Decides.{eqb_tells}
-use Rattle.std.proofs.lemmas.Cmp.{eq_by_cmp_equiv, nat_cmp_total}
-use Rattle.std.proofs.lemmas.List.{append-nil, length-append, length-map, take_more}
-use Rattle.std.proofs.lemmas.List.Filters.{dedup_is, length-filter_both}
-use Rattle.std.proofs.lemmas.List.Sorted.{list_any-IsPermutation}
-use Rattle.std.proofs.lemmas.Map.Keys.{IsDistinct-from_sorted, IsDistinct-head, IsDistinct-tail, IsStrictlyIncreasing-dedup, sorted_from_strictly_increasing}
-use Rattle.std.proofs.lemmas.Map.Made.{IsDistinct-keys_filter, length-from_keys}
-use Rattle.std.proofs.lemmas.Slice.Eq.{bytes_eq-Decides}
+use Rattle.std.proofs.Common.{◌≡◌, ◌≢◌, ◌<◌, ◌+◌, ℕ, List, [], length, refl, sym, ap, ◌∙◌, subst, arith}
+use Rattle.std.specs.Prelude.{◌-◌, pos, codes, drop, ◌⊎◌}
 use Rattle.cmd_parse.specs.Read.{Plain}
 use Rattle.cmd_parse.specs.declared.command.Verb.TheVariants.{Del, Flushall}
 use Rattle.ft_base.specs.Reply.{spelling}
-use Rattle.ft_base.specs.Space.{doc_of, erase}
 use Rattle.ft_base.specs.declared.doc.Doc.{Doc}
 use Rattle.ft_base.specs.declared.reply.Reply.TheVariants.{Line, Number}
 use Rattle.ft_machine.specs.Definitions.{Defined}
-use Rattle.indexed_store.specs.Counting.{before, ids_of}
 use Rattle.ft_machine.specs.Machine.{State}
 use Rattle.ft_machine.specs.Step.{Does}
 use Rattle.ft_machine.specs.Removing.{without_keys}
@@ -45,16 +26,12 @@ deleted-nothing keys number count state written docs same none whole said =
     (said ∙ ap (λ (n : ℕ). spelling (Number (pos n))) nothing) (ap (λ (docs : List Doc). record { space = docs; definitions = state.definitions; latest = state.latest }) (sym left))
 
 -- DEL of keys that have some
-pub deleted-some : (keys : List (List ℕ)) (number count : ℕ) (state : State) (written : List ℕ) (docs : List Doc) → state.space ≡ docs
+deleted-some : (keys : List (List ℕ)) (number count : ℕ) (state : State) (written : List ℕ) (docs : List Doc) → state.space ≡ docs
     → count + length (without_keys docs keys) ≡ length docs → written ≡ spelling (Number (pos count)) → Does (Plain Del keys) number state written (record state { space = without_keys state.space keys })
 deleted-some keys number count state written docs same counted said =
     let many : count ≡ length state.space - length (without_keys state.space keys) = omega (arith, counted, ap (λ (docs : List Doc). length (without_keys docs keys)) same, ap (λ (docs : List Doc). length docs) same) in
     gives (Plain Del keys) number state (del keys state) written (record state { space = without_keys state.space keys }) refl
     (said ∙ ap (λ (n : ℕ). spelling (Number (pos n))) many) refl
-
--- a list that is empty, as a test says
-pub emptied : {X : Type 0} (xs : List X) (said : Bool) → said ≡ (length xs == 0) → said ≡ true → length xs ≡ 0
-emptied xs said is so = elim (eqb_tells (length xs) 0) [ inl same ↦ same.1 | inr apart ↦ cc (sym so ∙ (is ∙ apart.0)) ]
 
 -- FLUSHALL of nothing
 pub flushed-nothing : (args : List (List ℕ)) (number : ℕ) (state : State) (written : List ℕ) → state.space ≡ [] → state.definitions ≡ [] → written ≡ spelling (Line (codes "OK")) → Does (Plain Flushall args) number state written state
@@ -63,7 +40,7 @@ flushed-nothing args number state written none nothing said =
     said (ap (λ (docs : List Doc). record { space = docs; definitions = state.definitions; latest = state.latest }) none ∙ ap (λ (defs : List Defined). record { space = []; definitions = defs; latest = state.latest }) nothing)
 
 -- FLUSHALL
-pub flushed : (args : List (List ℕ)) (number : ℕ) (state : State) (written : List ℕ) → written ≡ spelling (Line (codes "OK")) → Does (Plain Flushall args) number state written (record state { space = []; definitions = [] })
+flushed : (args : List (List ℕ)) (number : ℕ) (state : State) (written : List ℕ) → written ≡ spelling (Line (codes "OK")) → Does (Plain Flushall args) number state written (record state { space = []; definitions = [] })
 flushed args number state written said =
     let after : State = record state { space = []; definitions = [] } in
     gives (Plain Flushall args) number state (record { reply = Line (codes "OK"); after = after }) written after refl said refl

@@ -1,19 +1,13 @@
-use Rattle.std.specs.Fmt.{signed_decimal}
-use Rattle.std.proofs.Common.{◌∙◌, List, ap, of_z, sym, to_z, w64}
+use Rattle.std.proofs.Common.{◌∙◌, ap, of_z, sym, to_z, w64}
 use Rattle.cmd_parse.specs.Read.{Plain}
 use Rattle.cmd_parse.specs.declared.command.Verb.TheVariants.{Hincrby}
-use Rattle.ft_base.specs.Hash.{set_field}
 use Rattle.ft_base.specs.Number.{int_of}
-use Rattle.ft_base.specs.Space.{doc_of}
-use Rattle.ft_base.specs.declared.doc.Doc.{Doc}
-use Rattle.ft_base.specs.declared.reply.Reply.TheVariants.{Number}
 use Rattle.ft_machine.specs.Arguments.{first, second}
-use Rattle.ft_machine.specs.Reads.{hash_in}
 use Rattle.indexed_store.specs.Holding.{state_at}
 use Rattle.indexed_store.proofs.PreparingLaws.{prepares-read}
-use Rattle.hash_commands.proofs.BehindLaws.{stays-behind, waits-behind}
+use Rattle.hash_commands.proofs.BehindLaws.{stays-behind}
 use Rattle.hash_commands.proofs.PlainLaws.{increment-fits, not-number, overflows, same-field, sum-is, too-wide, value-fits}
-use Rattle.hash_commands.proofs.PreparedLaws.{hincrby-gives, prepares-wanting, prepares-write}
+use Rattle.hash_commands.proofs.PreparedLaws.{hincrby-prepares, prepares-wanting}
 use Rattle.hash_commands.proofs.incrementing.hincrby.Goals as goal
 
 pub returns-in_default-number_of-clause-prepares : goal.returns-in_default-number_of-clause-prepares
@@ -36,12 +30,8 @@ returns-in-Ok-clause-prepares c =
     let value = sym (same-field c.args.held.now.space c.word-key.result.now (first c.args.args.now) c.word-field.result.now (second c.args.args.now) c.word-key.ensures c.word-field.ensures) ∙ (sym c.number_of.ensures.number ∙ c.in-Some-number_of.is) in
     let increment = sym (ap int_of c.word.ensures) ∙ (sym c.read_int.ensures.exact ∙ c.in-Some.is) in
     let sum = sum-is c.in-Some-number_of.old c.in-Some.by c.in-Some-checked_add.sum (value-fits _ c.in-Some-number_of.old value) (increment-fits _ c.in-Some.by increment) c.in-Some-checked_add.ensures.0 c.in-Some-checked_add.ensures.1 in
-    prepares-write (Plain Hincrby c.args.args.now) c.args.held.now c.set_number.new.held _ c.word-key.result.now _ c.in-Ok.put (Number (to_z w64 (of_z w64 c.in-Some-checked_add.sum)))
-    (λ latest. hincrby-gives c.args.args.now c.args.held.now.next (state_at latest c.args.held.now) c.word-key.result.now c.word-field.result.now c.in-Some-number_of.old c.in-Some.by (to_z w64 (of_z w64 c.in-Some-checked_add.sum))
-    c.word-key.ensures c.word-field.ensures value increment sum.0 sum.1)
-    (waits-behind c.word-key.result.now (λ (docs : List Doc). set_field (hash_in (doc_of docs c.word-key.result.now)) c.word-field.result.now (signed_decimal (to_z w64 (of_z w64 c.in-Some-checked_add.sum))))
-    c.in-Ok.put c.args.held.now c.number_of.new.self c.set_number.new.held c.number_of.ensures.stays c.in-Ok.ensures.waits)
-    (stays-behind c.args.held.now c.number_of.new.self c.set_number.new.held c.number_of.ensures.stays c.set_number.ensures.stays) c.set_signed.ensures.bytes
+    hincrby-prepares c.args.args.now c.args.held.now c.number_of.new.self c.set_number.new.held _ c.word-key.result.now c.word-field.result.now c.in-Some-number_of.old c.in-Some.by (to_z w64 (of_z w64 c.in-Some-checked_add.sum)) c.in-Ok.put
+    c.word-key.ensures c.word-field.ensures value increment sum c.number_of.ensures.stays c.in-Ok.ensures.waits c.set_number.ensures.stays c.set_signed.ensures.bytes
 
 pub returns-in-Err-clause-prepares : goal.returns-in-Err-clause-prepares
 returns-in-Err-clause-prepares c =

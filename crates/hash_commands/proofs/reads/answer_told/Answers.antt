@@ -1,5 +1,5 @@
 use Rattle.std.specs.Prelude.{codes}
-use Rattle.std.proofs.Common.{◌≢◌, ◌∙◌, [], ap, arith, length, refl, sym}
+use Rattle.std.proofs.Common.{◌≢◌, ◌∙◌, [], arith, length, refl, sym}
 use Rattle.cmd_parse.specs.declared.command.Verb.TheVariants.{Ping, Echo, Select, Quit}
 use Rattle.ft_base.specs.declared.reply.Reply.TheVariants.{Line}
 use Rattle.ft_base.proofs.SpellingLaws.{spelling-Line}

@@ -1,4 +1,3 @@
-use Rattle.std.specs.Prelude.{drop, map}
 use Rattle.std.proofs.Common.{◌∙◌, ap, refl, List, ℕ}
 use Rattle.cmd_parse.specs.declared.command.Verb.TheVariants.{Hget, Hmget, Hgetall, Hkeys, Hvals}
 use Rattle.ft_base.specs.Hash.{get_field}

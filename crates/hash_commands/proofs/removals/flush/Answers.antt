@@ -1,4 +1,4 @@
-use Rattle.std.proofs.Common.{◌∙◌, [], ap, arith, refl, rules}
+use Rattle.std.proofs.Common.{[], ap, arith, refl, rules}
 use Rattle.std.proofs.lemmas.List.{nil_from_length}
 use Rattle.cmd_parse.specs.Read.{Plain}
 use Rattle.cmd_parse.specs.declared.command.Verb.TheVariants.{Flushall}

@@ -1,5 +1,4 @@
 use Rattle.std.specs.Prelude.{pos}
-use Rattle.std.proofs.Common.{List, ℕ}
 use Rattle.cmd_parse.specs.Read.{Plain}
 use Rattle.cmd_parse.specs.declared.command.Verb.TheVariants.{Hset}
 use Rattle.ft_base.specs.declared.reply.Reply.TheVariants.{Number}
