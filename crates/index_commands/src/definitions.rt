@@ -1,5 +1,5 @@
 //! FT.CREATE, FT.ALTER and FT.DROPINDEX.
-ghost use Rattle.std.specs.Prelude.{◌<◌, ◌≤◌, length};
+ghost use Rattle.std.specs.Prelude.{◌≡◌, ◌<◌, ◌≤◌, length};
 ghost use Rattle.cmd_parse.specs.Lawful.{LawfulNumber};
 ghost use Rattle.cmd_parse.specs.Read.{AlterIndex, CreateIndex, Plain};
 ghost use Rattle.cmd_parse.specs.declared.command.Verb.TheVariants.{DropIndex};
@@ -86,6 +86,8 @@ pub fn drop_named<'a>(
 ) -> Change<'a>
     requires words { LawfulNumber DropIndex (length args.now) }
     ensures prepares { Prepares (Plain DropIndex args.now) held.old held.new reply.new.bytes result }
+    // What is held is only looked at.
+    ensures same { held.new ≡ held.old }
     ensures room { reply.old.room ≤ reply.new.room }
 {
     let name = args.word(0);
