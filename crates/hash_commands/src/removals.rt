@@ -1,5 +1,5 @@
 //! DEL and FLUSHALL: removals of documents, prepared without memory but where DEL has very many keys.
-ghost use Rattle.std.specs.Prelude.{◌≤◌};
+ghost use Rattle.std.specs.Prelude.{◌≡◌, ◌≤◌};
 ghost use Rattle.cmd_parse.specs.Read.{Plain};
 ghost use Rattle.cmd_parse.specs.declared.command.Verb.TheVariants.{Del, Flushall};
 ghost use Rattle.indexed_store.specs.Preparing.{Prepares};
@@ -11,6 +11,7 @@ use reply_buffer::ReplyBuffer;
 /// Prepares FLUSHALL, and writes the reply.
 pub fn flush<'a>(held: &mut IndexedStore, args: &Words<'a>, reply: &mut ReplyBuffer) -> Change<'a>
     ensures prepares { Prepares (Plain Flushall args.now) held.old held.new reply.new.bytes result }
+    ensures same { held.new ≡ held.old }
     ensures room { reply.old.room ≤ reply.new.room }
 {
     reply.set_short(b"+OK\r\n");
@@ -23,6 +24,7 @@ pub fn flush<'a>(held: &mut IndexedStore, args: &Words<'a>, reply: &mut ReplyBuf
 /// Prepares DEL, and writes the reply.
 pub fn del<'a>(held: &mut IndexedStore, args: &Words<'a>, reply: &mut ReplyBuffer) -> Change<'a>
     ensures prepares { Prepares (Plain Del args.now) held.old held.new reply.new.bytes result }
+    ensures same { held.new ≡ held.old }
     ensures room { reply.old.room ≤ reply.new.room }
 {
     let Ok(count) = held.count_found(args) else {
