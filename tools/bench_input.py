@@ -35,6 +35,8 @@ SHOP_QUERIES = {
     "frequent": "every",
     "and": "every word5",
     "or": "word5|word6",
+    "all": "*",
+    "not": "-only77",
     "prefix": "only77*",
     "tag": "@c:{color3}",
     "range": "@p:[100 1000]",

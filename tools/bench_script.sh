@@ -34,6 +34,8 @@ shop-rare 25000 50000 100000: the same, then 200 searches of a word of one docum
 shop-frequent 25000 50000 100000: the same with a word of all
 shop-and 25000 50000 100000: a word of all and a word of six in 1,000
 shop-or 25000 50000 100000: one of two words, each of six in 1,000
+shop-all 25000 50000 100000: all documents
+shop-not 25000 50000 100000: all but one
 shop-prefix 25000 50000 100000: words that begin alike, each of one document, one document in 100
 shop-tag 25000 50000 100000: a tag of one document in 20
 shop-range 25000 50000 100000: numbers of 9 documents in 1,000
