@@ -1,7 +1,7 @@
 -- What a command asks, in the order of refusals: an unknown name, a command that is not built, a wrong number of words,
 -- a form that is not built, and the first fault of the words from the left. An index that is created has a serial, which
 -- is not among the words.
-use Rattle.std.specs.Prelude.{◌≡◌, ℕ, ℤ, pos, suc, List, [], ◌∷◌, length, Bool, Option, Some, None, Result, Ok, Err, codes, drop, is_none, ◌&&◌, ◌||◌, ◌==◌, ◌%◌, nat_le, slice_index_or, false, IsTrue, if◌then◌else◌}
+use Rattle.std.specs.Prelude.{ℕ, ℤ, pos, suc, List, [], ◌∷◌, length, Bool, Option, Some, None, Result, Ok, Err, codes, drop, is_none, ◌&&◌, ◌||◌, ◌==◌, ◌%◌, nat_le, slice_index_or, false, if◌then◌else◌}
 use Rattle.std.specs.Ordering.{int_eq}
 use Rattle.ft_base.specs.Names.{is_name}
 use Rattle.ft_base.specs.Number.{int_of}
@@ -15,11 +15,8 @@ use Rattle.cmd_parse.specs.Search.{Searching, has_params, is_no_content, params_
 use Rattle.cmd_parse.specs.declared.command.Verb.{Verb}
 use Rattle.cmd_parse.specs.declared.command.Verb.TheVariants.{Select, Hincrby, Flushall, DropIndex}
 use Rattle.cmd_parse.specs.declared.command.CmdFault.{CmdFault}
-use Rattle.cmd_parse.specs.declared.command.CmdFault.TheVariants.{Unknown, Arity, Syntax, NotInteger, BadDb, NotBuilt, Schema, NoMemory}
-use Rattle.cmd_parse.specs.declared.command.Command.{Command}
-use Rattle.cmd_parse.specs.declared.command.Command.TheVariants as command
+use Rattle.cmd_parse.specs.declared.command.CmdFault.TheVariants.{Unknown, Arity, Syntax, NotInteger, BadDb, NotBuilt, Schema}
 use Rattle.cmd_parse.specs.declared.table.Form.{Form}
-use Rattle.cmd_parse.specs.declared.search.SearchSpec.{SearchSpec}
 use Rattle.cmd_parse.specs.declared.table.Form.TheVariants.{Between, AtLeast, InPairs, Create, Alter, Unbuilt}
 use Rattle.cmd_parse.specs.declared.table.Form.TheVariants as form
 
@@ -108,25 +105,3 @@ copies_words _ args = false
 abbrev pub takes_memory : List (List ℕ) → Bool
 takes_memory [] = false
 takes_memory (name ∷ args) = copies_words (form_of name) args
-
--- what the code's search is among these
-abbrev pub search_of : SearchSpec → Searching
-search_of spec = record { index = spec.index.now; query = spec.query.now; no_content = spec.no_content; params = spec.params }
-
--- what the code's command is among these
-abbrev pub command_of : Command → Asked
-command_of (command.Plain verb args) = Plain verb args
-command_of (command.Create index) = CreateIndex index
-command_of (command.Alter index fields) = AlterIndex index.now fields
-command_of (command.Search spec) = Search (search_of spec)
-
--- A command or a fault is what the words ask. Memory is wanting where they are read with it alone.
-abbrev pub IsReading : ℕ → List (List ℕ) → Result Command CmdFault → Type 0
-IsReading serial words (Ok command) = read serial words ≡ Ok (command_of command)
-IsReading serial words (Err NoMemory) = IsTrue (takes_memory words)
-IsReading serial words (Err fault) = read serial words ≡ Err fault
-
--- what a reader without memory answers, as what is asked
-abbrev pub asked_of : Result Command CmdFault → Result Asked CmdFault
-asked_of (Ok command) = Ok (command_of command)
-asked_of (Err fault) = Err fault

@@ -4,7 +4,8 @@ ghost use Rattle.std.specs.Prelude.{◌≡◌, ◌≢◌, ◌<◌, ◌≤◌, �
 ghost use Rattle.cmd_parse.specs.Asking.{AreWords, IsAsked};
 ghost use Rattle.cmd_parse.specs.Commands.{form_of};
 ghost use Rattle.cmd_parse.specs.Lawful.{HasSerial, IsLawful, IsLawfulForm, LawfulNumber};
-ghost use Rattle.cmd_parse.specs.Read.{IsReading, altered, asked_of, command_of, created, first_fault, is_flush_word, plain, search, select_fault};
+ghost use Rattle.cmd_parse.specs.Read.{altered, created, first_fault, is_flush_word, plain, search, select_fault};
+ghost use Rattle.cmd_parse.specs.Reading.{IsReading, asked_of, command_of};
 ghost use Rattle.cmd_parse.specs.Search.{has_params};
 ghost use Rattle.cmd_parse.specs.declared.command.CmdFault.TheVariants.{NoMemory};
 ghost use Rattle.ft_base.specs.Number.{int_of};

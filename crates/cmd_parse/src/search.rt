@@ -1,6 +1,7 @@
 //! What FT.SEARCH asks: an index, a query, and how its answer is shown.
 ghost use Rattle.std.specs.Prelude.{◌≡◌, ◌≢◌, ◌<◌, ◌≤◌, ◌+◌, ◌%◌, [], length, drop, Err, Ok, IfOk, IfSome, IsTrue, MatchResult};
-ghost use Rattle.cmd_parse.specs.Read.{Search, search, search_of};
+ghost use Rattle.cmd_parse.specs.Read.{Search, search};
+ghost use Rattle.cmd_parse.specs.Reading.{search_of};
 ghost use Rattle.cmd_parse.specs.Search.{counts_pairs, first_repeat, gives_params, has_params, is_no_content, params_at, params_behind, params_of, unless_repeated};
 ghost use Rattle.cmd_parse.specs.declared.command.CmdFault.TheVariants as faults;
 ghost use Rattle.ft_base.specs.Number.{int_of};

@@ -1,4 +1,5 @@
 pub mod Causes
 pub mod Moments
 pub mod Pieces
+pub mod Scripts
 pub mod Tape

@@ -1,7 +1,8 @@
 //! A clock whose moments a test chooses.
 ghost use Rattle.std.specs.Prelude.{◌≡◌, ◌<◌, [], ◌∷◌, List, ℕ, length};
 ghost use Rattle.fs_ports.specs.Causes.{up};
-ghost use Rattle.fs_ports.specs.Moments.{Gives, Script, moment_at, moments_given};
+ghost use Rattle.fs_ports.specs.Moments.{Gives};
+ghost use Rattle.fs_ports.specs.Scripts.{Script, moment_at, moments_given};
 
 use crate::clock::Clock;
 use ft_base::ListOf;
@@ -16,7 +17,6 @@ pub struct ScriptedClock {
 
 impl Model for ScriptedClock {
     ghost use Rattle.std.specs.Prelude.{◌<◌, length};
-    ghost use Rattle.fs_ports.specs.Moments.{Script};
 
     ghost Value = { Script };
 

@@ -11,6 +11,7 @@ mod bytes;
 mod definition;
 mod doc;
 mod hash_rec;
+mod hash_reply;
 mod limits;
 mod list_of;
 mod names;
@@ -18,6 +19,7 @@ mod number;
 mod query;
 mod reply;
 mod row;
+mod separators;
 mod steps;
 mod weight;
 mod words;
@@ -32,6 +34,8 @@ pub use definition::{Field, FieldKind, IndexDef, StopWords};
 pub use doc::Doc;
 /// The fields of a hash and their values, in order of first setting.
 pub use hash_rec::HashRec;
+/// The fields of a hash and their values in turn.
+pub use hash_reply::in_turn;
 /// The limits of a command on the wire.
 pub use limits::{MAX_COMMAND_BYTES, MAX_WORD_BYTES, MAX_WORDS};
 /// A list that a syntax tree or a reply may hold of its own type.
@@ -46,6 +50,8 @@ pub use query::{Fields, Param, Query, TagPart};
 pub use reply::{Reply, put_reply};
 /// Rows of an aggregate, and their values.
 pub use row::{Cell, Row, Value, copy_values};
+/// Which bytes part words.
+pub use separators::is_separator;
 /// A count of steps that only contracts see.
 pub use steps::Steps;
 /// Want of memory, the one answer that nothing else in a contract explains.

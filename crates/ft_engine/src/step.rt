@@ -1,7 +1,7 @@
 //! What a command asks is prepared: the reply is written, and what it needs is made ready.
 ghost use Rattle.std.specs.Prelude.{◌<◌, ◌≤◌};
 ghost use Rattle.cmd_parse.specs.Asking.{IsAsked};
-ghost use Rattle.cmd_parse.specs.Read.{command_of};
+ghost use Rattle.cmd_parse.specs.Reading.{command_of};
 ghost use Rattle.ft_engine.specs.Quiet.{IsQuiet};
 ghost use Rattle.ft_machine.specs.Step.{last_number};
 ghost use Rattle.index_commands.specs.Exactness.{ReadsFew, TellsExactly};

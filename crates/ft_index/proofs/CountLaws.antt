@@ -7,7 +7,7 @@ use Rattle.std.specs.List.{count_by, filter, list_any, sum_by}
 use Rattle.std.specs.Prelude.{slice_get}
 use Rattle.std.specs.Set.{distinct_count, unique_keys}
 use Rattle.std.specs.Str.{bytes_eq}
-use Rattle.tag_index.specs.Tags.{FieldTags, entries_in_fields, tags_of}
+use Rattle.term_dict.specs.Tags.{FieldTags, entries_in_fields, tags_of}
 use Rattle.term_dict.specs.Terms.{Lists, entries_in_all, entries_of}
 use Rattle.ft_index.specs.Tagging.{AreApart}
 use Rattle.ft_index.proofs.AliveLaws.{same-yes}

@@ -12,7 +12,7 @@ use Rattle.inverted_list.specs.declared.marker.Marker.{Marker}
 use Rattle.inverted_list.specs.declared.marker.Markers.{Markers}
 use Rattle.numeric_ranges.specs.Ranges.{IsAbove, Rows}
 use Rattle.posting_block.specs.declared.hits.TextHit.{TextHit}
-use Rattle.tag_index.specs.Tags.{FieldTags, entries_in}
+use Rattle.term_dict.specs.Tags.{FieldTags, entries_in}
 use Rattle.term_dict.specs.Terms.{Lists, entries_of}
 use Rattle.ft_index.specs.Adding.{IsSeen, IsUnseen, RangesHaveAll, TagsHave, WordsHave}
 use Rattle.ft_index.specs.Has.{Has}

@@ -23,7 +23,7 @@ use Rattle.numeric_ranges.specs.Values.{Entries}
 use Rattle.numeric_ranges.proofs.ValueLaws.{le_from_not_lt}
 use Rattle.posting_block.specs.declared.hits.NumHit.{NumHit}
 use Rattle.posting_block.specs.declared.hits.TextHit.{TextHit}
-use Rattle.tag_index.specs.Tags.{FieldTags, entries_in, entries_in_fields, tags_of}
+use Rattle.term_dict.specs.Tags.{FieldTags, entries_in, entries_in_fields, tags_of}
 use Rattle.term_dict.specs.Terms.{Lists, entries_in_all, entries_of}
 use Rattle.token_text.specs.declared.token.Token.{Token}
 use Rattle.ft_index.specs.Adding.{RangesHaveAll, TagsHave, WordsHave}

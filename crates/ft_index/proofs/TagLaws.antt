@@ -14,8 +14,8 @@ use Rattle.ft_base.specs.declared.doc.Doc.{Doc}
 use Rattle.inverted_list.specs.Listing.{last_id}
 use Rattle.inverted_list.specs.declared.marker.Markers.{Markers}
 use Rattle.posting_block.specs.declared.hits.TagHit.{TagHit}
-use Rattle.tag_index.specs.Tags.{FieldTags, SetsTag, entries_in, list_in}
-use Rattle.tag_index.specs.Tags as index
+use Rattle.term_dict.specs.Tags.{FieldTags, SetsTag, entries_in, list_in}
+use Rattle.term_dict.specs.Tags as index
 use Rattle.term_dict.specs.Terms.{Lists, entries_of, list_of}
 use Rattle.ft_index.specs.Adding.{IsSeen, IsUnseen, TagsHave, tag_entry}
 use Rattle.ft_index.specs.Entries.{has_tag, searched_tags, tag_entries}

@@ -5,7 +5,7 @@ use Rattle.ft_base.specs.declared.doc.Doc.{Doc}
 use Rattle.numeric_ranges.specs.Ranges.{Rows}
 use Rattle.posting_block.specs.declared.hits.TagHit.{TagHit}
 use Rattle.posting_block.specs.declared.hits.TextHit.{TextHit}
-use Rattle.tag_index.specs.Tags.{FieldTags, entries_in}
+use Rattle.term_dict.specs.Tags.{FieldTags, entries_in}
 use Rattle.term_dict.specs.Terms.{Lists, entries_of}
 use Rattle.ft_index.specs.Entries.{tag_entries, word_entries}
 use Rattle.ft_index.specs.Has.{NumbersHave, alive}

@@ -4,7 +4,7 @@ use Rattle.ft_base.specs.declared.definition.IndexDef.{IndexDef}
 use Rattle.ft_base.specs.declared.doc.Doc.{Doc}
 use Rattle.numeric_ranges.specs.Ranges.{AreParted, IsPartition, Rows}
 use Rattle.numeric_ranges.specs.Values.{Entries}
-use Rattle.tag_index.specs.Tags.{entries_in}
+use Rattle.term_dict.specs.Tags.{entries_in}
 use Rattle.term_dict.specs.Terms.{entries_of}
 use Rattle.ft_index.specs.Entries.{is_ranged, number_entries, tag_entries, word_entries}
 use Rattle.ft_index.specs.Lists.{AllLists, has_id, rows_of}

@@ -6,7 +6,7 @@ use Rattle.inverted_list.specs.Listing.{Listing}
 use Rattle.numeric_ranges.specs.Ranges.{Rows, list_at}
 use Rattle.posting_block.specs.declared.hits.NumHit.{NumHit}
 use Rattle.posting_block.specs.declared.hits.TextHit.{TextHit}
-use Rattle.tag_index.specs.Tags.{FieldTags, list_in}
+use Rattle.term_dict.specs.Tags.{FieldTags, list_in}
 use Rattle.term_dict.specs.Terms.{Lists, list_of}
 
 pub record AllLists : Type 0 where

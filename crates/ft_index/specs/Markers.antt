@@ -7,7 +7,7 @@ use Rattle.inverted_list.specs.declared.marker.Marker.{Marker}
 use Rattle.inverted_list.specs.declared.marker.Markers.{Markers}
 use Rattle.numeric_ranges.specs.Ranges.{Rows}
 use Rattle.posting_block.specs.declared.hits.TextHit.{TextHit}
-use Rattle.tag_index.specs.Tags.{FieldTags, list_in}
+use Rattle.term_dict.specs.Tags.{FieldTags, list_in}
 use Rattle.term_dict.specs.Terms.{Lists, list_of}
 use Rattle.ft_index.specs.Lists.{AllLists, list_from, rows_of}
 

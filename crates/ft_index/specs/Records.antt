@@ -1,7 +1,7 @@
 -- How many records an index has: the entries of all its lists.
 use Rattle.std.specs.Prelude.{ℕ, ◌+◌, List, Option, Some, None, sum_by}
 use Rattle.numeric_ranges.specs.Ranges.{Rows, entries_in_rows}
-use Rattle.tag_index.specs.Tags.{entries_in_fields}
+use Rattle.term_dict.specs.Tags.{entries_in_fields}
 use Rattle.term_dict.specs.Terms.{entries_in_all}
 use Rattle.ft_index.specs.Lists.{AllLists}
 

@@ -4,7 +4,7 @@ use Rattle.std.specs.List.{AllByRecursion}
 use Rattle.inverted_list.specs.Listing.{RisesAbove, last_id}
 use Rattle.numeric_ranges.specs.Ranges.{Rows}
 use Rattle.posting_block.specs.declared.hits.TextHit.{TextHit}
-use Rattle.tag_index.specs.Tags.{FieldTags, entries_in}
+use Rattle.term_dict.specs.Tags.{FieldTags, entries_in}
 use Rattle.term_dict.specs.Terms.{Lists, entries_of}
 use Rattle.ft_index.specs.Lists.{AllLists, rows_of}
 

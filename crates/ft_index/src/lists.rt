@@ -20,8 +20,7 @@ use inverted_list::Markers;
 use numeric_ranges::Ranges;
 use std::alloc::Global;
 use std::marker::Model;
-use tag_index::TagLists;
-use term_dict::Terms;
+use term_dict::{TagLists, Terms};
 
 /// Above every integer of the wire.
 const WIRE_END: u64 = 1 << 63;

@@ -4,7 +4,7 @@ ghost use Rattle.std.specs.List.{list_any};
 ghost use Rattle.std.specs.Str.{bytes_eq};
 ghost use Rattle.ft_base.specs.declared.definition.IndexDef.{IndexDef};
 ghost use Rattle.inverted_list.specs.Listing.{last_id};
-ghost use Rattle.tag_index.specs.Tags.{entries_in};
+ghost use Rattle.term_dict.specs.Tags.{entries_in};
 ghost use Rattle.ft_index.specs.Adding.{IsSeen, IsUnseen, TagsHave, tag_entry};
 ghost use Rattle.ft_index.specs.Entries.{has_tag, searched_tags};
 ghost use Rattle.ft_index.specs.Markers.{tag_marker};
@@ -17,7 +17,7 @@ use ft_base::{Bytes, Doc, Field, FieldKind, IndexDef, ListOf, NoMemory};
 use inverted_list::Markers;
 use posting_block::TagHit;
 use std::alloc::Global;
-use tag_index::TagLists;
+use term_dict::TagLists;
 
 /// Puts an entry for the document into the list of each of its tags. Where memory is wanting some have
 /// theirs.

@@ -28,11 +28,11 @@ use Rattle.query_grammar.specs.declared.fault.QueryFault.{QueryFault}
 use Rattle.query_grammar.specs.declared.fault.QueryFault.TheVariants.{Syntax, UnknownField, WrongKind, NoParam, TooDeep, OutOfScope, NoMemory}
 use Rattle.ft_schema.specs.Schema.{extended}
 use Rattle.ft_schema.specs.declared.fault.SchemaFault.{SchemaFault}
-use Rattle.ft_machine.specs.Arguments.{first, second, third}
+use Rattle.ft_base.specs.Words.{first, second, third}
 use Rattle.ft_machine.specs.Definitions.{Defined, index_of}
 use Rattle.ft_machine.specs.Determined.{DifferInRecords}
 use Rattle.ft_machine.specs.Indexes.{altered, altered_to, defines, dropped, index_over, most_indexes, unknown_index}
-use Rattle.ft_machine.specs.Informing.{informed}
+use Rattle.ft_machine.specs.Info.{informed}
 use Rattle.ft_machine.specs.Machine.{Outcome, State, answered, at_moment, hash_of, just, wanting}
 use Rattle.ft_machine.specs.PlainCommands.{plain}
 use Rattle.ft_machine.specs.Searching.{IsAnswered, answer_reply, searched}

@@ -7,7 +7,8 @@ use Rattle.std.proofs.lemmas.List.{length-map}
 use Rattle.std.proofs.lemmas.Slice.Eq.{bytes_eq-Decides}
 use Rattle.cmd_parse.specs.Commands.{commands, form_of, form_in}
 use Rattle.ft_base.specs.Names.{is_name}
-use Rattle.cmd_parse.specs.Read.{IsReading, read, read_as}
+use Rattle.cmd_parse.specs.Read.{read, read_as}
+use Rattle.cmd_parse.specs.Reading.{IsReading}
 use Rattle.cmd_parse.specs.declared.command.CmdFault.{CmdFault}
 use Rattle.cmd_parse.specs.declared.command.CmdFault.TheVariants.{Arity}
 use Rattle.cmd_parse.specs.declared.table.Form.{Form}

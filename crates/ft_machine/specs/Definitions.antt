@@ -1,9 +1,11 @@
--- The definitions of indexes, in order of creation, and how often a document failed to be in them.
+-- The definitions of indexes, in order of creation, how often a document failed to be in them, and the documents without
+-- the members of one.
 use Rattle.std.specs.Prelude.{ℕ, List, [], ◌∷◌, map, fold, Option, Some, None, if◌then◌else◌}
 use Rattle.std.specs.Str.{bytes_eq}
+use Rattle.ft_base.specs.Space.{erase}
 use Rattle.ft_base.specs.declared.definition.IndexDef.{IndexDef}
 use Rattle.ft_base.specs.declared.doc.Doc.{Doc}
-use Rattle.ft_meaning.specs.Member.{failures_with}
+use Rattle.ft_meaning.specs.Member.{failures_with, members}
 
 pub record Defined : Type 0 where
   pub def : IndexDef
@@ -37,3 +39,17 @@ without_index (index ∷ indexes) name = if bytes_eq name index.def.name then in
 abbrev pub with_index : List Defined → Defined → List Defined
 with_index [] new = []
 with_index (index ∷ indexes) new = if bytes_eq new.def.name index.def.name then new ∷ indexes else index ∷ with_index indexes new
+
+-- the documents but those of the keys
+abbrev pub without_keys : List Doc → List (List ℕ) → List Doc
+without_keys docs [] = docs
+without_keys docs (key ∷ keys) = without_keys (erase docs key) keys
+
+-- the keys of an index's members
+abbrev pub member_keys : IndexDef → List Doc → List (List ℕ)
+member_keys def docs = map (λ (doc : Doc). doc.key) (members def docs)
+
+-- the documents but the members of an index, where there is the index
+abbrev pub without_members : Option Defined → List Doc → List Doc
+without_members None docs = docs
+without_members (Some index) docs = without_keys docs (member_keys index.def docs)

@@ -5,7 +5,7 @@ use Rattle.cmd_parse.specs.declared.command.Verb.TheVariants.{Info}
 use Rattle.ft_base.specs.Memory.{out_of_memory}
 use Rattle.ft_base.specs.Reply.{spelling}
 use Rattle.ft_base.specs.declared.definition.IndexDef.{IndexDef}
-use Rattle.ft_machine.specs.Arguments.{first}
+use Rattle.ft_base.specs.Words.{first}
 use Rattle.ft_machine.specs.Definitions.{Defined, index_of}
 use Rattle.ft_machine.specs.Info.{info_reply}
 use Rattle.ft_machine.specs.Machine.{State}

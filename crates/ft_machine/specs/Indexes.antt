@@ -10,8 +10,7 @@ use Rattle.ft_base.specs.declared.reply.Reply.{Reply}
 use Rattle.ft_base.specs.declared.reply.Reply.TheVariants.{Line, Fault, Bulk, Array}
 use Rattle.ft_schema.specs.Schema.{extended}
 use Rattle.ft_schema.specs.declared.fault.SchemaFault.{SchemaFault}
-use Rattle.ft_machine.specs.Definitions.{Defined, failures_over, index_of, with_index, without_index}
-use Rattle.ft_machine.specs.Removing.{without_members}
+use Rattle.ft_machine.specs.Definitions.{Defined, failures_over, index_of, with_index, without_index, without_members}
 use Rattle.ft_machine.specs.TagValues.{tag_values}
 use Rattle.ft_machine.specs.Machine.{Outcome, State, answered}
 use Rattle.ft_schema.specs.Refusals.{schema_refusal}

@@ -1,11 +1,17 @@
 -- What is told of an index (RediSearch, FT.INFO, of which it has seven fields).
-use Rattle.std.specs.Prelude.{ℕ, pos, List, [], ◌∷◌, ◌++◌, map, Bool, codes, if◌then◌else◌}
+use Rattle.std.specs.Prelude.{◌≡◌, ◌≤◌, ℕ, pos, List, [], ◌∷◌, ◌++◌, length, map, Bool, Option, Some, None, codes, if◌then◌else◌}
 use Rattle.ft_base.specs.declared.definition.Field.{Field}
 use Rattle.ft_base.specs.declared.definition.FieldKind.{FieldKind}
 use Rattle.ft_base.specs.declared.definition.FieldKind.TheVariants.{Text, Tag, Numeric}
 use Rattle.ft_base.specs.declared.definition.IndexDef.{IndexDef}
+use Rattle.ft_base.specs.declared.doc.Doc.{Doc}
 use Rattle.ft_base.specs.declared.reply.Reply.{Reply}
-use Rattle.ft_base.specs.declared.reply.Reply.TheVariants.{Array, Bulk, Number}
+use Rattle.ft_base.specs.declared.reply.Reply.TheVariants.{Array, Bulk, Fault, Number}
+use Rattle.ft_meaning.specs.Member.{members}
+use Rattle.ft_meaning.specs.Records.{live_records}
+use Rattle.ft_machine.specs.Definitions.{Defined}
+use Rattle.ft_machine.specs.Indexes.{unknown_index}
+use Rattle.ft_machine.specs.Machine.{Outcome, State, answered, just}
 use Rattle.ft_machine.specs.declared.counts.Counts.{Counts}
 
 -- a word where something is declared
@@ -52,3 +58,15 @@ info_reply def counts = Array (
     ∷ Bulk (codes "cursors") ∷ Number (pos counts.cursors)
     ∷ []
     )
+
+-- A reply tells of an index its definition, how many members it has, and how often a document failed to be one. It tells a
+-- number of records that is at least that of the live ones, and no cursor.
+pub record Tells (index : Defined) (docs : List Doc) (reply : Reply) : Type 0 where
+  pub records : ℕ
+  pub least : live_records index.def (members index.def docs) ≤ records
+  pub same : reply ≡ info_reply index.def (record { docs = length (members index.def docs); records = records; failures = index.failures; cursors = 0 })
+
+-- what may be told of an index, where there is the index
+abbrev pub informed : Option Defined → State → Outcome → Type 0
+informed None state outcome = just (answered (Fault unknown_index) state) outcome
+informed (Some index) state outcome = Tells index state.space outcome.reply × (outcome.after ≡ state)

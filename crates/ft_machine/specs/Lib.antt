@@ -1,15 +1,11 @@
-pub mod Arguments
 pub mod Definitions
 pub mod Determined
 pub mod History
 pub mod Indexes
 pub mod Info
-pub mod Informing
 pub mod Machine
 pub mod PlainCommands
 pub mod Reads
-pub mod Removing
-pub mod Replies
 pub mod Searching
 pub mod Step
 pub mod TagValues

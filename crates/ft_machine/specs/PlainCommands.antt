@@ -2,15 +2,15 @@
 use Rattle.std.specs.Prelude.{◌<◌, ℕ, pos, List, [], ◌∷◌, length, drop, map, is_some, codes}
 use Rattle.cmd_parse.specs.declared.command.Verb.{Verb}
 use Rattle.cmd_parse.specs.declared.command.Verb.TheVariants.{Ping, Echo, Select, Quit, Hset, Hsetnx, Hget, Hmget, Hgetall, Hdel, Hlen, Hexists, Hincrby, Hkeys, Hvals, Del, Exists, TypeOf, Dbsize, Rename, Flushall, DropIndex, ListIndexes, Info, TagVals}
-use Rattle.ft_base.specs.Hash.{get_field}
+use Rattle.ft_base.specs.Hash.{get_field, in_turn}
 use Rattle.ft_base.specs.Number.{int_of}
 use Rattle.ft_base.specs.Space.{doc_of}
 use Rattle.ft_base.specs.declared.reply.Reply.TheVariants.{Line, Number, Bulk, Array}
-use Rattle.ft_machine.specs.Arguments.{first, second, third}
-use Rattle.ft_machine.specs.Reads.{in_turn, kind_of, names, one_if, present, value_reply, values}
+use Rattle.ft_base.specs.Words.{first, second, third}
+use Rattle.ft_machine.specs.Reads.{kind_of, names, one_if, present, value_reply, values}
 use Rattle.ft_machine.specs.Definitions.{index_of}
 use Rattle.ft_machine.specs.Indexes.{dropped, listed, tag_vals}
-use Rattle.ft_machine.specs.Informing.{informed}
+use Rattle.ft_machine.specs.Info.{informed}
 use Rattle.ft_machine.specs.Machine.{Outcome, State, answered, hash_of, just}
 use Rattle.ft_machine.specs.Writes.{del, hdel, hincrby, hset, hset_unless, number_in, rename}
 

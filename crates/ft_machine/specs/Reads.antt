@@ -1,5 +1,5 @@
 -- What the commands that read hashes and keys are answered.
-use Rattle.std.specs.Prelude.{ℕ, pos, List, [], ◌∷◌, length, map, filter, Option, Some, None, is_some, Bool, codes, if◌then◌else◌}
+use Rattle.std.specs.Prelude.{ℕ, pos, List, [], length, map, filter, Option, Some, None, is_some, Bool, codes, if◌then◌else◌}
 use Rattle.ft_base.specs.Hash.{Hash}
 use Rattle.ft_base.specs.Space.{doc_of}
 use Rattle.ft_base.specs.declared.doc.Doc.{Doc}
@@ -19,11 +19,6 @@ value_reply (Some value) = Bulk value
 -- 1 where something is so, else 0
 abbrev pub one_if : Bool → Reply
 one_if so = Number (if so then pos 1 else pos 0)
-
--- the fields of a hash and their values in turn
-abbrev pub in_turn : Hash → List Reply
-in_turn [] = []
-in_turn (field ∷ fields) = Bulk field.0 ∷ Bulk field.1 ∷ in_turn fields
 
 -- the fields alone, and the values alone
 abbrev pub names : Hash → List Reply

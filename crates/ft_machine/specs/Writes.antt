@@ -8,9 +8,8 @@ use Rattle.ft_base.specs.Number.{int_of, is_i64}
 use Rattle.ft_base.specs.Space.{erase, write}
 use Rattle.ft_base.specs.declared.doc.Doc.{Doc}
 use Rattle.ft_base.specs.declared.reply.Reply.TheVariants.{Line, Fault, Number}
-use Rattle.ft_machine.specs.Definitions.{tried}
-use Rattle.ft_machine.specs.Removing.{without_keys}
-use Rattle.ft_machine.specs.Arguments.{first, second}
+use Rattle.ft_machine.specs.Definitions.{tried, without_keys}
+use Rattle.ft_base.specs.Words.{first, second}
 use Rattle.ft_machine.specs.Machine.{Outcome, State, answered, hash_of}
 
 -- a hash with pairs of fields and values set from the left

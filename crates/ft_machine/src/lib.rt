@@ -1,7 +1,7 @@
 //! What each command does, over the plain hashes: the machine that the server's replies are proved against.
 //!
 //! It is defined in `specs/`, over plain lists: what it holds (`Machine.antt`), one step (`Step.antt`, with
-//! `PlainCommands.antt`, `Writes.antt`, `Indexes.antt`, `Searching.antt` and `Informing.antt`), and legal histories
+//! `PlainCommands.antt`, `Writes.antt`, `Indexes.antt`, `Searching.antt` and `Info.antt`), and legal histories
 //! (`History.antt`). The functions are laws of it.
 #![tactic(auto)]
 

@@ -12,9 +12,9 @@ use Rattle.fs_ports.specs.Moments.{Gives}
 use Rattle.ft_machine.specs.History.{Said, moments_of, replies_of, words_of}
 use Rattle.ft_machine.specs.Machine.{empty_state}
 use Rattle.ft_engine.specs.Stands.{Stands}
-use Rattle.resp_wire.specs.Decoding.{Decoding, fed, StopsAt, NextIsLong}
+use Rattle.resp_wire.specs.Decoding.{Decoding, fed, StopsAt}
+use Rattle.resp_wire.specs.Stream.{NextIsLong, Command, Stream, FaultAt, with_command, ended, stream_of, fault_from, fault_of, until_quit, due}
 use Rattle.resp_wire.specs.declared.fault.Stop.TheVariants.{More}
-use Rattle.resp_wire.specs.Stream.{Command, Stream, FaultAt, with_command, ended, stream_of, fault_from, fault_of, until_quit, due}
 use Rattle.ft_server.specs.Answer.{Answer}
 use Rattle.ft_server.specs.Ends.{IsAll, EndsWith, IsFaulty, Ends}
 use Rattle.ft_server.specs.FaultText.{fault_text}

@@ -4,8 +4,7 @@ use Rattle.std.specs.Prelude.{◌||◌}
 use Rattle.std.proofs.lemmas.Bool.{or_parts}
 use Rattle.std.proofs.lemmas.List.Folds.{list_any-append}
 use Rattle.ft_base.specs.Words.{is_quit}
-use Rattle.resp_wire.specs.Stream.{Command, until_quit}
-use Rattle.resp_wire.specs.Decoding.{NextIsLong}
+use Rattle.resp_wire.specs.Stream.{Command, until_quit, NextIsLong}
 use Rattle.ft_server.specs.Session.{quits}
 
 -- behind commands without QUIT, a QUIT is one of the others

@@ -2,8 +2,7 @@
 use Rattle.std.specs.Prelude.{◌≡◌, ◌⊎◌, ◌<◌, ◌≤◌, ◌^◌, ℕ, List, [], length, IfSome, true, false, Some}
 use Rattle.std.specs.declared.option.Option.{Option}
 use Rattle.fs_ports.specs.Causes.{Rose}
-use Rattle.resp_wire.specs.Decoding.{NextIsLong}
-use Rattle.resp_wire.specs.Stream.{Command, FaultAt, stream_of, fault_of}
+use Rattle.resp_wire.specs.Stream.{NextIsLong, Command, FaultAt, stream_of, fault_of}
 use Rattle.ft_server.specs.FaultText.{fault_text}
 use Rattle.ft_server.specs.Session.{Outside, IsOpen, WantsMore, IsCut, Served, ReplyCut, quits}
 use Rattle.ft_server.specs.declared.connection.End.{End}

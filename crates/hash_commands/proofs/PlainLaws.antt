@@ -10,7 +10,7 @@ use Rattle.ft_base.specs.Hash.{Hash, get_field}
 use Rattle.ft_base.specs.Number.{int_of, is_i64, is_spelling}
 use Rattle.ft_base.specs.Space.{doc_of, erase}
 use Rattle.ft_base.proofs.Ints.{fits_from_test, test_from_fits}
-use Rattle.ft_machine.specs.Arguments.{first, second, third}
+use Rattle.ft_base.specs.Words.{first, second, third}
 use Rattle.cmd_parse.specs.Read.{Plain}
 use Rattle.cmd_parse.specs.declared.command.Verb.{Verb}
 use Rattle.cmd_parse.specs.declared.command.Verb.TheVariants.{Hincrby, Rename}

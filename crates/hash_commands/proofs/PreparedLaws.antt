@@ -14,7 +14,7 @@ use Rattle.ft_base.specs.Space.{doc_of}
 use Rattle.ft_base.specs.declared.doc.Doc.{Doc}
 use Rattle.ft_base.specs.declared.reply.Reply.{Reply}
 use Rattle.ft_base.specs.declared.reply.Reply.TheVariants.{Line, Number}
-use Rattle.ft_machine.specs.Arguments.{first, second, third}
+use Rattle.ft_base.specs.Words.{first, second, third}
 use Rattle.ft_machine.specs.Definitions.{all_tried}
 use Rattle.ft_machine.specs.Machine.{Outcome, State, hash_of}
 use Rattle.ft_machine.specs.Reads.{hash_in}

@@ -8,7 +8,7 @@ use Rattle.ft_base.specs.Memory.{out_of_memory}
 use Rattle.ft_base.specs.Reply.{spelling}
 use Rattle.ft_base.specs.declared.reply.Reply.{Reply}
 use Rattle.ft_base.specs.declared.reply.Reply.TheVariants.{Bulk, Line}
-use Rattle.ft_machine.specs.Arguments.{first}
+use Rattle.ft_base.specs.Words.{first}
 use Rattle.ft_machine.specs.Machine.{State, answered}
 use Rattle.ft_machine.specs.PlainCommands.{PlainMayWant, plain}
 use Rattle.ft_machine.specs.Step.{Does, Told}

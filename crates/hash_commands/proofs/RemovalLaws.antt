@@ -6,10 +6,9 @@ use Rattle.cmd_parse.specs.declared.command.Verb.TheVariants.{Del, Flushall}
 use Rattle.ft_base.specs.Reply.{spelling}
 use Rattle.ft_base.specs.declared.doc.Doc.{Doc}
 use Rattle.ft_base.specs.declared.reply.Reply.TheVariants.{Line, Number}
-use Rattle.ft_machine.specs.Definitions.{Defined}
+use Rattle.ft_machine.specs.Definitions.{Defined, without_keys}
 use Rattle.ft_machine.specs.Machine.{State}
 use Rattle.ft_machine.specs.Step.{Does}
-use Rattle.ft_machine.specs.Removing.{without_keys}
 use Rattle.ft_machine.specs.Writes.{del}
 use Rattle.ft_machine.proofs.Stepping.{gives}
 use Rattle.indexed_store.specs.Holding.{Holding, state_at}

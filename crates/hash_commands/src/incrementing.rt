@@ -8,7 +8,7 @@ ghost use Rattle.ft_base.specs.Hash.{set_field};
 ghost use Rattle.ft_base.specs.Number.{int_of};
 ghost use Rattle.ft_base.specs.Space.{doc_of};
 ghost use Rattle.ft_base.specs.declared.limits.TheConstants.{MAX_WORD_BYTES};
-ghost use Rattle.ft_machine.specs.Arguments.{third};
+ghost use Rattle.ft_base.specs.Words.{third};
 ghost use Rattle.ft_machine.specs.Reads.{hash_in};
 ghost use Rattle.ft_machine.specs.Step.{last_number};
 ghost use Rattle.indexed_store.specs.Preparing.{Prepares, Stays, WaitsFor};

@@ -7,7 +7,8 @@ use Rattle.std.proofs.Math.Nat.{div-add-mod}
 use Rattle.std.proofs.lemmas.List.Folds.{list_any_at, list_any_none}
 use Rattle.std.proofs.lemmas.Grind.{get_or_default_zero}
 use lib.Dec.{ltb}
-use Rattle.phrase_match.specs.Phrase.{has, rises, AllRise, AreEqualOrApart, AllEqualOrApart}
+use Rattle.phrase_match.specs.Phrase.{has, rises}
+use Rattle.phrase_match.specs.Places.{AllRise, AreEqualOrApart, AllEqualOrApart}
 use Rattle.phrase_match.proofs.PlacesLaws.{has_cases, has_first, has_behind}
 use Rattle.id_iters.specs.Entries.{field_of, place_of, places_in}
 use Rattle.id_iters.proofs.LeastLaws.{and_first, and_second}

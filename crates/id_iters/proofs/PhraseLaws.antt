@@ -8,7 +8,8 @@ use Rattle.std.proofs.lemmas.Bool.{false≢true}
 use Rattle.std.proofs.lemmas.Bool.Decides.{eqb_tells}
 use Rattle.std.proofs.lemmas.Slice.Eq.{bytes_eq-Decides}
 use Rattle.ft_base.specs.declared.query.Fields.{Fields}
-use Rattle.phrase_match.specs.Phrase.{rises, some_choice, fits, within, AllRise, AllEqualOrApart, AreEqualOrApart}
+use Rattle.phrase_match.specs.Phrase.{rises, some_choice, fits, within}
+use Rattle.phrase_match.specs.Places.{AllRise, AllEqualOrApart, AreEqualOrApart}
 use Rattle.posting_block.specs.declared.hits.TextHit.{TextHit}
 use Rattle.id_iters.specs.Entries.{has_entry, hit_codes, codes_at, field_of, places_in, looks_in, phrase_has}
 use Rattle.id_iters.specs.Held.{Held, AreLists}

@@ -3,7 +3,7 @@ use Rattle.std.specs.Prelude.{◌≡◌, ◌≤◌, ℕ, List, length, Bool, Opt
 use Rattle.std.proofs.Common.{ap, ◌∙◌, inl, inr}
 use Rattle.cmd_parse.specs.Read.{Asked, Plain, Search}
 use Rattle.cmd_parse.specs.declared.command.Verb.TheVariants.{Info}
-use Rattle.ft_machine.specs.Arguments.{first}
+use Rattle.ft_base.specs.Words.{first}
 use Rattle.ft_base.specs.Reply.{spelling}
 use Rattle.ft_base.specs.declared.definition.IndexDef.{IndexDef}
 use Rattle.ft_base.specs.declared.doc.Doc.{Doc}
@@ -19,7 +19,7 @@ use Rattle.ft_index.specs.Records.{all_entries}
 use Rattle.indexed_store.specs.Named.{is_named}
 use Rattle.hash_store.specs.Store.{reads_after}
 use Rattle.search_exec.specs.Ids.{reads_for}
-use Rattle.ft_machine.specs.Replies.{found_reply}
+use Rattle.ft_machine.specs.Searching.{found_reply}
 
 -- what a query found was answered, or memory was wanting
 pub reads-found : {E : Type 0} (no_content : Bool) (docs : List Doc) (written : List ℕ) (made : Result Reply E) (old new : ℕ) → IfOk made (λ reply. reply ≡ found_reply no_content docs)

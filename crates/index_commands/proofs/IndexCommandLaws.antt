@@ -26,15 +26,14 @@ use Rattle.ft_schema.specs.declared.fault.SchemaFault.{SchemaFault}
 use Rattle.ft_schema.specs.declared.fault.SchemaFault.TheVariants as schema
 use Rattle.indexed_store.proofs.NamedLaws.{index_of-named}
 use Rattle.indexed_store.proofs.PreparingLaws.{prepares-nothing}
-use Rattle.ft_machine.specs.Definitions.{Defined, failures_over, index_of, with_index, without_index}
+use Rattle.ft_machine.specs.Definitions.{Defined, failures_over, index_of, with_index, without_index, without_members}
 use Rattle.indexed_store.specs.DefinitionsOf.{defined, definitions_of}
 use Rattle.indexed_store.specs.Named.{is_named}
-use Rattle.ft_machine.specs.Removing.{without_members}
 use Rattle.inverted_list.specs.Listing.{RisesAbove}
 use Rattle.ft_machine.specs.TagValues.{tag_values}
-use Rattle.hash_replies.proofs.ReadsLaws.{fits-Bulk, shown-fits}
+use Rattle.ft_base.proofs.RepliesLaws.{fits-Bulk, shown-fits}
 use Rattle.ft_machine.proofs.Stepping.{gives, told, wants}
-use Rattle.ft_machine.specs.Arguments.{first, second}
+use Rattle.ft_base.specs.Words.{first, second}
 use Rattle.ft_machine.specs.Indexes.{altered, altered_to, created, defines, dropped, index_over, listed, most_indexes, name_bulk, tag_field, tag_vals, tags_reply, unknown_index}
 use Rattle.ft_machine.specs.Machine.{State, answered}
 use Rattle.indexed_store.specs.Changing.{HasMore}

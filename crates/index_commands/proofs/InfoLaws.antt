@@ -12,18 +12,17 @@ use Rattle.ft_base.specs.declared.reply.Reply.{Reply}
 use Rattle.ft_base.specs.declared.reply.Reply.TheVariants.{Fault}
 use Rattle.ft_index.specs.Index.{Index, Indexes}
 use Rattle.ft_meaning.specs.Member.{members}
-use Rattle.ft_machine.specs.Info.{info_reply}
+use Rattle.ft_machine.specs.Info.{info_reply, Tells, informed}
 use Rattle.ft_index.specs.Has.{Has}
 use Rattle.ft_index.specs.Lists.{AllLists}
 use Rattle.ft_meaning.specs.Records.{live_records}
 use Rattle.ft_machine.proofs.Stepping.{gives, told}
-use Rattle.ft_machine.specs.Arguments.{first}
+use Rattle.ft_base.specs.Words.{first}
 use Rattle.ft_machine.specs.Definitions.{Defined}
 use Rattle.indexed_store.specs.DefinitionsOf.{defined, definitions_of}
 use Rattle.indexed_store.specs.Named.{is_named}
 use Rattle.inverted_list.specs.Listing.{RisesAbove, last_id}
 use Rattle.ft_machine.specs.Indexes.{unknown_index}
-use Rattle.ft_machine.specs.Informing.{Tells, informed}
 use Rattle.ft_machine.specs.Machine.{State, answered}
 use Rattle.ft_machine.specs.Step.{Does, Told}
 use Rattle.index_commands.proofs.SearchLaws.{named}

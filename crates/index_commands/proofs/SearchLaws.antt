@@ -25,12 +25,11 @@ use Rattle.query_grammar.specs.Answer.{IsAnswer}
 use Rattle.query_grammar.specs.declared.fault.QueryFault.{QueryFault}
 use Rattle.query_grammar.specs.declared.fault.QueryFault.TheVariants.{Syntax, UnknownField, WrongKind, NoParam, TooDeep, OutOfScope, NoMemory}
 use Rattle.query_plan.specs.Finds.{IsKept}
-use Rattle.ft_machine.specs.Replies.{found_reply}
+use Rattle.ft_machine.specs.Searching.{found_reply, IsAnswered, searched}
 use Rattle.ft_machine.specs.Indexes.{unknown_index}
 use Rattle.ft_machine.specs.Machine.{State, answered}
 use Rattle.ft_base.specs.Memory.{out_of_memory}
 use Rattle.query_grammar.specs.Refusals.{query_refusal}
-use Rattle.ft_machine.specs.Searching.{IsAnswered, searched}
 use Rattle.ft_machine.specs.Step.{Does, Told}
 
 -- a fault that is not want of memory

@@ -8,9 +8,9 @@ use Rattle.ft_base.specs.declared.doc.Doc.{Doc}
 use Rattle.ft_base.specs.declared.reply.Reply.{Reply}
 use Rattle.ft_base.specs.declared.reply.Reply.TheVariants.{Fault}
 use Rattle.ft_index.specs.Index.{Index}
-use Rattle.ft_machine.specs.Arguments.{first}
+use Rattle.ft_base.specs.Words.{first}
 use Rattle.ft_machine.specs.Info.{info_reply}
-use Rattle.ft_machine.specs.Replies.{found_reply}
+use Rattle.ft_machine.specs.Searching.{found_reply}
 use Rattle.ft_machine.specs.declared.counts.Counts.{Counts}
 use Rattle.hash_store.specs.Store.{reads_after}
 use Rattle.ft_index.specs.Records.{all_entries}

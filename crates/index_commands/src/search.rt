@@ -2,14 +2,15 @@
 //! read for the documents that are shown with their fields, and for no other.
 ghost use Rattle.std.specs.Prelude.{◌≡◌, ◌<◌, ◌≤◌, ◌^◌, ◌⊎◌, ℕ, length, IfOk, IsTrue, OnOk};
 ghost use Rattle.std.specs.List.{All};
-ghost use Rattle.cmd_parse.specs.Read.{Search, search_of};
+ghost use Rattle.cmd_parse.specs.Read.{Search};
+ghost use Rattle.cmd_parse.specs.Reading.{search_of};
 ghost use Rattle.ft_base.specs.Memory.{out_of_memory};
 ghost use Rattle.ft_base.specs.Reply.{fits_wire, spelling};
 ghost use Rattle.ft_base.specs.declared.doc.Doc.{Doc};
 ghost use Rattle.ft_base.specs.declared.limits.TheConstants.{MAX_WORD_BYTES};
 ghost use Rattle.ft_index.specs.Index.{Indexes, IsIndex};
 ghost use Rattle.ft_machine.specs.Machine.{State};
-ghost use Rattle.ft_machine.specs.Replies.{found_reply};
+ghost use Rattle.ft_machine.specs.Searching.{found_reply};
 ghost use Rattle.ft_machine.specs.Step.{Does, last_number};
 ghost use Rattle.ft_meaning.specs.Holds.{found_of};
 ghost use Rattle.ft_meaning.specs.Meaning.{ValuesFit};

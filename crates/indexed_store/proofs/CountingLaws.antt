@@ -21,7 +21,7 @@ use Rattle.std.proofs.lemmas.Slice.Eq.{bytes_eq-Decides}
 use Rattle.ft_base.specs.Space.{doc_of, erase}
 use Rattle.ft_base.specs.declared.doc.Doc.{Doc}
 use Rattle.indexed_store.specs.Counting.{before, ids_of}
-use Rattle.ft_machine.specs.Removing.{without_keys}
+use Rattle.ft_machine.specs.Definitions.{without_keys}
 use Rattle.indexed_store.proofs.StepLaws.{id_of}
 
 before-append : (doc : Option Doc) (front back : List ℕ) → before doc (front ++ back) ≡ before doc front ++ back

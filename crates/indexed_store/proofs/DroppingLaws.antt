@@ -11,10 +11,9 @@ use Rattle.ft_index.proofs.AliveLaws.{row_of, same-yes}
 use Rattle.ft_index.specs.Index.{Index}
 use Rattle.ft_meaning.specs.Member.{members}
 use Rattle.hash_store.specs.Store.{Store}
-use Rattle.ft_machine.specs.Definitions.{Defined, index_of}
+use Rattle.ft_machine.specs.Definitions.{Defined, index_of, without_keys, without_members}
 use Rattle.indexed_store.specs.DefinitionsOf.{defined, definitions_of}
 use Rattle.indexed_store.specs.Named.{is_named, without_named}
-use Rattle.ft_machine.specs.Removing.{without_keys, without_members}
 use Rattle.indexed_store.specs.Standing.{AreApart, IndexStands, InStep, markers_at}
 use Rattle.indexed_store.proofs.ApartLaws.{apart-others}
 use Rattle.indexed_store.proofs.NamedLaws.{index_of-named, named-has, others-have}

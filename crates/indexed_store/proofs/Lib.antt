@@ -7,6 +7,7 @@ pub mod HoldingLaws
 pub mod IndexingLaws
 pub mod NamedLaws
 pub mod PreparingLaws
+pub mod ReadsLaws
 pub mod StepLaws
 pub mod VersionsLaws
 pub mod WritesLaws

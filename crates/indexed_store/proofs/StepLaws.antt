@@ -25,10 +25,9 @@ use Rattle.ft_meaning.specs.Member.{numbers_read, one_more, takes_key}
 use Rattle.hash_store.specs.Store.{Store}
 use Rattle.inverted_list.specs.Listing.{RisesAbove, last_id}
 use Rattle.inverted_list.specs.declared.marker.Markers.{Markers}
-use Rattle.ft_machine.specs.Definitions.{Defined, all_tried, tried}
+use Rattle.ft_machine.specs.Definitions.{Defined, all_tried, tried, without_keys}
 use Rattle.indexed_store.specs.DefinitionsOf.{defined, definitions_of}
 use Rattle.indexed_store.specs.Indexing.{Awaits, killed, settled}
-use Rattle.ft_machine.specs.Removing.{without_keys}
 use Rattle.indexed_store.specs.Standing.{AreApart, AreWritten, IndexStands, InStep, markers_at}
 use Rattle.indexed_store.specs.Writing.{Waits}
 use Rattle.indexed_store.proofs.ApartLaws.{apart-mapped, apart-more}

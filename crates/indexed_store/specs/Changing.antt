@@ -4,9 +4,8 @@ use Rattle.std.specs.List.{All}
 use Rattle.ft_base.specs.Space.{doc_of, erase}
 use Rattle.ft_base.specs.declared.doc.Doc.{Doc}
 use Rattle.ft_index.specs.Index.{Index}
-use Rattle.ft_machine.specs.Definitions.{Defined, all_tried, index_of, with_index, without_index}
+use Rattle.ft_machine.specs.Definitions.{Defined, all_tried, index_of, with_index, without_index, without_keys, without_members}
 use Rattle.indexed_store.specs.DefinitionsOf.{defined, definitions_of}
-use Rattle.ft_machine.specs.Removing.{without_keys, without_members}
 use Rattle.indexed_store.specs.Standing.{AreApart, IndexStands, markers_at}
 use Rattle.indexed_store.specs.Writing.{Waits, written}
 use Rattle.ft_machine.specs.Indexes.{most_indexes}

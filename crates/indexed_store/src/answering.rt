@@ -1,17 +1,18 @@
 //! What the commands that read hashes are answered, of the documents that are held with their indexes. The store counts
 //! each document that is read.
 ghost use Rattle.std.specs.Prelude.{◌≡◌, ◌<◌, [], drop, length, map, slice_index_or, IfOk, IsTrue};
-ghost use Rattle.ft_base.specs.Hash.{get_field};
+ghost use Rattle.ft_base.specs.Hash.{get_field, in_turn};
 ghost use Rattle.ft_base.specs.Reply.{fits_wire};
 ghost use Rattle.ft_base.specs.Space.{doc_of};
 ghost use Rattle.ft_base.specs.declared.reply.Reply.TheVariants.{Array};
-ghost use Rattle.ft_machine.specs.Reads.{hash_in, in_turn, names, value_reply, values};
+ghost use Rattle.ft_machine.specs.Reads.{hash_in, names, value_reply, values};
 ghost use Rattle.hash_store.specs.Store.{read_count};
 ghost use Rattle.indexed_store.specs.Preparing.{OnlyReads};
 
 use crate::held::IndexedStore;
+use crate::listings::{hgetall, hkeys, hlen, hvals};
+use crate::values::{hget, hmget};
 use ft_base::{NoMemory, Reply, Words};
-use hash_replies::{hget, hgetall, hkeys, hlen, hmget, hvals};
 
 impl IndexedStore {
     /// The value of a key's field.

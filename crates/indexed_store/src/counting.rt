@@ -1,6 +1,6 @@
 //! How many documents some keys have, which takes no memory but for very many keys.
 ghost use Rattle.std.specs.Prelude.{◌≡◌, ◌<◌, ◌≤◌, ◌+◌, length, vec_capacity, IfOk, IsErr, OnErr, OnOk};
-ghost use Rattle.ft_machine.specs.Removing.{without_keys};
+ghost use Rattle.ft_machine.specs.Definitions.{without_keys};
 ghost use Rattle.indexed_store.specs.Counting.{ids_of};
 
 use ft_base::{NoMemory, Words};

@@ -1,9 +1,8 @@
 //! An index is dropped. It takes no memory.
 ghost use Rattle.std.specs.Prelude.{◌≡◌, ◌≤◌, ℕ, map, length, vec_capacity};
 ghost use Rattle.hash_store.specs.Store.{Store};
-ghost use Rattle.ft_machine.specs.Definitions.{index_of, without_index};
+ghost use Rattle.ft_machine.specs.Definitions.{index_of, without_index, without_keys, without_members};
 ghost use Rattle.indexed_store.specs.DefinitionsOf.{definitions_of};
-ghost use Rattle.ft_machine.specs.Removing.{without_keys, without_members};
 ghost use Rattle.indexed_store.specs.Standing.{InStep};
 
 use crate::index_list::take_index;

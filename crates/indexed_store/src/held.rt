@@ -4,7 +4,7 @@ ghost use Rattle.std.specs.List.{IsDistinct, find};
 ghost use Rattle.std.specs.Option.{option_copied};
 ghost use Rattle.std.specs.Str.{bytes_eq};
 ghost use Rattle.ft_base.specs.declared.doc.Doc.{Doc};
-ghost use Rattle.ft_machine.specs.Removing.{without_keys};
+ghost use Rattle.ft_machine.specs.Definitions.{without_keys};
 ghost use Rattle.ft_machine.specs.Step.{last_number};
 ghost use Rattle.ft_meaning.specs.Meaning.{ValuesFit};
 ghost use Rattle.ft_meaning.specs.Member.{most_failures};

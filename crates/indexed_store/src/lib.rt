@@ -17,9 +17,12 @@ mod filling;
 mod held;
 mod index_list;
 mod indexes;
+mod keys;
+mod listings;
 mod making;
 mod reading;
 mod removals;
+mod values;
 mod versions;
 mod writes;
 

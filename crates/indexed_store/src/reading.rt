@@ -9,9 +9,10 @@ ghost use Rattle.hash_store.specs.Store.{read_count};
 ghost use Rattle.indexed_store.specs.Preparing.{OnlyReads};
 
 use crate::held::IndexedStore;
+use crate::keys::{is_there, present};
+use crate::values::hexists;
 use crate::versions::{copy_of, left_of, number_of};
 use ft_base::{HashRec, NoMemory, Words};
-use hash_replies::{hexists, is_there, present};
 
 impl IndexedStore {
     /// How many documents there are.

@@ -2,7 +2,7 @@
 ghost use Rattle.std.specs.Prelude.{◌≡◌, ℕ};
 ghost use Rattle.ft_base.specs.Space.{erase};
 ghost use Rattle.indexed_store.specs.DefinitionsOf.{definitions_of};
-ghost use Rattle.ft_machine.specs.Removing.{without_keys};
+ghost use Rattle.ft_machine.specs.Definitions.{without_keys};
 ghost use Rattle.indexed_store.specs.Standing.{InStep};
 
 use crate::indexes::kill_all;

@@ -1,6 +1,6 @@
 //! What the words of a row stand for.
 ghost use Rattle.std.specs.Prelude.{◌↔◌, IsTrue};
-ghost use Rattle.ft_base.specs.Words.{LieIn};
+ghost use Rattle.ft_base.specs.Spans.{LieIn};
 
 use ft_base::{Bytes, Frame, ListOf, NoMemory, Span};
 use std::alloc::Global;

@@ -2,9 +2,9 @@
 use crate::answer::Answer;
 use crate::arguments::{count_of, list_of_words, rest, word};
 use field_text::{number, tags};
-use ft_base::{ListOf, MAX_WORD_BYTES, NoMemory, StopWords};
+use ft_base::{ListOf, MAX_WORD_BYTES, NoMemory, StopWords, is_separator};
 use std::alloc::Global;
-use token_text::{Token, is_separator, tokens};
+use token_text::{Token, tokens};
 
 /// Writes the answer of a call, and tells whether it is of this file.
 pub fn put(alloc: Global, call: &str, words: &[Vec<u8>], out: &mut Answer) -> bool {

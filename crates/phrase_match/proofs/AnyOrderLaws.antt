@@ -5,7 +5,8 @@ use Rattle.std.proofs.lemmas.Bool.{eqb-true, eq-eqb, false≢true, not-true, not
 use Rattle.std.proofs.lemmas.List.{get_or_append_left, get_or_at, take_more}
 use Rattle.std.proofs.lemmas.List.Elements.{recursion_from_All}
 use Rattle.std.proofs.lemmas.List.Sums.{sum_by-cons, sum_by-append}
-use Rattle.phrase_match.specs.Phrase.{has, rises, is_distinct, gaps, is_close, fits, within, AreEqualOrApart}
+use Rattle.phrase_match.specs.Phrase.{has, rises, is_distinct, gaps, is_close, fits, within}
+use Rattle.phrase_match.specs.Places.{AreEqualOrApart}
 use Rattle.phrase_match.specs.Look.{from, all_from, earliest, begins_with, twins}
 use Rattle.phrase_match.proofs.PlacesLaws.{has_cases, has_first, has_behind, has_none, has_neither, from_has, has_from, has_at, rises_at, rises_from}
 use Rattle.phrase_match.proofs.CountLaws.{AllIn, NumberFound, number_found}

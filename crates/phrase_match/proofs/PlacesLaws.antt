@@ -6,7 +6,8 @@ use Rattle.std.proofs.lemmas.List.{get_or_default, drop_more}
 use Rattle.std.proofs.lemmas.Option.{none-some, slice_get_within, get_or_from_slice_get, slice_get-get_or}
 use Rattle.std.proofs.lemmas.Bool.{ltb-true, leb-true, leb-false, le-leb, lt-leb, eqb-true, eqb-false, eq-eqb, ne_eqb, false≢true, and_parts, and_from, or_cases, or_left, or_right, or_from, or_parts, cases_lt}
 use lib.Dec.{ltb, leb}
-use Rattle.phrase_match.specs.Phrase.{has, rises, AllRise}
+use Rattle.phrase_match.specs.Phrase.{has, rises}
+use Rattle.phrase_match.specs.Places.{AllRise}
 use Rattle.phrase_match.specs.Look.{from}
 
 -- a place of a list is its first or one behind that

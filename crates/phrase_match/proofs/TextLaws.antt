@@ -5,7 +5,8 @@ use Rattle.std.proofs.lemmas.Bool.{eqb-true, eq-eqb, ne_eqb, false≢true, and_f
 use Rattle.std.proofs.lemmas.List.{get_or-map, length-map, map-id, append-nil}
 use Rattle.std.proofs.lemmas.List.FromFn.{filter_of_map_range_with_len_more}
 use lib.Dec.{ltb}
-use Rattle.phrase_match.specs.Phrase.{has, rises, AllRise, AreEqualOrApart, AllEqualOrApart}
+use Rattle.phrase_match.specs.Phrase.{has, rises}
+use Rattle.phrase_match.specs.Places.{AllRise, AreEqualOrApart, AllEqualOrApart}
 use Rattle.phrase_match.proofs.PlacesLaws.{has_cases, rises_filter}
 
 -- the places of a word in a text, numbered from 0

@@ -1,2 +1,3 @@
-pub mod Phrase
 pub mod Look
+pub mod Phrase
+pub mod Places

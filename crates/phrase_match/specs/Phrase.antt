@@ -1,7 +1,7 @@
 -- Whether the words of a phrase stand close enough together in a field (RediSearch: exact phrases, $slop, $inorder).
 -- Each word has the list of the places where it stands.
-use Rattle.std.specs.Prelude.{◌≡◌, ◌⊎◌, ℕ, ◌+◌, ◌-◌, min, max, nat_lt, nat_le, ◌==◌, Bool, true, false, not, ◌&&◌, ◌||◌, List, [], ◌∷◌, length, Option, Some, None}
-use Rattle.std.specs.List.{list_any, list_all, All, AllPairs}
+use Rattle.std.specs.Prelude.{ℕ, ◌+◌, ◌-◌, min, max, nat_lt, nat_le, ◌==◌, Bool, true, not, ◌&&◌, ◌||◌, List, [], ◌∷◌, length, Option, Some, None}
+use Rattle.std.specs.List.{list_any, list_all}
 
 -- whether a place is in a list
 abbrev pub has : List ℕ → ℕ → Bool
@@ -48,13 +48,3 @@ some_choice test (places ∷ lists) = list_any (λ place. some_choice (λ choice
 -- Whether some choice of one place from each word's list fits. Without a word there is one choice, and it fits.
 abbrev pub within : List (List ℕ) → Option ℕ → Bool → Bool
 within lists slop in_order = some_choice (fits slop in_order) lists
-
--- What is true of the places of words in one text: those of a word rise, and two words that share a place are one word.
-abbrev pub AllRise : List (List ℕ) → Type 0
-AllRise lists = All (λ (places : List ℕ). rises places ≡ true) lists
-
-abbrev pub AreEqualOrApart : List ℕ → List ℕ → Type 0
-AreEqualOrApart places others = (places ≡ others) ⊎ ((place : ℕ) → has places place ≡ true → has others place ≡ false)
-
-abbrev pub AllEqualOrApart : List (List ℕ) → Type 0
-AllEqualOrApart lists = AllPairs AreEqualOrApart lists

@@ -1,6 +1,6 @@
 //! A look for places in any order: of each word the first place that its equals before it leave over.
 ghost use Rattle.std.specs.Prelude.{false};
-ghost use Rattle.phrase_match.specs.Phrase.{AllRise, AllEqualOrApart};
+ghost use Rattle.phrase_match.specs.Places.{AllRise, AllEqualOrApart};
 ghost use Rattle.phrase_match.specs.Look.{Says};
 
 use crate::hints::Hints;

@@ -1,6 +1,6 @@
 //! A look for places that rise in the words' order: of each word the first place behind that of the word before.
 ghost use Rattle.std.specs.Prelude.{true};
-ghost use Rattle.phrase_match.specs.Phrase.{AllRise};
+ghost use Rattle.phrase_match.specs.Places.{AllRise};
 ghost use Rattle.phrase_match.specs.Look.{Says};
 
 use crate::hints::Hints;

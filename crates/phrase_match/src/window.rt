@@ -1,6 +1,7 @@
 //! The search for a window of places, from the first place on.
 ghost use Rattle.std.specs.Prelude.{◌≡◌};
-ghost use Rattle.phrase_match.specs.Phrase.{within, AllRise, AllEqualOrApart};
+ghost use Rattle.phrase_match.specs.Phrase.{within};
+ghost use Rattle.phrase_match.specs.Places.{AllRise, AllEqualOrApart};
 ghost use Rattle.phrase_match.specs.Look.{Says};
 
 use crate::any_order::look_in_any_order;

@@ -8,7 +8,7 @@ use Rattle.query_lex.specs.declared.lexeme.LexKind.{LexKind}
 use Rattle.query_lex.specs.declared.lexeme.LexKind.TheVariants.{Word, Foreign}
 use Rattle.query_lex.specs.declared.role.Role.TheVariants as role
 use Rattle.query_lex.specs.Bytes.{begins_word}
-use Rattle.token_text.specs.Tokens.{is_separator}
+use Rattle.ft_base.specs.Separators.{is_separator}
 use Rattle.query_lex.specs.Context.{context_behind}
 use Rattle.query_lex.specs.Escaping.{escaped_word, one_word}
 use Rattle.query_lex.specs.Lexemes.{lexeme_with, lexeme_at, at_place, lexed_in, lexed, placed, lexemes}

@@ -1,6 +1,6 @@
 -- Bytes of a query's text: which begin a word, and which may be of a parameter's name.
 use Rattle.std.specs.Prelude.{ℕ, List, [], ◌∷◌, Bool, false, ◌&&◌, ◌||◌, not, nat_le, ◌==◌}
-use Rattle.token_text.specs.Tokens.{is_separator}
+use Rattle.ft_base.specs.Separators.{is_separator}
 
 -- a byte of a word, or a backslash, which escapes one
 abbrev pub begins_word : ℕ → Bool

@@ -2,7 +2,7 @@
 use Rattle.std.specs.Prelude.{ℕ, List, [], ◌∷◌, if◌then◌else◌}
 use Rattle.query_lex.specs.declared.lexeme.LexKind.TheVariants.{Word}
 use Rattle.query_lex.specs.declared.lexeme.Lexeme.{Lexeme}
-use Rattle.token_text.specs.Tokens.{is_separator}
+use Rattle.ft_base.specs.Separators.{is_separator}
 
 -- a backslash before each byte that parts words
 abbrev pub escaped_word : List ℕ → List ℕ

@@ -6,7 +6,7 @@ use Rattle.query_lex.specs.declared.fault.Stop.{Stop}
 use Rattle.query_lex.specs.declared.lexeme.LexKind.{LexKind}
 use Rattle.query_lex.specs.declared.lexeme.LexKind.TheVariants.{Quote}
 use Rattle.query_lex.specs.declared.text_byte.TextByte.{TextByte}
-use Rattle.token_text.specs.Tokens.{is_separator}
+use Rattle.ft_base.specs.Separators.{is_separator}
 use Rattle.query_lex.specs.Reading.{Read, Next, stop_at, fault, run_at}
 
 abbrev pub plain : ℕ → TextByte

@@ -6,7 +6,7 @@ use Rattle.query_lex.specs.declared.fault.Cause.TheVariants.{LoneEscape}
 use Rattle.query_lex.specs.declared.lexeme.LexKind.{LexKind}
 use Rattle.query_lex.specs.declared.lexeme.LexKind.TheVariants as kinds
 use Rattle.query_lex.specs.Bytes.{comes}
-use Rattle.token_text.specs.Tokens.{is_separator}
+use Rattle.ft_base.specs.Separators.{is_separator}
 use Rattle.query_lex.specs.Roles.{is_raw}
 use Rattle.query_lex.specs.Reading.{Read, Next, fault, with_first, run_at}
 

@@ -7,7 +7,7 @@ use Rattle.query_lex.specs.declared.lexeme.LexKind.{LexKind}
 use Rattle.query_lex.specs.declared.lexeme.LexKind.TheVariants.{Word, Prefix, Param, ParamPrefix, Foreign, Sign}
 use Rattle.query_lex.specs.declared.lexeme.Sign.TheVariants as signs
 use Rattle.query_lex.specs.Bytes.{begins_word, is_of_name, comes, is_at}
-use Rattle.token_text.specs.Tokens.{is_separator}
+use Rattle.ft_base.specs.Separators.{is_separator}
 use Rattle.query_lex.specs.Reading.{Read, Next, fault, with_first, run_at}
 
 -- a lexeme, where the bytes before the others are one

@@ -10,9 +10,8 @@ use crate::fault::{Cause, Stop};
 use crate::lexeme::LexKind;
 use crate::separators::past;
 use crate::text_byte::{TextByte, escaped, plain};
-use ft_base::{Bytes, NoMemory};
+use ft_base::{Bytes, NoMemory, is_separator};
 use std::alloc::Global;
-use token_text::is_separator;
 
 /// The bytes of an open quote behind the next one and what it escapes; none where the quote or the
 /// text ends.

@@ -1,9 +1,9 @@
 //! Bytes of a query's text, and what comes next in it.
 ghost use Rattle.std.specs.Prelude.{◌≡◌, ◌≤◌, [], ◌∷◌, drop, length, IfSome, IfNone};
 ghost use Rattle.query_lex.specs.Bytes.{begins_word, is_of_name, comes, is_at};
-ghost use Rattle.token_text.specs.Tokens.{is_separator};
+ghost use Rattle.ft_base.specs.Separators.{is_separator};
 
-use token_text::is_separator;
+use ft_base::is_separator;
 
 /// Whether the byte is of a word, or a backslash.
 pub fn begins_word(byte: u8) -> bool

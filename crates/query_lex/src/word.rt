@@ -8,9 +8,8 @@ ghost use Rattle.query_lex.specs.Words.{ends_name, name_length, param_with, para
 use crate::fault::{Cause, Stop};
 use crate::lexeme::{LexKind, Sign};
 use crate::separators::{begins_word, is_at, is_of_name, past, word_comes};
-use ft_base::{Bytes, NoMemory};
+use ft_base::{Bytes, NoMemory, is_separator};
 use std::alloc::Global;
-use token_text::is_separator;
 
 /// The separator that a backslash before the bytes escapes.
 fn escaped(bytes: &[u8]) -> Result<(u8, &[u8]), Stop>

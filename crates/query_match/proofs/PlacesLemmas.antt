@@ -12,7 +12,8 @@ use Rattle.ft_base.specs.declared.definition.IndexDef.{IndexDef}
 use Rattle.ft_base.specs.declared.doc.Doc.{Doc}
 use Rattle.ft_meaning.specs.Holds.{places_of, has_phrase}
 use Rattle.ft_meaning.specs.Meaning.{has_words, value_tokens, field_tokens}
-use Rattle.phrase_match.specs.Phrase.{has, rises, AllRise, AreEqualOrApart, AllEqualOrApart, some_choice, fits}
+use Rattle.phrase_match.specs.Phrase.{has, rises, some_choice, fits}
+use Rattle.phrase_match.specs.Places.{AllRise, AreEqualOrApart, AllEqualOrApart}
 use Rattle.phrase_match.proofs.PlacesLaws.{has_cases, has_none, above_first}
 use Rattle.query_match.specs.Places.{PlacesRise}
 use Rattle.token_text.specs.Tokens.{is_stop, lowered, runs, numbered}

@@ -23,7 +23,7 @@ use Rattle.inverted_list.specs.Listing.{Listing, RisesAbove, last_id}
 use Rattle.numeric_ranges.specs.Ranges.{IsPartition, Rows, list_at, meets}
 use Rattle.phrase_match.specs.Phrase.{has, rises}
 use Rattle.posting_block.specs.declared.hits.NumHit.{NumHit}
-use Rattle.tag_index.specs.Tags.{tags_of}
+use Rattle.term_dict.specs.Tags.{tags_of}
 use Rattle.query_plan.specs.Finds.{AreOf, finds}
 use Rattle.query_plan.specs.Plans.{IsIn, Tells}
 use Rattle.query_plan.specs.Sought.{all_sought, rows_from, words_with}

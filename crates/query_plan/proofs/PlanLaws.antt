@@ -27,7 +27,7 @@ use Rattle.id_iters.specs.declared.phrase.PhraseIter.{PhraseIter}
 use Rattle.ft_index.specs.Lists.{AllLists, rows_of}
 use Rattle.numeric_ranges.specs.Ranges.{IsPartition, Rows, meets}
 use Rattle.phrase_match.specs.Phrase.{within}
-use Rattle.tag_index.specs.Tags.{tags_of}
+use Rattle.term_dict.specs.Tags.{tags_of}
 use Rattle.query_plan.specs.Plans.{AllReady, AllTell, Joins, Tells, ids_of, some_has}
 use Rattle.query_plan.specs.Sought.{all_sought, rows_from, words_with}
 use Rattle.query_plan.specs.declared.size.Planned.{Planned}

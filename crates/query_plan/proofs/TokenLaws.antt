@@ -9,7 +9,8 @@ use Rattle.ft_base.specs.declared.definition.IndexDef.{IndexDef}
 use Rattle.ft_base.specs.declared.doc.Doc.{Doc}
 use Rattle.ft_meaning.specs.Meaning.{ValuesFit, has_words, value_tokens, field_tokens}
 use Rattle.ft_meaning.proofs.MeaningLaws.{value-fits}
-use Rattle.token_text.specs.Tokens.{units, split, before, runs, lowered, is_stop, is_separator, numbered, tokens}
+use Rattle.token_text.specs.Tokens.{units, split, before, runs, lowered, is_stop, numbered, tokens}
+use Rattle.ft_base.specs.Separators.{is_separator}
 use Rattle.token_text.specs.declared.token.Token.{Token}
 
 abbrev pub place_in : Token → ℕ

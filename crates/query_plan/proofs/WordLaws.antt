@@ -16,7 +16,7 @@ use Rattle.inverted_list.specs.Listing.{Listing, RisesAbove}
 use Rattle.posting_block.specs.declared.hits.NumHit.{NumHit}
 use Rattle.posting_block.specs.declared.hits.TagHit.{TagHit}
 use Rattle.posting_block.specs.declared.hits.TextHit.{TextHit}
-use Rattle.tag_index.specs.Tags.{list_in}
+use Rattle.term_dict.specs.Tags.{list_in}
 use Rattle.term_dict.specs.Terms as terms
 use Rattle.query_plan.specs.Finds.{AreOf}
 use Rattle.query_plan.specs.Plans.{IsIn}

@@ -6,7 +6,7 @@ ghost use Rattle.id_iters.specs.Ready.{Ready};
 ghost use Rattle.query_plan.specs.Known.{KnownFit, place_of};
 ghost use Rattle.query_plan.specs.Plans.{AllKnown, AllOpen, Tells, ids_of};
 ghost use Rattle.query_plan.specs.Sought.{all_sought, sought_by, words_with};
-ghost use Rattle.tag_index.specs.Tags.{tags_of};
+ghost use Rattle.term_dict.specs.Tags.{tags_of};
 
 use crate::leaves::plan_lists;
 use crate::size::Planned;
@@ -15,7 +15,7 @@ use ft_base::{Bytes, Fields, ListOf, NoMemory, Steps, TagPart};
 use id_iters::{ListName, Lists};
 use std::alloc::Global;
 use std::sync::ledger::Ledger;
-use tag_index::TagLists;
+use term_dict::TagLists;
 
 /// The documents that have one of the tags in a field.
 pub fn plan_tags<T: Lists, L: Ledger>(

@@ -3,10 +3,11 @@
 //! it lies.
 ghost use Rattle.std.specs.Prelude.{◌≡◌, ◌≢◌, ℕ, ◌+◌, ◌-◌, ◌≤◌, ◌<◌, ◌^◌, ◌++◌, [], length, drop};
 ghost use Rattle.std.specs.Prelude.{vec_capacity, IfOk, OnOk, OnErr, IsOk, Err};
-ghost use Rattle.ft_base.specs.Words.{LieIn, KeepsLimits, words_of};
+ghost use Rattle.ft_base.specs.Words.{KeepsLimits};
+ghost use Rattle.ft_base.specs.Spans.{LieIn, words_of};
 ghost use Rattle.resp_wire.specs.Wire.{request_at};
-ghost use Rattle.resp_wire.specs.Stream.{FaultAt, ended, stream_of, with_command};
-ghost use Rattle.resp_wire.specs.Decoding.{fed, room, StopsAt, NextIsLong};
+ghost use Rattle.resp_wire.specs.Stream.{FaultAt, ended, stream_of, with_command, NextIsLong};
+ghost use Rattle.resp_wire.specs.Decoding.{fed, room, StopsAt};
 ghost use Rattle.resp_wire.specs.Reached.{IsBegun};
 ghost use Rattle.resp_wire.specs.Taking.{stop_answer, left_at, IsStop};
 
@@ -60,7 +61,6 @@ impl Model for Decoder {
 
     ghost Value = { Decoding };
 
-    ghost use Rattle.ft_base.specs.Words.{LieIn, words_of};
     ghost use Rattle.resp_wire.specs.Reached.{IsBegun};
 
     ghost view = { λ d. record {

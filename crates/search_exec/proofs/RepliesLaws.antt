@@ -8,8 +8,8 @@ use Rattle.ft_base.specs.Reply.{fits_wire}
 use Rattle.ft_base.specs.declared.doc.Doc.{Doc}
 use Rattle.ft_base.specs.declared.reply.Reply.{Reply}
 use Rattle.ft_base.specs.declared.reply.Reply.TheVariants.{Number}
-use Rattle.hash_replies.proofs.ReadsLaws.{fits-Array, fits-Bulk, fits-Number, in_turn-fits}
-use Rattle.ft_machine.specs.Replies.{found_reply, row_of, rows, window}
+use Rattle.ft_base.proofs.RepliesLaws.{fits-Array, fits-Bulk, fits-Number, in_turn-fits}
+use Rattle.ft_machine.specs.Searching.{found_reply, row_of, rows, window}
 use Rattle.search_exec.specs.Pages.{Shows}
 use Rattle.search_exec.specs.declared.page.Page.{Page}
 

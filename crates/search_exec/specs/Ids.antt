@@ -3,7 +3,7 @@ use Rattle.std.specs.Prelude.{◌≡◌, ℕ, min, nat_eq, Bool, true, false, Li
 use Rattle.std.specs.Option.{option_map}
 use Rattle.std.specs.Map.{lookup}
 use Rattle.ft_base.specs.declared.doc.Doc.{Doc}
-use Rattle.ft_machine.specs.Replies.{window}
+use Rattle.ft_machine.specs.Searching.{window}
 
 -- the documents whose ids a set has
 abbrev pub docs_in : (ℕ → Bool) → List Doc → List Doc

@@ -1,7 +1,7 @@
 -- What a search keeps of what it found.
 use Rattle.std.specs.Prelude.{◌≡◌, List, length, take}
 use Rattle.ft_base.specs.declared.doc.Doc.{Doc}
-use Rattle.ft_machine.specs.Replies.{rows, window}
+use Rattle.ft_machine.specs.Searching.{rows, window}
 use Rattle.search_exec.specs.declared.page.Page.{Page}
 
 -- the number of documents, and the first of them as they are shown

@@ -10,7 +10,7 @@ ghost use Rattle.id_iters.specs.Sets.{in_set};
 ghost use Rattle.hash_store.specs.Store.{reads_after};
 ghost use Rattle.search_exec.specs.Ids.{AreKnown, doc_at, docs_in, reads_for};
 ghost use Rattle.search_exec.specs.Pages.{Shows};
-ghost use Rattle.ft_machine.specs.Replies.{found_reply};
+ghost use Rattle.ft_machine.specs.Searching.{found_reply};
 
 use crate::page::Page;
 use doc_table::DocTable;

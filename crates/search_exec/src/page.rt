@@ -3,10 +3,9 @@ ghost use Rattle.std.specs.Prelude.{◌≡◌, ◌<◌, ◌≤◌, ◌+◌, ◌^
 ghost use Rattle.ft_base.specs.Reply.{fits_wire};
 ghost use Rattle.ft_base.specs.declared.doc.Doc.{Doc};
 ghost use Rattle.search_exec.specs.Pages.{Shows};
-ghost use Rattle.ft_machine.specs.Replies.{found_reply, row_of, window};
+ghost use Rattle.ft_machine.specs.Searching.{found_reply, row_of, window};
 
-use ft_base::{Bytes, Doc, ListOf, NoMemory, Reply};
-use hash_replies::in_turn;
+use ft_base::{Bytes, Doc, ListOf, NoMemory, Reply, in_turn};
 use std::alloc::Global;
 
 /// The most documents that a search shows.

@@ -1,10 +1,11 @@
 //! Sessions with an engine: lines of words in, replies out. All buffers are made once, so that asking takes no memory of
 //! its own.
 ghost use Rattle.std.specs.Prelude.{◌≡◌, ◌<◌, ◌≤◌, ◌↔◌, ◌^◌, [], false, length, vec_capacity, IsTrue};
-ghost use Rattle.ft_base.specs.Words.{KeepsLimits, LieIn, words_of};
+ghost use Rattle.ft_base.specs.Words.{KeepsLimits};
+ghost use Rattle.ft_base.specs.Spans.{LieIn, words_of};
 ghost use Rattle.cmd_parse.specs.Asking.{IsAsked};
 ghost use Rattle.cmd_parse.specs.Lawful.{HasSerial};
-ghost use Rattle.cmd_parse.specs.Read.{command_of};
+ghost use Rattle.cmd_parse.specs.Reading.{command_of};
 
 use cmd_parse::{Command, read_command};
 use ft_base::{Span, Words};

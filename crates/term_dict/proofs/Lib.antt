@@ -1,2 +1,3 @@
 pub mod TermLaws
 pub mod StartLaws
+pub mod TagLaws

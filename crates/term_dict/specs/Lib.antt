@@ -1,3 +1,4 @@
 pub mod Terms
 pub mod Rows
 pub mod Starts
+pub mod Tags

@@ -1,16 +1,9 @@
 -- The words of a text, as TEXT fields are indexed and queries are read (RediSearch, tokenization and escaping).
-use Rattle.std.specs.Prelude.{ℕ, suc, List, [], ◌∷◌, Bool, ◌&&◌, ◌||◌, nat_le, ◌==◌, map, Option, Some, None, if◌then◌else◌}
+use Rattle.std.specs.Prelude.{ℕ, suc, List, [], ◌∷◌, Bool, ◌&&◌, ◌==◌, map, Option, Some, None, if◌then◌else◌}
 use Rattle.std.specs.List.{list_any}
 use Rattle.std.specs.Str.{bytes_eq, str_to_ascii_lowercase}
+use Rattle.ft_base.specs.Separators.{is_separator}
 use Rattle.token_text.specs.declared.token.Token.{Token}
-
--- Bytes that part words: up to a blank, 0x7F, and each ASCII punctuation byte but `_`. Bytes from 0x80 are of words.
-abbrev pub is_separator : ℕ → Bool
-is_separator b =
-    nat_le b 47
-    || ((nat_le 58 b && nat_le b 64)
-    || ((nat_le 91 b && nat_le b 94)
-    || ((b == 96) || (nat_le 123 b && nat_le b 127))))
 
 -- Each byte as a byte of a word, or none where it parts words. A backslash before a separator is dropped, and the
 -- separator is of the word; a backslash that is escaped so escapes nothing.

@@ -11,5 +11,3 @@ mod units;
 
 /// The tokens of a text.
 pub use token::{Token, tokens};
-/// Which bytes part words.
-pub use units::is_separator;

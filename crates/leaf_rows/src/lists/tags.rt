@@ -6,7 +6,7 @@ use ft_base::NoMemory;
 use inverted_list::Markers;
 use posting_block::TagHit;
 use std::alloc::Global;
-use tag_index::TagLists;
+use term_dict::TagLists;
 
 /// Writes the answer of a call, and tells whether it is of this file.
 pub fn put(

@@ -1,6 +1,6 @@
 use Rattle.std.proofs.Common.{sym, subst}
 use Rattle.std.proofs.lemmas.Result.{on_ok_weaker}
-use Rattle.tag_index.specs.Tags.{FieldTags}
+use Rattle.term_dict.specs.Tags.{FieldTags}
 use Rattle.ft_index.specs.Markers.{tag_marker}
 use Rattle.ft_index.specs.Taking.{TakesMarkers}
 use Rattle.ft_index.specs.UpTo.{TagsUpTo}

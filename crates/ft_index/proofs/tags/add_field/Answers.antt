@@ -1,7 +1,7 @@
 use Rattle.ft_index.specs.Adding.{IsUnseen, TagsHave}
 use Rattle.ft_base.specs.declared.definition.IndexDef.{IndexDef}
 use Rattle.std.proofs.Common.{sym, subst}
-use Rattle.tag_index.specs.Tags.{FieldTags}
+use Rattle.term_dict.specs.Tags.{FieldTags}
 use Rattle.ft_index.specs.Markers.{tag_marker}
 use Rattle.ft_index.proofs.TagLaws.{tag-later, tag-next, tagged-unseen}
 use Rattle.ft_index.proofs.TakingLaws.{takes-again}

@@ -1,7 +1,7 @@
 use Rattle.std.proofs.Common.{◌≡◌, ℕ, List, ◌++◌, ◌&&◌, nat_eq, take}
 use Rattle.std.specs.List.{list_any}
 use Rattle.std.specs.Str.{bytes_eq}
-use Rattle.tag_index.specs.Tags.{entries_in}
+use Rattle.term_dict.specs.Tags.{entries_in}
 use Rattle.ft_index.specs.Adding.{tag_entry}
 use Rattle.ft_index.specs.Markers.{tag_marker}
 use Rattle.ft_index.specs.Taking.{TakesMarkers}

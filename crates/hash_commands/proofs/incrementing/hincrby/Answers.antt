@@ -2,7 +2,7 @@ use Rattle.std.proofs.Common.{◌∙◌, ap, of_z, sym, to_z, w64}
 use Rattle.cmd_parse.specs.Read.{Plain}
 use Rattle.cmd_parse.specs.declared.command.Verb.TheVariants.{Hincrby}
 use Rattle.ft_base.specs.Number.{int_of}
-use Rattle.ft_machine.specs.Arguments.{first, second}
+use Rattle.ft_base.specs.Words.{first, second}
 use Rattle.indexed_store.specs.Holding.{state_at}
 use Rattle.indexed_store.proofs.PreparingLaws.{prepares-read}
 use Rattle.hash_commands.proofs.BehindLaws.{stays-behind}

@@ -4,7 +4,7 @@ use Rattle.cmd_parse.specs.declared.command.Verb.TheVariants.{Hlen, Hexists, Exi
 use Rattle.ft_base.specs.Hash.{get_field}
 use Rattle.ft_base.specs.Space.{doc_of}
 use Rattle.ft_base.specs.declared.reply.Reply.TheVariants.{Line, Number}
-use Rattle.ft_machine.specs.Arguments.{first}
+use Rattle.ft_base.specs.Words.{first}
 use Rattle.ft_machine.specs.Machine.{answered}
 use Rattle.ft_machine.specs.Reads.{hash_in, kind_of, one_if}
 use Rattle.indexed_store.specs.Holding.{state_at}

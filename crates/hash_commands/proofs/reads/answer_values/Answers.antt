@@ -1,11 +1,11 @@
 use Rattle.std.proofs.Common.{◌∙◌, ap, refl, List, ℕ}
 use Rattle.cmd_parse.specs.declared.command.Verb.TheVariants.{Hget, Hmget, Hgetall, Hkeys, Hvals}
-use Rattle.ft_base.specs.Hash.{get_field}
+use Rattle.ft_base.specs.Hash.{get_field, in_turn}
 use Rattle.ft_base.specs.Space.{doc_of}
 use Rattle.ft_base.specs.declared.reply.Reply.{Reply}
 use Rattle.ft_base.specs.declared.reply.Reply.TheVariants.{Array}
-use Rattle.ft_machine.specs.Arguments.{first, second}
-use Rattle.ft_machine.specs.Reads.{hash_in, in_turn, names, value_reply, values}
+use Rattle.ft_base.specs.Words.{first, second}
+use Rattle.ft_machine.specs.Reads.{hash_in, names, value_reply, values}
 use Rattle.indexed_store.specs.Holding.{state_at}
 use Rattle.hash_commands.proofs.ReadLaws.{told-plain}
 use Rattle.hash_commands.proofs.reads.answer_values.Goals as goal

@@ -3,7 +3,7 @@ use Rattle.std.specs.Prelude.{is_some}
 use Rattle.cmd_parse.specs.Read.{Plain}
 use Rattle.cmd_parse.specs.declared.command.Verb.TheVariants.{Rename}
 use Rattle.ft_base.specs.Space.{doc_of}
-use Rattle.ft_machine.specs.Arguments.{first}
+use Rattle.ft_base.specs.Words.{first}
 use Rattle.indexed_store.specs.Holding.{state_at}
 use Rattle.hash_commands.proofs.PlainLaws.{renamed-none, renamed-same, same-words}
 use Rattle.hash_commands.proofs.PreparedLaws.{prepares-same, prepares-wanting, rename-prepares}

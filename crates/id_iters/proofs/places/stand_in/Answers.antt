@@ -1,5 +1,5 @@
 use Rattle.std.proofs.Common.{List, ℕ, sym, subst}
-use Rattle.phrase_match.specs.Phrase.{AllEqualOrApart, AllRise}
+use Rattle.phrase_match.specs.Places.{AllEqualOrApart, AllRise}
 use Rattle.id_iters.proofs.CodeLaws.{all_places_apart, all_places_rise}
 use Rattle.id_iters.proofs.places.stand_in.Goals as goal
 

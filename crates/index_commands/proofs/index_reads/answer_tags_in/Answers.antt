@@ -8,7 +8,7 @@ use Rattle.ft_machine.specs.Definitions.{index_of}
 use Rattle.indexed_store.specs.DefinitionsOf.{defined}
 use Rattle.ft_machine.specs.TagValues.{tag_values}
 use Rattle.index_commands.proofs.IndexCommandLaws.{named-none, named-some, tags-no_field, tags-told, tags-unknown}
-use Rattle.ft_machine.specs.Arguments.{second}
+use Rattle.ft_base.specs.Words.{second}
 use Rattle.ft_machine.specs.Indexes.{tag_field}
 use Rattle.index_commands.proofs.index_reads.answer_tags_in.Goals as goal
 

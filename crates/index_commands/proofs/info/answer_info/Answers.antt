@@ -1,7 +1,7 @@
 use Rattle.std.specs.Prelude.{Option}
 use Rattle.std.proofs.Common.{arith, refl, subst, sym}
 use Rattle.ft_index.specs.Index.{Index}
-use Rattle.ft_machine.specs.Arguments.{first}
+use Rattle.ft_base.specs.Words.{first}
 use Rattle.index_commands.proofs.ExactLaws.{tells-told}
 use Rattle.index_commands.proofs.InfoLaws.{found-by, informs-index, informs-none, told-at}
 use Rattle.index_commands.specs.Exactness.{TellsOf}

@@ -1,5 +1,5 @@
 use Rattle.std.proofs.Common.{inl, inr, refl, sym}
-use Rattle.cmd_parse.specs.Read.{search_of}
+use Rattle.cmd_parse.specs.Reading.{search_of}
 use Rattle.ft_machine.specs.Indexes.{unknown_index}
 use Rattle.ft_machine.specs.Step.{last_number}
 use Rattle.index_commands.proofs.SearchLaws.{searches-fault_of, searches-found, searches-none}

@@ -1,5 +1,5 @@
 use Rattle.ft_meaning.specs.Holds.{found_of}
-use Rattle.ft_machine.specs.Replies.{found_reply}
+use Rattle.ft_machine.specs.Searching.{found_reply}
 use Rattle.index_commands.proofs.ExactLaws.{reads-found}
 use Rattle.index_commands.proofs.SearchLaws.{found_or}
 use Rattle.index_commands.proofs.search.answer_query.Goals as goal

@@ -6,7 +6,7 @@ use Rattle.id_iters.specs.Sets.{in_set}
 use Rattle.ft_index.specs.Lists.{held_of}
 use Rattle.hash_store.specs.Store.{reads_after}
 use Rattle.search_exec.specs.Ids.{AreKnown, docs_in, reads_for}
-use Rattle.ft_machine.specs.Replies.{found_reply}
+use Rattle.ft_machine.specs.Searching.{found_reply}
 use Rattle.search_exec.proofs.FoundLaws.{docs-found, members-known}
 use Rattle.index_commands.proofs.SearchLaws.{index-kept}
 use Rattle.index_commands.proofs.search.found_in.Goals as goal

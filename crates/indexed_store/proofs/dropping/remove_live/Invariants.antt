@@ -1,6 +1,6 @@
 use Rattle.std.specs.Prelude.{◌≡◌, ℕ, map, length}
 use Rattle.indexed_store.specs.DefinitionsOf.{definitions_of}
-use Rattle.ft_machine.specs.Removing.{without_keys}
+use Rattle.ft_machine.specs.Definitions.{without_keys}
 use Rattle.indexed_store.specs.Standing.{InStep}
 use Rattle.indexed_store.proofs.dropping.remove_live.Given as goal
 

@@ -1,8 +1,7 @@
 use Rattle.std.proofs.Common.{◌∙◌, ap, refl, sym, arith, List}
 use Rattle.ft_base.specs.declared.doc.Doc.{Doc}
-use Rattle.ft_machine.specs.Definitions.{Defined, index_of}
+use Rattle.ft_machine.specs.Definitions.{Defined, index_of, without_members}
 use Rattle.indexed_store.specs.DefinitionsOf.{definitions_of}
-use Rattle.ft_machine.specs.Removing.{without_members}
 use Rattle.std.specs.Prelude.{◌≡◌, ◌+◌, length}
 use Rattle.ft_machine.specs.Step.{next_number}
 use Rattle.indexed_store.specs.Changing.{changed}

@@ -1,7 +1,7 @@
 use Rattle.std.specs.Prelude.{◌≡◌, ℕ, drop}
 use Rattle.indexed_store.specs.Standing.{InStep}
 use Rattle.indexed_store.specs.DefinitionsOf.{definitions_of}
-use Rattle.ft_machine.specs.Removing.{without_keys}
+use Rattle.ft_machine.specs.Definitions.{without_keys}
 use Rattle.indexed_store.proofs.removals.remove_all.Given as goal
 
 -- the keys so far are gone

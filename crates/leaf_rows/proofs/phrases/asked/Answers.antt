@@ -1,5 +1,5 @@
 use Rattle.std.proofs.Common.{List, ℕ, take, sym, subst}
-use Rattle.phrase_match.specs.Phrase.{AllRise, AllEqualOrApart}
+use Rattle.phrase_match.specs.Places.{AllRise, AllEqualOrApart}
 use Rattle.phrase_match.proofs.TextLaws.{all_places_rise, all_places_apart}
 use Rattle.leaf_rows.proofs.phrases.asked.Goals as goal
 

@@ -1,5 +1,6 @@
 use Rattle.std.proofs.Common.{ap, sym, subst, List, ℕ}
-use Rattle.phrase_match.specs.Phrase.{within, AllEqualOrApart}
+use Rattle.phrase_match.specs.Phrase.{within}
+use Rattle.phrase_match.specs.Places.{AllEqualOrApart}
 use Rattle.phrase_match.proofs.ChoiceLaws.{all_from_zero}
 use Rattle.phrase_match.proofs.window.within.Goals as goal
 

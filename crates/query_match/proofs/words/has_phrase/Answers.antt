@@ -1,6 +1,6 @@
 use Rattle.std.proofs.Common.{List, ℕ, take, sym, ap, ◌∙◌, subst}
 use Rattle.ft_meaning.specs.Holds.{places_of}
-use Rattle.phrase_match.specs.Phrase.{AllRise, AllEqualOrApart}
+use Rattle.phrase_match.specs.Places.{AllRise, AllEqualOrApart}
 use Rattle.query_match.proofs.PlacesLemmas.{all_places_rise, all_places_apart, within-none}
 use Rattle.query_match.proofs.words.has_phrase.Goals as goal
 

@@ -1,7 +1,7 @@
 use Rattle.std.proofs.Common.{◌≡◌, ◌++◌, [], ◌∷◌, List, ℕ, map, length, Some, arith, sym, ap, ◌∙◌}
 use Rattle.std.specs.Option.{option_copied}
 use Rattle.id_iters.specs.declared.list_name.ListName.TheVariants as names
-use Rattle.tag_index.specs.Tags.{tags_of}
+use Rattle.term_dict.specs.Tags.{tags_of}
 use Rattle.term_dict.specs.Terms.{next_word}
 use Rattle.query_plan.proofs.NameLaws.{all_after, gathered_all, gathered_more, next_after, none_after, words_after}
 use Rattle.query_plan.proofs.tags.add_tags_with.Goals as goal

@@ -3,7 +3,7 @@ use Rattle.std.specs.Option.{option_copied}
 use Rattle.id_iters.specs.declared.list_name.ListName.TheVariants as names
 use Rattle.query_plan.specs.Sought.{words_with}
 use Rattle.query_plan.proofs.NameLaws.{words_after}
-use Rattle.tag_index.specs.Tags.{tags_of}
+use Rattle.term_dict.specs.Tags.{tags_of}
 use Rattle.query_plan.proofs.tags.add_tags_with.Given as goal
 
 abbrev pub invariant-tags : goal.invariant-tags

@@ -6,7 +6,7 @@ use Rattle.id_iters.specs.declared.list_name.ListName.TheVariants as names
 use Rattle.query_plan.specs.Sought.{all_sought}
 use Rattle.query_plan.proofs.PlanLaws.{tags_tell}
 use Rattle.query_plan.proofs.tags.plan_tags.Goals as goal
-use Rattle.tag_index.specs.Tags.{FieldTags, tags_of}
+use Rattle.term_dict.specs.Tags.{FieldTags, tags_of}
 
 pub returns-clause-set : goal.returns-clause-set
 returns-clause-set g c =

@@ -1,7 +1,7 @@
 use Rattle.std.proofs.Common.{◌≡◌, map, take}
 use Rattle.id_iters.specs.declared.list_name.ListName.TheVariants as names
 use Rattle.query_plan.specs.Sought.{all_sought}
-use Rattle.tag_index.specs.Tags.{tags_of}
+use Rattle.term_dict.specs.Tags.{tags_of}
 use Rattle.query_plan.proofs.tags.tags_sought.Given as goal
 
 abbrev pub invariant-parts : goal.invariant-parts

@@ -1,5 +1,5 @@
 use Rattle.std.proofs.Common.{◌∙◌}
-use Rattle.hash_replies.proofs.ReadsLaws.{made-fits}
+use Rattle.ft_base.proofs.RepliesLaws.{made-fits}
 use Rattle.id_iters.specs.Sets.{in_set}
 use Rattle.search_exec.proofs.RepliesLaws.{found-fits, made-found}
 use Rattle.search_exec.specs.Ids.{docs_in}

@@ -2,7 +2,8 @@ use Rattle.std.proofs.Common.{◌≡◌, ℕ, ◌+◌, ◌-◌, ◌*◌, ◌≤�
 use Rattle.std.specs.Prelude.{fold, slice_index_or}
 use Rattle.std.proofs.lemmas.List.{length-take, length-map}
 use Rattle.std.proofs.lemmas.List.Elements.{All-map}
-use Rattle.ft_base.specs.Words.{KeepsLimits, word_at, words_of}
+use Rattle.ft_base.specs.Words.{KeepsLimits}
+use Rattle.ft_base.specs.Spans.{word_at, words_of}
 use Rattle.ft_base.specs.declared.limits.TheConstants.{MAX_WORD_BYTES}
 use Rattle.ft_base.specs.declared.words.Span.{Span}
 use Rattle.server_tests.proofs.session.is_small.Goals as goal

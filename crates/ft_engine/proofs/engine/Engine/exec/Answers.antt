@@ -1,5 +1,6 @@
 use Rattle.std.proofs.Common.{◌≡◌, List, Ok, ap, subst, sym, ℕ}
-use Rattle.cmd_parse.specs.Read.{command_of, read}
+use Rattle.cmd_parse.specs.Read.{read}
+use Rattle.cmd_parse.specs.Reading.{command_of}
 use Rattle.ft_machine.proofs.Stepping.{obeyed}
 use Rattle.ft_machine.specs.Machine.{State}
 use Rattle.ft_machine.specs.Step.{At, outcomes}

@@ -2,7 +2,7 @@
 use Rattle.std.proofs.Common.{[], sym, subst}
 use Rattle.inverted_list.specs.declared.marker.Marker.{Marker}
 use Rattle.posting_block.specs.declared.hits.TextHit.{TextHit}
-use Rattle.tag_index.specs.Tags.{FieldTags}
+use Rattle.term_dict.specs.Tags.{FieldTags}
 use Rattle.term_dict.specs.Terms.{Lists}
 use Rattle.ft_index.specs.Markers.{AreBefore, HasMarker, IsGiven, MarkersDiffer}
 use Rattle.ft_index.proofs.ListsLaws.{first-before, first-differ, first-given}

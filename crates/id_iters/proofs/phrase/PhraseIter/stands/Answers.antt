@@ -1,5 +1,5 @@
 use Rattle.std.proofs.Common.{◌≡◌, List, ℕ, map, sym, ap, ◌∙◌, subst, IfOk}
-use Rattle.phrase_match.specs.Phrase.{AllEqualOrApart, AllRise}
+use Rattle.phrase_match.specs.Places.{AllEqualOrApart, AllRise}
 use Rattle.id_iters.specs.Entries.{codes_at, stand_together}
 use Rattle.id_iters.specs.Leaves.{word_entries}
 use Rattle.id_iters.specs.declared.leaf.Leaf.{Leaf}

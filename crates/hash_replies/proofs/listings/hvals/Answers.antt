@@ -1,5 +1,0 @@
-use Rattle.hash_replies.proofs.ReadsLaws.{made-fits, all_values-fit}
-use Rattle.hash_replies.proofs.listings.hvals.Goals as goal
-
-pub returns-in-Some-clause-fits : goal.returns-in-Some-clause-fits
-returns-in-Some-clause-fits c = made-fits c.all_values.result _ (all_values-fit _) c.all_values.ensures.reply
