@@ -17,6 +17,7 @@ pub struct ScriptedClock {
 
 impl Model for ScriptedClock {
     ghost use Rattle.std.specs.Prelude.{◌<◌, length};
+    ghost use Rattle.fs_ports.specs.Scripts.{Script};
 
     ghost Value = { Script };
 

@@ -61,6 +61,7 @@ impl Model for Decoder {
 
     ghost Value = { Decoding };
 
+    ghost use Rattle.ft_base.specs.Spans.{LieIn, words_of};
     ghost use Rattle.resp_wire.specs.Reached.{IsBegun};
 
     ghost view = { λ d. record {
