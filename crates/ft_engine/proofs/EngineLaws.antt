@@ -29,11 +29,12 @@ begins first next false free number earlier = omega (arith, number, earlier)
 pub no-later : (latest : ℕ) → max 0 latest ≡ latest
 no-later latest = omega arith
 
--- a plain command that reads prepares no change
-pub read-by : (verb other : Verb) (args : List (List ℕ)) (old new : Holding) (written : List ℕ) → verb ≡ other → OnlyReads old new
-    → ((latest : ℕ) → Does (Plain other args) old.next (state_at latest old) written (state_at latest old)) → Prepares (Plain verb args) old new written Nothing
-read-by verb other args old new written is reads does =
-    subst (λ (v : Verb). Prepares (Plain v args) old new written Nothing) (sym is) (prepares-read (Plain other args) old new written reads does)
+-- what is done of a plain command is done of that which the verb is
+pub done-by : (verb other : Verb) (args : List (List ℕ)) (old new : Holding) (written : List ℕ) → verb ≡ other
+    → ((latest : ℕ) → Does (Plain other args) old.next (state_at latest old) written (state_at latest old))
+    → (latest : ℕ) → Does (Plain verb args) old.next (state_at latest old) written (state_at latest old)
+done-by verb other args old new written is does latest =
+    subst (λ (v : Verb). Does (Plain v args) old.next (state_at latest old) written (state_at latest old)) (sym is) (does latest)
 
 -- where no event is prepared, what is held is before the next one
 pub before-event : (first next : ℕ) (pending : Bool) → pending ≡ false → first ≤ unused pending next → first ≤ next

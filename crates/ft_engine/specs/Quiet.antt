@@ -1,6 +1,8 @@
--- That a search changes nothing.
+-- Which commands change nothing.
 use Rattle.std.specs.Prelude.{◌≡◌}
 use Rattle.cmd_parse.specs.Read.{Asked, Search}
+use Rattle.cmd_parse.specs.declared.command.Verb.{Verb}
+use Rattle.cmd_parse.specs.declared.command.Verb.TheVariants.{Hset, Hsetnx, Hdel, Hincrby, Rename, Del, Flushall, DropIndex}
 use Rattle.indexed_store.specs.declared.change.Change.{Change}
 use Rattle.indexed_store.specs.declared.change.Change.TheVariants.{Nothing}
 
@@ -8,3 +10,15 @@ use Rattle.indexed_store.specs.declared.change.Change.TheVariants.{Nothing}
 abbrev pub IsQuiet : Asked → Change → Type 0
 IsQuiet (Search what) change = change ≡ Nothing
 IsQuiet _ change = Unit {0}
+
+-- a plain command that only reads
+abbrev pub ChangesNothing : Verb → Type 0
+ChangesNothing Hset = ⊥
+ChangesNothing Hsetnx = ⊥
+ChangesNothing Hdel = ⊥
+ChangesNothing Hincrby = ⊥
+ChangesNothing Rename = ⊥
+ChangesNothing Del = ⊥
+ChangesNothing Flushall = ⊥
+ChangesNothing DropIndex = ⊥
+ChangesNothing _ = Unit {0}

@@ -1,11 +1,13 @@
 //! The plain commands, each given to the call that does it.
-ghost use Rattle.std.specs.Prelude.{◌≤◌, ◌<◌};
+ghost use Rattle.std.specs.Prelude.{◌≤◌, ◌<◌, ℕ};
 ghost use Rattle.cmd_parse.specs.Asking.{AreWords};
 ghost use Rattle.cmd_parse.specs.Lawful.{Lawful};
 ghost use Rattle.cmd_parse.specs.Read.{Plain};
-ghost use Rattle.ft_machine.specs.Step.{last_number};
+ghost use Rattle.ft_engine.specs.Quiet.{ChangesNothing};
+ghost use Rattle.ft_machine.specs.Step.{Does, last_number};
 ghost use Rattle.index_commands.specs.Exactness.{TellsExactly};
-ghost use Rattle.indexed_store.specs.Preparing.{Prepares};
+ghost use Rattle.indexed_store.specs.Holding.{state_at};
+ghost use Rattle.indexed_store.specs.Preparing.{OnlyReads, Prepares};
 
 use cmd_parse::Verb;
 use ft_base::Words;
@@ -37,21 +39,28 @@ pub fn prepare_plain<'a>(
         Verb::Del => del(held, args, reply),
         Verb::Flushall => flush(held, args, reply),
         Verb::DropIndex => drop_named(held, args, reply),
-        Verb::ListIndexes => {
-            answer_names(held, args, reply);
-            Change::Nothing
-        }
-        Verb::Info => {
-            answer_info(held, args, reply);
-            Change::Nothing
-        }
-        Verb::TagVals => {
-            answer_tag_vals(held, args, reply);
-            Change::Nothing
-        }
         _ => {
-            answer_plain(held, verb, args, reply);
+            answer(held, verb, args, reply);
             Change::Nothing
         }
+    }
+}
+
+/// Answers a plain command that changes nothing, and writes the reply.
+fn answer(held: &mut IndexedStore, verb: Verb, args: &Words<'_>, reply: &mut ReplyBuffer)
+    requires read { ChangesNothing verb }
+    requires number { held.old.next < last_number }
+    requires lawful { Lawful verb args.now }
+    ensures does { (latest : ℕ) → Does (Plain verb args.now) held.old.next (state_at latest held.old)
+        reply.new.bytes (state_at latest held.old) }
+    ensures records { TellsExactly (Plain verb args.now) held.old.indexes reply.new.bytes }
+    ensures stays { OnlyReads held.old held.new }
+    ensures room { reply.old.room ≤ reply.new.room }
+{
+    match verb {
+        Verb::ListIndexes => answer_names(held, args, reply),
+        Verb::Info => answer_info(held, args, reply),
+        Verb::TagVals => answer_tag_vals(held, args, reply),
+        _ => answer_plain(held, verb, args, reply),
     }
 }
