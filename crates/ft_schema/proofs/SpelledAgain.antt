@@ -28,7 +28,8 @@ index_again index can =
     let schema = schema_words index.fields in
     let options : List Word = prefix_words index.prefixes ++ (counted (codes "STOPWORDS") index.stops.words ++ schema) in
     reads_on (options_at options) _ (with_both (some_of index.prefixes) index.stops.words, schema) _
-    (options_again index.prefixes index.stops.words (flat_map field_words index.fields) can.prefix_count can.lower can.stop_count)
+    (options_again index.prefixes index.stops.words (flat_map field_words index.fields)
+    can.prefix_count can.lower can.stop_count)
     (reads_on (fields_at (flat_map field_words index.fields)) _ (index.fields, []) _ (fields_again index.fields can.fields)
     (ap (λ (prefixes : List Word). answer (record index { prefixes = prefixes })) (all_of index.prefixes)))
 
@@ -37,11 +38,14 @@ pub created_again : (index : IndexDef) → IsSpellable index → create (create_
 unfolding create
 created_again index can = ap (placed (length (create_words index))) (index_again index can)
 
-added_again : (name : Word) (fields : List Field) → AreSpellable fields → added_at (drop 2 (alter_words name fields)) ≡ Ok fields
+added_again : (name : Word) (fields : List Field) → AreSpellable fields
+    → added_at (drop 2 (alter_words name fields)) ≡ Ok fields
 unfolding added_at
-added_again name fields can = reads_on (fields_at (flat_map field_words fields)) _ (fields, []) _ (fields_again fields can) refl
+added_again name fields can =
+    reads_on (fields_at (flat_map field_words fields)) _ (fields, []) _ (fields_again fields can) refl
 
 -- added fields are read back
-pub altered_again : (name : Word) (fields : List Field) → AreSpellable fields → alter (alter_words name fields) ≡ Ok fields
+pub altered_again : (name : Word) (fields : List Field) → AreSpellable fields
+    → alter (alter_words name fields) ≡ Ok fields
 unfolding alter
 altered_again name fields can = ap (placed (length (alter_words name fields))) (added_again name fields can)

@@ -15,7 +15,9 @@ ends_with_sortable field = is_numeric field.kind && (field.sortable && (not fiel
 
 -- whether a word behind a field begins another: it names no option of the field
 abbrev pub can_follow : Field → Word → Bool
-can_follow field word = is_none (field_option_of field.kind word) && not (ends_with_sortable field && is_name word (codes "UNF"))
+can_follow field word =
+    is_none (field_option_of field.kind word)
+    && not (ends_with_sortable field && is_name word (codes "UNF"))
 
 -- whether the fields behind one begin with a name that can follow it
 abbrev pub can_go_on : Field → List Field → Bool

@@ -28,9 +28,11 @@ kind_option_words Text = codes "NOSTEM" ∷ []
 kind_option_words (Tag separator case) = codes "SEPARATOR" ∷ (separator ∷ []) ∷ option_words (codes "CASESENSITIVE") case
 kind_option_words Numeric = []
 
--- a field's options, whatever its kind: SORTABLE first, so that other words part it from what follows
+-- A field's options: SORTABLE first, so that a kind's own options part it from the next field's name, which may be UNF.
 abbrev pub field_option_words : Field → List Word
-field_option_words field = sortable_words field.sortable field.unf ++ (kind_option_words field.kind ++ option_words (codes "NOINDEX") field.noindex)
+field_option_words field =
+    sortable_words field.sortable field.unf
+    ++ (kind_option_words field.kind ++ option_words (codes "NOINDEX") field.noindex)
 
 -- name AS alias KIND option ..
 abbrev pub field_words : Field → List Word
@@ -52,7 +54,8 @@ schema_words fields = codes "SCHEMA" ∷ flat_map field_words fields
 -- FT.CREATE name [PREFIX number prefix ..] STOPWORDS number word .. SCHEMA field ..
 abbrev pub create_words : IndexDef → List Word
 create_words index =
-    codes "FT.CREATE" ∷ index.name ∷ (prefix_words index.prefixes ++ (counted (codes "STOPWORDS") index.stops.words ++ schema_words index.fields))
+    codes "FT.CREATE" ∷ index.name
+    ∷ (prefix_words index.prefixes ++ (counted (codes "STOPWORDS") index.stops.words ++ schema_words index.fields))
 
 -- FT.ALTER name SCHEMA ADD field ..
 abbrev pub alter_words : Word → List Field → List Word

@@ -21,8 +21,8 @@ pub fn added_fields_are_read_back()
         → alter (alter_words name fields) ≡ Ok fields }
 {}
 
-/// Whatever words are read, what they say has a spelling, and it is read anew as the same: the
-/// definitions that have one are just those that words say.
+/// Whatever words are read, what they say can be spelled, and its spelling is read as the same. So the
+/// definitions that can be spelled are just those that words say.
 pub fn what_is_read_is_spellable()
     ensures created { (words : List Word) (serial : ℕ) (index : IndexDef)
         → create words serial ≡ Ok index → IsSpellable index }
