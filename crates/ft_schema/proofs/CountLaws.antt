@@ -74,7 +74,8 @@ unfolding count_at
 count-fits least [] read e = absurd (cc)
 count-fits least (word ∷ words) read e = by_number (int_of word) refl e
   where
-    by_test : (n : ℕ) → is_i64 (pos n) ≡ true → (test : Bool) → cond {A = Read ℕ} test (Ok (n, words)) (fault BadNumber (word ∷ words)) ≡ Ok read
+    by_test : (n : ℕ) → is_i64 (pos n) ≡ true → (test : Bool)
+        → cond {A = Read ℕ} test (Ok (n, words)) (fault BadNumber (word ∷ words)) ≡ Ok read
         → read.0 < 2 ^ 63
     by_test n fits true e = subst (λ (r : ℕ × List Word). r.0 < 2 ^ 63) (is_ok_of e) (ltb-true n (2 ^ 63) fits)
     by_test n fits false e = absurd (cc)

@@ -144,7 +144,8 @@ steps-add : (n : ℕ) (before : List Field) (words : List Word) (read : List Fie
 steps-add zero before words read e = adds_none before words read.0 (ap (λ (r : List Field × List Word). r.0) (is_ok_of e))
 steps-add (suc n) before words read e = by_end (λ after rest. steps-add n after rest read) (is_at_end words) e
   where
-    by_end : ((after : List Field) (rest : List Word) → parts_in is_at_end next_field_at n after rest ≡ Ok read → Adds after rest read.0)
+    by_end : ((after : List Field) (rest : List Word) → parts_in is_at_end next_field_at n after rest ≡ Ok read
+        → Adds after rest read.0)
         → (end : Bool)
         → cond {A = Read (List Field)} end (Ok (before, words))
         (next_field_at before words >>= λ x. parts_in is_at_end next_field_at n x.0 x.1)

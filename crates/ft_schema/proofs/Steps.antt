@@ -70,4 +70,5 @@ pub ended_so : (A : Type 0) (ends : List Word → Bool) (part : A → List Word 
     → ((before : A) (words : List Word) (read : A × List Word) → part before words ≡ Ok read → length read.1 < length words)
     → (before : A) (words : List Word) (read : A × List Word) → parts_at ends part before words ≡ Ok read → ends read.1 ≡ true
 unfolding parts_at
-ended_so A ends part shorter before words read e = ends_in A ends part shorter (suc (length words)) before words read (omega arith) e
+ended_so A ends part shorter before words read e =
+    ends_in A ends part shorter (suc (length words)) before words read (omega arith) e
