@@ -37,6 +37,7 @@ IsUnfSortable field = field.unf ≡ true → field.sortable ≡ true
 abbrev pub IsLower : Word → Type 0
 IsLower word = str_to_ascii_lowercase word ≡ word
 
+-- fields that words can say
 pub record AreSpellable (fields : List Field) : Type 0 where
   -- there is a field, they keep the limits, and no two have one alias
   pub lawful : IsLawful fields
@@ -45,12 +46,13 @@ pub record AreSpellable (fields : List Field) : Type 0 where
   -- no field's name is an option of the field before it
   pub apart : AreApart fields
 
+-- an index that words can say
 pub record IsSpellable (index : IndexDef) : Type 0 where
-  -- its fields can be said
+  -- its fields are such
   pub fields : AreSpellable index.fields
   -- its stop words have no capitals
   pub lower : AllByRecursion IsLower index.stops.words
-  -- the number of its prefixes is one of 64 bits
+  -- the number of its prefixes can be read, being of 64 bits with a sign
   pub prefix_count : length index.prefixes < 2 ^ 63
   -- and so is that of its stop words
   pub stop_count : length index.stops.words < 2 ^ 63

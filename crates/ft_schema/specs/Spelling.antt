@@ -1,5 +1,5 @@
--- How fields and indexes are spelled in the words of FT.CREATE and FT.ALTER (RediSearch): every name, count and option is
--- written out, in capitals.
+-- How fields and indexes are spelled in the words of FT.CREATE and FT.ALTER (RediSearch): with all that they have, in
+-- one order, and with the names of options and kinds in capitals.
 use Rattle.std.specs.Prelude.{List, [], ◌∷◌, ◌++◌, length, flat_map, Bool, codes, if◌then◌else◌}
 use Rattle.std.specs.Fmt.{decimal}
 use Rattle.ft_base.specs.declared.definition.Field.{Field}
