@@ -19,7 +19,7 @@ abbrev pieces : List ℕ → List ℕ × List Word
 pieces [] = ([], [])
 pieces (b ∷ text) = cond (b == 32) ([], (pieces text).0 ∷ (pieces text).1) (b ∷ (pieces text).0, (pieces text).1)
 
-abbrev words : List ℕ → List Word
+abbrev pub words : List ℕ → List Word
 words text = (pieces text).0 ∷ (pieces text).1
 
 -- a command, and what it is answered
@@ -55,7 +55,7 @@ unfolding index_option_of kind_of field_option_of weight_at parts_at option_at o
 each_fault = refl
 
 -- a field, as its words give it
-abbrev field : List ℕ → List ℕ → FieldKind → Field
+abbrev pub field : List ℕ → List ℕ → FieldKind → Field
 field name alias kind = record { name = name; alias = alias; kind = kind; sortable = false; unf = false; noindex = false }
 
 abbrev index : List Word → List Field → Result IndexDef SchemaFault

@@ -161,7 +161,7 @@ steps-Ok zero before words read lawful e = subst (λ (r : List Field × List Wor
 steps-Ok (suc n) before words read lawful e =
     one_step before words read lawful (λ after rest. parts_in is_at_end next_field_at n after rest) (λ after rest. steps-Ok n after rest read) (is_at_end words) e
 
-fields-lawful : (words : List Word) (read : List Field × List Word) → fields_at words ≡ Ok read → IsLawful read.0
+pub fields-lawful : (words : List Word) (read : List Field × List Word) → fields_at words ≡ Ok read → IsLawful read.0
 unfolding fields_at parts_at IsDistinct
 fields-lawful [] read e = absurd (cc)
 fields-lawful (word ∷ words) read e =

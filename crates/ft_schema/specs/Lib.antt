@@ -9,3 +9,5 @@ pub mod Options
 pub mod Reading
 pub mod Refusals
 pub mod Schema
+pub mod Spellable
+pub mod Spelling

@@ -13,6 +13,7 @@ mod field_list;
 mod field_options;
 mod fields;
 mod index_options;
+mod laws;
 mod limits;
 mod names;
 mod reading;
@@ -22,6 +23,8 @@ mod schema;
 pub use extension::extend;
 /// Why words are no schema.
 pub use fault::SchemaFault;
+/// Laws of the two commands: what is defined is spelled by words, and read back from them.
+pub use laws::{added_fields_are_read_back, definition_is_read_back, what_is_read_is_spellable};
 /// What an index takes.
 pub use limits::{MAX_FIELDS, MAX_TEXT_FIELDS};
 /// What the words of the two commands say.
