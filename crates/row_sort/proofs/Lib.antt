@@ -1,4 +1,3 @@
 pub mod SortingLaws
 pub mod OrderLaws
-pub mod SeenLaws
 pub mod HeldLaws

@@ -88,25 +88,8 @@ pub values_total : (keys : List Direction) → IsTotalOrder (values_order keys)
 values_total [] = level
 values_total (by ∷ keys) = then_total (on_total first_value (value_total by)) (on_total later_values (values_total keys))
 
+pub row_total : {T : Type 0} (keys : List Direction) → IsTotalOrder (λ (left right : Ranked T). row_order keys left right)
+row_total keys = on_total (λ row. row.values) (values_total keys)
+
 pub row_weak : {T : Type 0} (keys : List Direction) → IsStrictWeakOrder (λ (x y : Ranked T). is_lt (row_order keys x y))
 row_weak keys = ranks_by (values_total keys) (λ row. row.values)
-
-decided : (r s : Ordering) → (r ≡ Equal → ⊥) → ordering_then r s ≡ r
-decided Less s h = refl
-decided Equal s h = absurd (h refl)
-decided Greater s h = refl
-
--- one key after another
-module _ (by : Direction) (keys later : List Direction) (vs ws : List Value) (e : keys ≡ by ∷ later) where
-  pub keys_left : Equal ≡ value_order by (first_value vs) (first_value ws)
-      → values_order later (later_values vs) (later_values ws) ≡ values_order keys vs ws
-  keys_left h =
-      sym (ap (λ l. values_order l vs ws) e
-      ∙ ap (λ r. ordering_then r (values_order later (later_values vs) (later_values ws))) (sym h))
-
-  pub key_decides : (r : Ordering) → r ≡ value_order by (first_value vs) (first_value ws) → (r ≡ Equal → ⊥)
-      → r ≡ values_order keys vs ws
-  key_decides r h unequal =
-      sym (ap (λ l. values_order l vs ws) e
-      ∙ ap (λ s. ordering_then s (values_order later (later_values vs) (later_values ws))) (sym h)
-      ∙ decided r (values_order later (later_values vs) (later_values ws)) unequal)

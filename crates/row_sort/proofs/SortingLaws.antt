@@ -1,13 +1,13 @@
 -- What is true of `sorted`: it is in order, keeps the order of ties, and is the only such list; and what its first values are
 -- after one more is added.
-use Rattle.std.proofs.Common.{◌≡◌, ℕ, zero, suc, ◌+◌, ◌<◌, ◌≤◌, Bool, true, false, not, ◌&&◌, cond, List, [], ◌∷◌, ◌++◌, length, get_or, take, filter, Ordering, is_lt, refl, sym, ap, ◌∙◌, arith, inl, inr, suc-le-suc, zero-le, add-one}
+use Rattle.std.proofs.Common.{◌≡◌, ℕ, zero, suc, ◌+◌, ◌<◌, ◌≤◌, Bool, true, false, not, ◌&&◌, cond, List, [], ◌∷◌, ◌++◌, length, get_or, take, filter, fold, Ordering, is_lt, refl, sym, ap, subst, ◌∙◌, arith, append-nil, append_assoc, inl, inr, suc-le-suc, zero-le, add-one}
 use Rattle.std.specs.Cmp.{IsStrictWeakOrder}
 use Rattle.std.specs.List.{AllByRecursion}
 use Rattle.std.specs.List.Sorted.{IsPermutation, IsSortedBy, IsStableBy, ties}
 use Rattle.std.proofs.lemmas.Bool.{false≢true, cases_Bool, cond-true, cond-false, cond_both, and_parts, and_from, not-true, not_from_false}
 use Rattle.std.proofs.lemmas.List.{take-take}
 use Rattle.std.proofs.lemmas.List.Elements.{All-from_recursion, recursion_from_All}
-use Rattle.std.proofs.lemmas.List.Sorted.{sorted_far, IsPermutation-refl, IsPermutation-sym, IsPermutation-trans, IsPermutation-cons, IsPermutation-middle}
+use Rattle.std.proofs.lemmas.List.Sorted.{sorted_far, length_permutation, IsPermutation-refl, IsPermutation-sym, IsPermutation-trans, IsPermutation-cons, IsPermutation-middle}
 use Rattle.row_sort.specs.Sorting.{placed, sorted}
 
 -- a value that comes later goes before the first one that it is less than
@@ -16,6 +16,10 @@ placed_later order x [] = x ∷ []
 placed_later order x (y ∷ ys) = cond (is_lt (order x y)) (x ∷ y ∷ ys) (y ∷ placed_later order x ys)
 
 -- ---- parts of a list
+
+pub take-nil : {A : Type 0} (k : ℕ) → take {A = A} k [] ≡ []
+take-nil zero = refl
+take-nil (suc k) = refl
 
 all_nil : {A : Type 0} (P : A → Type 0) (k : ℕ) → AllByRecursion P (take k [])
 all_nil P zero = tt
@@ -79,14 +83,13 @@ module _ {A : Type 0} (order : A → A → Ordering) where
   turned_away (suc k) x (y ∷ ys) long all =
       ap (take (suc k)) (later-past x y ys all.0) ∙ ap (λ l. y ∷ l) (turned_away k x ys (omega arith) all.1)
 
-  -- a value before none of the first k stays so where one is added that it isn't before
-  pub bar_push : (k : ℕ) (b x : A) (ys : List A) → lt b x ≡ false → AllByRecursion (λ y. lt b y ≡ false) (take k ys)
+  bar_push_by : (k : ℕ) (b x : A) (ys : List A) → lt b x ≡ false → AllByRecursion (λ y. lt b y ≡ false) (take k ys)
       → AllByRecursion (λ y. lt b y ≡ false) (take k (placed_later order x ys))
-  bar_push zero b x ys h all = tt
-  bar_push (suc k) b x [] h all = (h, all_nil (λ y. lt b y ≡ false) k)
-  bar_push (suc k) b x (y ∷ ys) h all =
+  bar_push_by zero b x ys h all = tt
+  bar_push_by (suc k) b x [] h all = (h, all_nil (λ y. lt b y ≡ false) k)
+  bar_push_by (suc k) b x (y ∷ ys) h all =
       cond_both (lt x y) (x ∷ y ∷ ys) (y ∷ placed_later order x ys) (λ l. AllByRecursion (λ y. lt b y ≡ false) (take (suc k) l))
-      (λ _. (h, all_fewer (λ y. lt b y ≡ false) k (y ∷ ys) all)) (λ _. (all.0, bar_push k b x ys h all.1))
+      (λ _. (h, all_fewer (λ y. lt b y ≡ false) k (y ∷ ys) all)) (λ _. (all.0, bar_push_by k b x ys h all.1))
 
   take_later_by : (k : ℕ) (x y : A) (ys : List A) (b : Bool)
       → take k (placed_later order x (take k ys)) ≡ take k (placed_later order x ys)
@@ -140,6 +143,9 @@ module _ {A : Type 0} (order : A → A → Ordering) where
   sorted-permutation (x ∷ xs) =
       IsPermutation-trans (x ∷ xs) (x ∷ sorted order xs) (sorted order (x ∷ xs))
       (IsPermutation-cons x xs (sorted order xs) (sorted-permutation xs)) (placed-permutation x (sorted order xs))
+
+  pub length-sorted : (xs : List A) → length (sorted order xs) ≡ length xs
+  length-sorted xs = length_permutation xs (sorted order xs) (sorted-permutation xs)
 
   -- ---- by a total preorder
 
@@ -228,6 +234,42 @@ module _ {A : Type 0} (order : A → A → Ordering) where
         ∙ ap (λ l. take k (placed_later order x l)) (sorted-again k xs)
         ∙ take-placed_later k x (sorted order xs)
         ∙ ap (take k) (sym (sorted-push xs x))
+
+    -- what isn't before a bar is before none that the bar isn't before
+    behind_bar : (x b : A) (ys : List A) → lt x b ≡ false → AllByRecursion (λ y. lt b y ≡ false) ys
+        → AllByRecursion (λ y. lt x y ≡ false) ys
+    behind_bar x b [] h all = tt
+    behind_bar x b (y ∷ ys) h all = (w.chain x b y h all.0, behind_bar x b ys h all.1)
+
+    -- what is before none of the first k stays so, whatever is added
+    pub bar_push : (k : ℕ) (b x : A) (ys : List A) → k ≤ length ys → AllByRecursion (λ y. lt b y ≡ false) (take k ys)
+        → AllByRecursion (λ y. lt b y ≡ false) (take k (placed_later order x ys))
+    bar_push k b x ys long all =
+        elim (cases_Bool (lt b x)) [
+          | inl past ↦
+              subst (AllByRecursion (λ y. lt b y ≡ false))
+              (sym (turned_away k x ys long (behind_bar x b (take k ys) (w.one_way b x past) all))) all
+          | inr before ↦ bar_push_by k b x ys before all
+        ]
+
+    -- a value that isn't before such a bar changes nothing
+    pub away : (k : ℕ) (b x : A) (xs : List A) → k ≤ length xs → lt x b ≡ false
+        → AllByRecursion (λ y. lt b y ≡ false) (take k (sorted order xs))
+        → take k (sorted order (take k (sorted order xs) ++ x ∷ [])) ≡ take k (sorted order xs)
+    away k b x xs long h all =
+        first-push k xs x ∙ ap (take k) (sorted-push xs x)
+        ∙ turned_away k x (sorted order xs) (omega (arith, length-sorted xs)) (behind_bar x b (take k (sorted order xs)) h all)
+
+    first_by_one : (k : ℕ) (xs ys : List A)
+        → fold (λ first x. take k (sorted order (first ++ x ∷ []))) (take k (sorted order xs)) ys ≡ take k (sorted order (xs ++ ys))
+    first_by_one k xs [] = ap (λ l. take k (sorted order l)) (sym (append-nil xs))
+    first_by_one k xs (y ∷ ys) =
+        ap (λ first. fold (λ first x. take k (sorted order (first ++ x ∷ []))) first ys) (first-push k xs y)
+        ∙ first_by_one k (xs ++ y ∷ []) ys ∙ ap (λ l. take k (sorted order l)) (append_assoc xs (y ∷ []) ys)
+
+    pub first_by_ones : (k : ℕ) (xs : List A) → fold (λ first x. take k (sorted order (first ++ x ∷ []))) [] xs ≡ take k (sorted order xs)
+    first_by_ones k xs =
+        ap (λ first. fold (λ first x. take k (sorted order (first ++ x ∷ []))) first xs) (sym (take-nil k)) ∙ first_by_one k [] xs
 
     -- the last of a sorted list is before none of it
     pub last_bar : (j : ℕ) (zs : List A) (d : A) → IsUp zs → length zs ≡ suc j

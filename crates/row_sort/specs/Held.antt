@@ -1,5 +1,5 @@
 -- What holds of the rows that a `FirstRows` holds. No public clause cites this file.
-use Rattle.std.specs.Prelude.{◌≡◌, ℕ, ◌<◌, ◌≤◌, ◌*◌, ◌-◌, Bool, true, false, not, ◌&&◌, List, length, take, slice_index_or}
+use Rattle.std.specs.Prelude.{◌≡◌, ℕ, ◌<◌, ◌≤◌, ◌*◌, ◌-◌, Bool, true, false, List, length, take, slice_index_or}
 use Rattle.std.specs.List.{AllByRecursion}
 use Rattle.std.specs.Ordering.{is_lt}
 use Rattle.row_sort.specs.Order.{row_order}
@@ -21,7 +21,3 @@ pub record HasBar {T : Type 0} (by : List Direction) (most : ℕ) (rows : List (
 pub record IsSound {T : Type 0} (by : List Direction) (most : ℕ) (barred : Bool) (rows : List (Ranked T)) : Type 0 where
   pub few : length rows ≤ 2 * most
   pub bar : barred ≡ true → HasBar by most rows
-
--- whether a row is turned away: there is a bar, and the row isn't before it
-abbrev pub turns_away : {T : Type 0} → List Direction → ℕ → Bool → List (Ranked T) → Ranked T → Bool
-turns_away by most barred rows row = barred && not (is_lt (row_order by row (slice_index_or rows (most - 1) row)))

@@ -1,8 +1,9 @@
 //! The first rows of all that are offered, without holding them all.
 ghost use Rattle.std.specs.Prelude.{◌≡◌, ◌<◌, ◌*◌, [], ◌∷◌, ◌++◌, length, IfOk, OnOk, OnErr, take};
+ghost use Rattle.std.specs.Bool.{OnTrue, OnFalse};
 ghost use Rattle.row_sort.specs.Order.{row_order};
 ghost use Rattle.row_sort.specs.Sorting.{sorted};
-ghost use Rattle.row_sort.specs.Held.{first_held, turns_away, IsSound};
+ghost use Rattle.row_sort.specs.Held.{first_held, HasBar, IsSound};
 
 use crate::order::Direction;
 use crate::rows::{Ranked, compare_rows, keep_first};
@@ -60,13 +61,11 @@ impl<T> FirstRows<T> {
         }) }
         ensures err { OnErr result (self.new ≡ self.old) }
     {
-        take_in(
-            &mut self.rows,
-            &mut self.barred,
-            row,
-            self.by.as_slice(),
-            self.most,
-        )
+        let keys = self.by.as_slice();
+        if turns_away(&row, self.rows.as_slice(), self.barred, keys, self.most) {
+            return Ok(());
+        }
+        hold(&mut self.rows, &mut self.barred, row, keys, self.most)
     }
 
     /// The rows in order.
@@ -81,27 +80,44 @@ impl<T> FirstRows<T> {
     }
 }
 
-/// Takes a row in.
-fn take_in<T: Drop>(
+/// Whether a row would not be among the first `most`. Once they were put in order one comparison tells.
+fn turns_away<T>(row: &Ranked<T>, rows: &[Ranked<T>], barred: bool, by: &[Direction], most: usize) -> bool
+    requires { IsSound by.now most barred rows.now }
+    ensures away { OnTrue result (first_held by.now most (first_held by.now most rows.now ++ row.now ∷ [])
+        ≡ first_held by.now most rows.now) }
+    ensures some { OnFalse result (0 < most) }
+{
+    if most == 0 {
+        return true;
+    }
+    barred && is_behind(row, rows, by, most)
+}
+
+/// Whether a row isn't before the last of the first `most` that were put in order.
+fn is_behind<T>(row: &Ranked<T>, rows: &[Ranked<T>], by: &[Direction], most: usize) -> bool
+    requires { HasBar by.now most rows.now }
+    ensures { OnTrue result (first_held by.now most (first_held by.now most rows.now ++ row.now ∷ [])
+        ≡ first_held by.now most rows.now) }
+{
+    compare_rows(row, &rows[most - 1], by).is_ge()
+}
+
+/// Takes a row among those that are held.
+fn hold<T: Drop>(
     rows: &mut Vec<Ranked<T>>,
     barred: &mut bool,
     row: Ranked<T>,
     by: &[Direction],
     most: usize,
 ) -> Result<(), NoMemory>
-    requires { IsSound by.now most barred.old rows.old.items }
+    requires some { 0 < most }
+    requires sound { IsSound by.now most barred.old rows.old.items }
     ensures sound { IsSound by.now most barred.new rows.new.items }
     ensures ok { OnOk result (first_held by.now most rows.new.items
         ≡ first_held by.now most (first_held by.now most rows.old.items ++ row ∷ [])) }
     ensures err { OnErr result (first_held by.now most rows.new.items ≡ first_held by.now most rows.old.items) }
 {
-    if most == 0 {
-        return Ok(());
-    }
     make_room(rows, barred, by, most)?;
-    if turns_away(&row, rows.as_slice(), *barred, by, most) {
-        return Ok(());
-    }
     rows.push(row)?;
     Ok(())
 }
@@ -125,18 +141,4 @@ fn make_room<T: Drop>(
     keep_first(rows, by, most)?;
     *barred = true;
     Ok(())
-}
-
-/// Whether a row isn't before the last of the first `most`, where these were put in order once.
-fn turns_away<T>(
-    row: &Ranked<T>,
-    rows: &[Ranked<T>],
-    barred: bool,
-    by: &[Direction],
-    most: usize,
-) -> bool
-    requires { IsSound by.now most barred rows.now }
-    ensures { result ≡ turns_away by.now most barred rows.now row.now }
-{
-    barred && compare_rows(row, &rows[most - 1], by).is_ge()
 }

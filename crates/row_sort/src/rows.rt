@@ -9,7 +9,7 @@ use ft_base::{ListOf, NoMemory, Value};
 use std::cmp::Ordering;
 
 /// Something, with the values that it is ordered by, one for each key. A value that is missing counts as Null.
-#[derive(Debug, Drop)]
+#[derive(Drop)]
 pub struct Ranked<T> {
     pub values: ListOf<Value>,
     pub item: T,
