@@ -1,8 +1,8 @@
 -- The orders are total preorders: each is a few orders of std, one behind the other.
-use Rattle.std.proofs.Common.{◌≡◌, ℕ, ℤ, pos, Bool, true, false, List, [], ◌∷◌, Ordering, is_lt, refl, sym, ap, subst, ◌∙◌}
+use Rattle.std.proofs.Common.{◌≡◌, ℕ, ℤ, pos, Bool, true, false, List, [], ◌∷◌, Ordering, is_lt, refl, subst}
 use Rattle.std.specs.Cmp.{IsTotalOrder, IsStrictWeakOrder, then_total, on_total, back_total, int_cmp_total, nat_cmp_total, tied_itself}
 use Rattle.std.specs.Cmp.Lexicographic.{slice_cmp, nat_list_cmp_total}
-use Rattle.std.specs.Ordering.{int_cmp, nat_cmp, ordering_reverse, ordering_then, then_cmp, on, is_gt}
+use Rattle.std.specs.Ordering.{int_cmp, nat_cmp, ordering_reverse, ordering_then, then_cmp, on}
 use Rattle.std.specs.declared.cmp.Ordering.TheVariants.{Less, Equal, Greater}
 use Rattle.std.proofs.lemmas.List.Sorted.{ranks_by}
 use Rattle.ft_base.specs.declared.row.Value.{Value}
@@ -43,7 +43,10 @@ then-Equal Less = refl
 then-Equal Equal = refl
 then-Equal Greater = refl
 
-steps_are : (falls lower : Bool) (k l : Key) → in_steps falls lower k l ≡ key_order (record { descending = falls; lower = lower }) k l
+abbrev direction : Bool → Bool → Direction
+direction falls lower = record { descending = falls; lower = lower }
+
+steps_are : (falls lower : Bool) (k l : Key) → in_steps falls lower k l ≡ key_order (direction falls lower) k l
 steps_are false lower (Number m) (Number n) = then-Equal (int_cmp m n)
 steps_are true lower (Number m) (Number n) = then-Equal (ordering_reverse (int_cmp m n))
 steps_are false lower (Number m) (Bytes t) = refl
@@ -70,10 +73,12 @@ turned_total true o = subst IsTotalOrder (λ i x y. o.antisymm y x i) (back_tota
 in_steps_total : (falls lower : Bool) → IsTotalOrder (in_steps falls lower)
 in_steps_total falls lower =
     then_total (on_total (kind falls) nat_cmp_total)
-    (then_total (on_total number_in (turned_total falls int_cmp_total)) (on_total (text_in lower) (turned_total falls nat_list_cmp_total)))
+    (then_total (on_total number_in (turned_total falls int_cmp_total))
+    (on_total (text_in lower) (turned_total falls nat_list_cmp_total)))
 
 key_total : (by : Direction) → IsTotalOrder (key_order by)
-key_total by = subst IsTotalOrder (λ i k l. steps_are by.descending by.lower k l i) (in_steps_total by.descending by.lower)
+key_total by =
+    subst IsTotalOrder (λ i k l. steps_are by.descending by.lower k l i) (in_steps_total by.descending by.lower)
 
 pub value_total : (by : Direction) → IsTotalOrder (value_order by)
 value_total by = on_total key_of (key_total by)
@@ -86,9 +91,11 @@ level = record { antisymm = λ x y. refl; trans = λ x y z p q. p; congr = λ x 
 
 pub values_total : (keys : List Direction) → IsTotalOrder (values_order keys)
 values_total [] = level
-values_total (by ∷ keys) = then_total (on_total first_value (value_total by)) (on_total later_values (values_total keys))
+values_total (by ∷ keys) =
+    then_total (on_total first_value (value_total by)) (on_total later_values (values_total keys))
 
-pub row_total : {T : Type 0} (keys : List Direction) → IsTotalOrder (λ (left right : Ranked T). row_order keys left right)
+pub row_total : {T : Type 0} (keys : List Direction)
+    → IsTotalOrder (λ (left right : Ranked T). row_order keys left right)
 row_total keys = on_total (λ row. row.values) (values_total keys)
 
 pub row_weak : {T : Type 0} (keys : List Direction) → IsStrictWeakOrder (λ (x y : Ranked T). is_lt (row_order keys x y))

@@ -1,6 +1,6 @@
--- What is true of `sorted`: it is in order, keeps the order of ties, and is the only such list; and what its first values are
--- after one more is added.
-use Rattle.std.proofs.Common.{◌≡◌, ℕ, zero, suc, ◌+◌, ◌<◌, ◌≤◌, Bool, true, false, not, ◌&&◌, cond, List, [], ◌∷◌, ◌++◌, length, get_or, take, filter, fold, Ordering, is_lt, refl, sym, ap, subst, ◌∙◌, arith, append-nil, append_assoc, inl, inr, suc-le-suc, zero-le, add-one}
+-- What is true of `sorted`: it is in order, keeps the order of ties, and is the only such list; and what its first
+-- values are after one more is added.
+use Rattle.std.proofs.Common.{◌≡◌, ℕ, zero, suc, ◌<◌, ◌≤◌, Bool, true, false, not, cond, List, [], ◌∷◌, ◌++◌, length, get_or, take, filter, fold, Ordering, is_lt, refl, sym, ap, subst, ◌∙◌, arith, append-nil, append_assoc, inl, inr, suc-le-suc, zero-le, add-one}
 use Rattle.std.specs.Cmp.{IsStrictWeakOrder}
 use Rattle.std.specs.List.{AllByRecursion}
 use Rattle.std.specs.List.Sorted.{IsPermutation, IsSortedBy, IsStableBy, ties}
@@ -25,7 +25,8 @@ all_nil : {A : Type 0} (P : A → Type 0) (k : ℕ) → AllByRecursion P (take k
 all_nil P zero = tt
 all_nil P (suc k) = tt
 
-all_fewer : {A : Type 0} (P : A → Type 0) (k : ℕ) (xs : List A) → AllByRecursion P (take (suc k) xs) → AllByRecursion P (take k xs)
+all_fewer : {A : Type 0} (P : A → Type 0) (k : ℕ) (xs : List A) → AllByRecursion P (take (suc k) xs)
+    → AllByRecursion P (take k xs)
 all_fewer P zero xs all = tt
 all_fewer P (suc k) [] all = tt
 all_fewer P (suc k) (x ∷ xs) all = (all.0, all_fewer P k xs all.1)
@@ -88,7 +89,8 @@ module _ {A : Type 0} (order : A → A → Ordering) where
   bar_push_by zero b x ys h all = tt
   bar_push_by (suc k) b x [] h all = (h, all_nil (λ y. lt b y ≡ false) k)
   bar_push_by (suc k) b x (y ∷ ys) h all =
-      cond_both (lt x y) (x ∷ y ∷ ys) (y ∷ placed_later order x ys) (λ l. AllByRecursion (λ y. lt b y ≡ false) (take (suc k) l))
+      cond_both (lt x y) (x ∷ y ∷ ys) (y ∷ placed_later order x ys)
+      (λ l. AllByRecursion (λ y. lt b y ≡ false) (take (suc k) l))
       (λ _. (h, all_fewer (λ y. lt b y ≡ false) k (y ∷ ys) all)) (λ _. (all.0, bar_push_by k b x ys h all.1))
 
   take_later_by : (k : ℕ) (x y : A) (ys : List A) (b : Bool)
@@ -98,7 +100,8 @@ module _ {A : Type 0} (order : A → A → Ordering) where
   take_later_by k x y ys true same = ap (λ l. x ∷ l) (take-front k y ys)
   take_later_by k x y ys false same = ap (λ l. y ∷ l) same
 
-  take-placed_later : (k : ℕ) (x : A) (ys : List A) → take k (placed_later order x (take k ys)) ≡ take k (placed_later order x ys)
+  take-placed_later : (k : ℕ) (x : A) (ys : List A)
+      → take k (placed_later order x (take k ys)) ≡ take k (placed_later order x ys)
   take-placed_later zero x ys = refl
   take-placed_later (suc k) x [] = refl
   take-placed_later (suc k) x (y ∷ ys) = take_later_by k x y ys (lt x y) (take-placed_later k x ys)
@@ -116,14 +119,16 @@ module _ {A : Type 0} (order : A → A → Ordering) where
   sorted-up [] up = refl
   sorted-up (x ∷ xs) up = ap (placed order x) (sorted-up xs up.1) ∙ placed-front x xs up.0
 
-  up_from : (xs : List A) → ((i j : ℕ) (d : A) → i ≤ j → j < length xs → lt (get_or xs j d) (get_or xs i d) ≡ false) → IsUp xs
+  up_from : (xs : List A)
+      → ((i j : ℕ) (d : A) → i ≤ j → j < length xs → lt (get_or xs j d) (get_or xs i d) ≡ false) → IsUp xs
   up_from [] h = tt
   up_from (x ∷ xs) h = (
     recursion_from_All (λ y. lt y x ≡ false) xs (λ k d below. h zero (suc k) d zero-le (suc-le-suc below)),
     up_from xs (λ i j d le below. h (suc i) (suc j) d (suc-le-suc le) (suc-le-suc below)),
   )
 
-  neighbours : (xs : List A) → IsUp xs → (k : ℕ) (d : A) → suc k < length xs → lt (get_or xs (suc k) d) (get_or xs k d) ≡ false
+  neighbours : (xs : List A) → IsUp xs → (k : ℕ) (d : A) → suc k < length xs
+      → lt (get_or xs (suc k) d) (get_or xs k d) ≡ false
   neighbours [] up k d below = absurd (omega arith)
   neighbours (x ∷ []) up k d below = absurd (omega arith)
   neighbours (x ∷ y ∷ ys) up zero d below = up.0.0
@@ -170,15 +175,18 @@ module _ {A : Type 0} (order : A → A → Ordering) where
               ∙ elim (cases_Bool (lt z y)) [
                 | inl past ↦
                     placed-past y x (z ∷ zs) (both x z y here past) ∙ ap (λ l. x ∷ l) (placed-past y z zs past)
-                    ∙ sym (later-here x z (placed order y zs) here) ∙ ap (placed_later order x) (sym (placed-past y z zs past))
+                    ∙ sym (later-here x z (placed order y zs) here)
+                    ∙ ap (placed_later order x) (sym (placed-past y z zs past))
                 | inr stays ↦
                     elim (cases_Bool (lt x y)) [
                       | inl before ↦
                           placed-past y x (z ∷ zs) before ∙ ap (λ l. x ∷ l) (placed-here y z zs stays)
-                          ∙ sym (later-here x y (z ∷ zs) before) ∙ ap (placed_later order x) (sym (placed-here y z zs stays))
+                          ∙ sym (later-here x y (z ∷ zs) before)
+                          ∙ ap (placed_later order x) (sym (placed-here y z zs stays))
                       | inr behind ↦
                           placed-here y x (z ∷ zs) behind ∙ ap (λ l. y ∷ l) (sym (later-here x z zs here))
-                          ∙ sym (later-past x y (z ∷ zs) behind) ∙ ap (placed_later order x) (sym (placed-here y z zs stays))
+                          ∙ sym (later-past x y (z ∷ zs) behind)
+                          ∙ ap (placed_later order x) (sym (placed-here y z zs stays))
                     ]
               ]
           | inr further ↦
@@ -186,7 +194,8 @@ module _ {A : Type 0} (order : A → A → Ordering) where
               ∙ elim (cases_Bool (lt z y)) [
                 | inl past ↦
                     placed-past y z (placed_later order x zs) past ∙ ap (λ l. z ∷ l) (swap x y zs)
-                    ∙ sym (later-past x z (placed order y zs) further) ∙ ap (placed_later order x) (sym (placed-past y z zs past))
+                    ∙ sym (later-past x z (placed order y zs) further)
+                    ∙ ap (placed_later order x) (sym (placed-past y z zs past))
                 | inr stays ↦
                     placed-here y z (placed_later order x zs) stays ∙ ap (λ l. y ∷ l) (sym (later-past x z zs further))
                     ∙ sym (later-past x y (z ∷ zs) (w.chain x z y further stays))
@@ -224,7 +233,8 @@ module _ {A : Type 0} (order : A → A → Ordering) where
     sorted-again : (k : ℕ) (xs : List A) → sorted order (take k (sorted order xs)) ≡ take k (sorted order xs)
     sorted-again k xs = sorted-up (take k (sorted order xs)) (up_take k (sorted order xs) (up_sorted xs))
 
-    pub first-again : (k : ℕ) (xs : List A) → take k (sorted order (take k (sorted order xs))) ≡ take k (sorted order xs)
+    pub first-again : (k : ℕ) (xs : List A)
+        → take k (sorted order (take k (sorted order xs))) ≡ take k (sorted order xs)
     first-again k xs = ap (take k) (sorted-again k xs) ∙ take-take k k (sorted order xs) (omega arith)
 
     pub first-push : (k : ℕ) (xs : List A) (x : A)
@@ -258,18 +268,22 @@ module _ {A : Type 0} (order : A → A → Ordering) where
         → take k (sorted order (take k (sorted order xs) ++ x ∷ [])) ≡ take k (sorted order xs)
     away k b x xs long h all =
         first-push k xs x ∙ ap (take k) (sorted-push xs x)
-        ∙ turned_away k x (sorted order xs) (omega (arith, length-sorted xs)) (behind_bar x b (take k (sorted order xs)) h all)
+        ∙ turned_away k x (sorted order xs) (omega (arith, length-sorted xs))
+        (behind_bar x b (take k (sorted order xs)) h all)
 
     first_by_one : (k : ℕ) (xs ys : List A)
-        → fold (λ first x. take k (sorted order (first ++ x ∷ []))) (take k (sorted order xs)) ys ≡ take k (sorted order (xs ++ ys))
+        → fold (λ first x. take k (sorted order (first ++ x ∷ []))) (take k (sorted order xs)) ys
+        ≡ take k (sorted order (xs ++ ys))
     first_by_one k xs [] = ap (λ l. take k (sorted order l)) (sym (append-nil xs))
     first_by_one k xs (y ∷ ys) =
         ap (λ first. fold (λ first x. take k (sorted order (first ++ x ∷ []))) first ys) (first-push k xs y)
         ∙ first_by_one k (xs ++ y ∷ []) ys ∙ ap (λ l. take k (sorted order l)) (append_assoc xs (y ∷ []) ys)
 
-    pub first_by_ones : (k : ℕ) (xs : List A) → fold (λ first x. take k (sorted order (first ++ x ∷ []))) [] xs ≡ take k (sorted order xs)
+    pub first_by_ones : (k : ℕ) (xs : List A)
+        → fold (λ first x. take k (sorted order (first ++ x ∷ []))) [] xs ≡ take k (sorted order xs)
     first_by_ones k xs =
-        ap (λ first. fold (λ first x. take k (sorted order (first ++ x ∷ []))) first xs) (sym (take-nil k)) ∙ first_by_one k [] xs
+        ap (λ first. fold (λ first x. take k (sorted order (first ++ x ∷ []))) first xs) (sym (take-nil k))
+        ∙ first_by_one k [] xs
 
     -- the last of a sorted list is before none of it
     pub last_bar : (j : ℕ) (zs : List A) (d : A) → IsUp zs → length zs ≡ suc j
@@ -283,7 +297,8 @@ module _ {A : Type 0} (order : A → A → Ordering) where
     )
 
     tie_parts : (x y : A) → ties lt x y ≡ true → (lt x y ≡ false) × (lt y x ≡ false)
-    tie_parts x y h = let parts = and_parts (not (lt x y)) (not (lt y x)) h in (not-true (lt x y) parts.0, not-true (lt y x) parts.1)
+    tie_parts x y h =
+        let parts = and_parts (not (lt x y)) (not (lt y x)) h in (not-true (lt x y) parts.0, not-true (lt y x) parts.1)
 
     tie_from : (x y : A) → lt x y ≡ false → lt y x ≡ false → ties lt x y ≡ true
     tie_from x y p q = and_from (not (lt x y)) (not (lt y x)) (not_from_false (lt x y) p) (not_from_false (lt y x) q)
@@ -327,7 +342,8 @@ module _ {A : Type 0} (order : A → A → Ordering) where
     only (y ∷ ys) (z ∷ zs) up right same =
         let at_y = filter-kept (ties lt y) y ys (tie_itself y) in
         let at_z = filter-kept (ties lt z) z zs (tie_itself z) in
-        let down : lt y z ≡ false = found z y (z ∷ zs) y (filter (ties lt y) ys) (never z, right.0) (sym (same y) ∙ at_y) in
+        let down : lt y z ≡ false =
+        found z y (z ∷ zs) y (filter (ties lt y) ys) (never z, right.0) (sym (same y) ∙ at_y) in
         let back : lt z y ≡ false = found y z (y ∷ ys) z (filter (ties lt z) zs) (never y, up.0) (same z ∙ at_z) in
         let heads = sym at_y ∙ same y ∙ filter-kept (ties lt y) z zs (tie_from y z down back) in
         let head : y ≡ z = cc in
@@ -344,7 +360,8 @@ module _ {A : Type 0} (order : A → A → Ordering) where
 
     pub sorted_only : (xs ys : List A) → IsSortedBy lt ys → IsStableBy lt xs ys → ys ≡ sorted order xs
     sorted_only xs ys up stable =
-        only ys (sorted order xs) (up_from ys (sorted_far lt w ys up)) (up_sorted xs) (λ x. stable x ∙ sym (sorted-stable x xs))
+        only ys (sorted order xs) (up_from ys (sorted_far lt w ys up)) (up_sorted xs)
+        (λ x. stable x ∙ sym (sorted-stable x xs))
 
     pub sorted-sorted : (xs : List A) → IsSortedBy lt (sorted order xs)
     sorted-sorted xs = λ k d low high. rw add-one (neighbours (sorted order xs) (up_sorted xs) k d (omega arith))

@@ -25,5 +25,6 @@ ranked_code {T} code =
 
 abbrev pub first_code : {T : Type 0} → Coded T → Coded (First T)
 first_code {T} code =
-    code_by (List Direction × (ℕ × List (Ranked T))) (coded× (coded_list direction_code) (coded× coded_ℕ (coded_list (ranked_code code))))
+    code_by (List Direction × (ℕ × List (Ranked T)))
+    (coded× (coded_list direction_code) (coded× coded_ℕ (coded_list (ranked_code code))))
     (λ f. (f.by, (f.most, f.rows))) (λ p. record { by = p.0; most = p.1.0; rows = p.1.1 }) (λ _. refl)

@@ -15,7 +15,8 @@ first_held by most rows = take most (sorted (row_order by) rows)
 pub record HasBar {T : Type 0} (by : List Direction) (most : ℕ) (rows : List (Ranked T)) : Type 0 where
   pub some : 0 < most
   pub enough : most ≤ length rows
-  pub behind : (d : Ranked T) → AllByRecursion (λ row. is_lt (row_order by (slice_index_or rows (most - 1) d) row) ≡ false) (first_held by most rows)
+  pub behind : (d : Ranked T)
+      → AllByRecursion (λ row. is_lt (row_order by (slice_index_or rows (most - 1) d) row) ≡ false) (first_held by most rows)
 
 -- they are at most twice as many, and where they were put in order once there is a bar
 pub record IsSound {T : Type 0} (by : List Direction) (most : ℕ) (barred : Bool) (rows : List (Ranked T)) : Type 0 where

@@ -39,7 +39,7 @@ abbrev pub lowered : Bool → List ℕ → List ℕ
 lowered false text = text
 lowered true text = str_to_ascii_lowercase text
 
--- Numbers come before texts, and both before the others, which tie. What is descending turns the order of numbers and texts.
+-- Numbers come before texts, and both before the others, which tie. Descending turns the order of numbers and texts.
 abbrev pub key_order : Direction → Key → Key → Ordering
 key_order by (Number m) (Number n) = turned by.descending (int_cmp m n)
 key_order by (Number m) (Bytes t) = turned by.descending Less
@@ -69,7 +69,8 @@ later_values (v ∷ values) = values
 abbrev pub values_order : List Direction → List Value → List Value → Ordering
 values_order [] vs ws = Equal
 values_order (by ∷ keys) vs ws =
-    ordering_then (value_order by (first_value vs) (first_value ws)) (values_order keys (later_values vs) (later_values ws))
+    ordering_then (value_order by (first_value vs) (first_value ws))
+    (values_order keys (later_values vs) (later_values ws))
 
 -- the order of two rows
 abbrev pub row_order : {T : Type 0} → List Direction → Ranked T → Ranked T → Ordering

@@ -81,7 +81,13 @@ impl<T> FirstRows<T> {
 }
 
 /// Whether a row would not be among the first `most`. Once they were put in order one comparison tells.
-fn turns_away<T>(row: &Ranked<T>, rows: &[Ranked<T>], barred: bool, by: &[Direction], most: usize) -> bool
+fn turns_away<T>(
+    row: &Ranked<T>,
+    rows: &[Ranked<T>],
+    barred: bool,
+    by: &[Direction],
+    most: usize,
+) -> bool
     requires { IsSound by.now most barred rows.now }
     ensures away { OnTrue result (first_held by.now most (first_held by.now most rows.now ++ row.now ∷ [])
         ≡ first_held by.now most rows.now) }

@@ -10,7 +10,7 @@ ghost use Rattle.row_sort.specs.Sorting.{sorted};
 ghost use Rattle.row_sort.specs.declared.order.Direction.{Direction};
 ghost use Rattle.row_sort.specs.declared.rows.Ranked.{Ranked};
 
-/// The order is a total preorder: a value ties with itself, two that are turned round are in the turned order, and it is
+/// The order is a total preorder: a value ties with itself, two that change places are in the turned order, and it is
 /// transitive. So is the order of rows by several keys.
 pub fn order_is_lawful<T>()
     ensures itself { (by : Direction) (value : Value) → value_order by value value ≡ Equal }
@@ -33,7 +33,7 @@ pub fn sorted_is_stable<T>()
 pub fn first_of_all<T>()
     ensures one { (order : T → T → Answer) (most : ℕ) (xs : List T) (x : T) → IsTotalOrder order
         → take most (sorted order (take most (sorted order xs) ++ x ∷ []))
-            ≡ take most (sorted order (xs ++ x ∷ [])) }
+        ≡ take most (sorted order (xs ++ x ∷ [])) }
     ensures all { (order : T → T → Answer) (most : ℕ) (xs : List T) → IsTotalOrder order
         → fold (λ first x. take most (sorted order (first ++ x ∷ []))) [] xs ≡ take most (sorted order xs) }
 {}

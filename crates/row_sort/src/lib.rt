@@ -1,8 +1,8 @@
 //! The stable order of rows by the values of keys, and the first so many rows of that order.
 //!
 //! Nums come first, by number, then Texts, by their bytes, then Null and Lists, which tie with each other. Descending
-//! turns the order of Nums and Texts alone. The first key at which two rows differ decides, and rows that tie keep their
-//! order. `FirstRows` holds no more than twice the rows that are wanted, however many are offered.
+//! turns the order of Nums and Texts alone. The first key at which two rows differ decides, and rows that tie keep
+//! their order. `FirstRows` holds no more than twice the rows that are wanted, however many are offered.
 //! Read `specs/Order.antt` and `specs/Sorting.antt` first, then `rows.rt` and `first_rows.rt`.
 #![tactic(auto)]
 

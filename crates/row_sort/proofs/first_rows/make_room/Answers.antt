@@ -1,6 +1,6 @@
-use Rattle.std.proofs.Common.{◌≡◌, ◌*◌, ◌≤◌, List, length, ap, sym, subst, ◌∙◌, arith}
+use Rattle.std.proofs.Common.{◌*◌, ◌≤◌, length, ap, sym, subst, ◌∙◌, arith}
 use Rattle.row_sort.specs.Held.{first_held, IsSound}
-use Rattle.row_sort.proofs.HeldLaws.{held_again, cut_sound, cut_room}
+use Rattle.row_sort.proofs.HeldLaws.{held_again, cut_sound}
 use Rattle.row_sort.proofs.first_rows.make_room.Goals as goal
 
 pub returns-clause-same : goal.returns-clause-same

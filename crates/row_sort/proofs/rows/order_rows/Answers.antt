@@ -11,5 +11,6 @@ returns-clause-ok g c =
     let by = c.args.by.now in
     let answers = always_returns_same _ _ _ (λ a r f k. search (rules, of_calls)) in
     on_ok_weaker c.sort_by.result
-    (λ up. sorted_only (row_order by) (row_weak by) _ _ (up _ (row_weak by) answers) (c.sort_by.ensures.stable _ (row_weak by) answers))
+    (λ up. sorted_only (row_order by) (row_weak by) _ _ (up _ (row_weak by) answers)
+    (c.sort_by.ensures.stable _ (row_weak by) answers))
     c.sort_by.ensures.sorted
