@@ -1,6 +1,17 @@
 mod EscapingLemmas
+mod Examples
+mod InTags
 mod Lexing
+mod ParamsSpelled
+mod PiecesSpelled
+mod QuotesSpelled
+mod RawSpelled
 mod Rising
+mod RolesSpelled
 mod Runs
 mod SpelledLemmas
+mod Standing
+mod Taken
+mod TextSpelled
 mod Trimming
+mod WordsSpelled

@@ -24,6 +24,10 @@ mod word;
 pub use fault::LexFault;
 /// Any word can be written in a text.
 pub use laws::escaped_word_is_read;
+/// Lexemes and separators spell their text.
+pub use laws::lexemes_spell_the_text;
+/// A text has one answer.
+pub use laws::one_list_of_lexemes;
 /// A part of a query's text.
 pub use lexeme::{LexKind, Lexeme, Sign};
 /// The lexemes of a text.

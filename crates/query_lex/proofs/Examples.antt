@@ -1,0 +1,81 @@
+-- What the definition says of a few texts: which lexemes spell them, and which do not.
+use Rattle.std.proofs.Common.{◌≡◌, ℕ, ◌⊎◌, Bool, true, false, true≢false, List, [], ◌∷◌, codes, refl, ap, sym, subst, inl, inr, arith}
+use Rattle.query_lex.specs.declared.lexeme.LexKind.{LexKind}
+use Rattle.query_lex.specs.declared.lexeme.LexKind.TheVariants as kinds
+use Rattle.query_lex.specs.declared.lexeme.Lexeme.{Lexeme}
+use Rattle.query_lex.specs.declared.lexeme.Sign.TheVariants as signs
+use Rattle.query_lex.specs.Spelling.{quoted_end, quoted_byte, tag_end, tag_byte, tag_escape}
+use Rattle.query_lex.specs.Spells.{only_separates, SpellsIn, no_more, separator, lexeme, Spells}
+
+abbrev put : ℕ → LexKind → Lexeme
+put at kind = record { at = at; kind = kind }
+
+-- words, a quote and signs; the blank in the quote is of it, the other one separates
+words :
+    Spells 0 (codes "@t:(a \"b c\")")
+    (put 0 (kinds.Sign signs.At) ∷ put 1 (kinds.Word (codes "t")) ∷ put 2 (kinds.Sign signs.Colon) ∷ put 3 (kinds.Sign signs.Open) ∷ put 4 (kinds.Word (codes "a")) ∷ put 6 (kinds.Quote (codes "b c")) ∷ put 11 (kinds.Sign signs.Close) ∷ [])
+words =
+    lexeme (codes "@") (omega arith) refl
+    (lexeme (codes "t") (omega arith) refl
+    (lexeme (codes ":") (omega arith) refl
+    (lexeme (codes "(") (omega arith) refl
+    (lexeme (codes "a") (omega arith) refl
+    (separator refl
+    (lexeme (codes "\"b c\"") (omega arith) (refl, quoted_byte refl (quoted_byte refl (quoted_byte refl quoted_end)))
+    (lexeme (codes ")") (omega arith) refl no_more)))))))
+
+-- a tag whose bar is escaped, and a prefix; a bar and blanks stand between them
+tags :
+    Spells 0 (codes "@t:{a\\|b | c* }")
+    (put 0 (kinds.Sign signs.At) ∷ put 1 (kinds.Word (codes "t")) ∷ put 2 (kinds.Sign signs.Colon) ∷ put 3 (kinds.Sign signs.TagOpen) ∷ put 4 (kinds.Tag (codes "a|b") false) ∷ put 11 (kinds.Tag (codes "c") true) ∷ put 14 (kinds.Sign signs.TagClose) ∷ [])
+tags =
+    lexeme (codes "@") (omega arith) refl
+    (lexeme (codes "t") (omega arith) refl
+    (lexeme (codes ":") (omega arith) refl
+    (lexeme (codes "{") (omega arith) refl
+    (lexeme (codes "a\\|b") (omega arith) (tag_byte refl (tag_escape (tag_byte refl tag_end)))
+    (separator refl (separator refl (separator refl
+    (lexeme (codes "c*") (omega arith) (tag_byte refl tag_end)
+    (separator refl
+    (lexeme (codes "}") (omega arith) refl no_more))))))))))
+
+-- an escaped blank is of its word, and a `$` without a name is of nothing
+escaped : Spells 0 (codes "red\\ wine $ $c") (put 0 (kinds.Word (codes "red wine")) ∷ put 12 (kinds.Param (codes "c")) ∷ [])
+escaped =
+    lexeme (codes "red\\ wine") (omega arith) refl
+    (separator refl (separator refl (separator refl
+    (lexeme (codes "$c") (omega arith) (refl, refl) no_more))))
+
+-- A lexeme stands at the next byte, unless that only separates.
+next_place : {is_in : Bool} {at : ℕ} {text : List ℕ} {found : List Lexeme} → SpellsIn is_in at text found → (b : ℕ) (rest : List ℕ) (first : Lexeme) (others : List Lexeme)
+    → text ≡ b ∷ rest → found ≡ first ∷ others → (first.at ≡ at) ⊎ (only_separates is_in b rest ≡ true)
+next_place no_more b rest first others text found = absurd cc
+next_place (separator {in_tags = is_in} {b = c} {text = more} separates spells) b rest first others text found =
+    let same : c ≡ b = cc in
+    let behind : more ≡ rest = cc in
+    inr (subst (λ (bytes : List ℕ). only_separates is_in b bytes ≡ true) behind (subst (λ (byte : ℕ). only_separates is_in byte more ≡ true) same separates))
+next_place (lexeme {at = place} {kind = kind} bytes some spelling spells) b rest first others text found =
+    let same : put place kind ≡ first = cc in
+    inl (sym (ap (λ (x : Lexeme). x.at) same))
+
+-- the byte of a word does not separate, so the word stands nowhere but at it
+wrong_offset : Spells 0 (codes "a") (put 1 (kinds.Word (codes "a")) ∷ []) → ⊥
+wrong_offset spells =
+    elim (next_place spells 97 [] (put 1 (kinds.Word (codes "a"))) [] refl refl) [ inl at ↦ omega (arith, at) | inr separates ↦ true≢false (sym separates) ]
+
+-- a bar outside the braces of tags is a sign of its own
+lost_bar : Spells 0 (codes "|a") (put 1 (kinds.Word (codes "a")) ∷ []) → ⊥
+lost_bar spells =
+    elim (next_place spells 124 (codes "a") (put 1 (kinds.Word (codes "a"))) [] refl refl) [ inl at ↦ omega (arith, at) | inr separates ↦ true≢false (sym separates) ]
+
+-- a parameter is not passed over
+lost_param : Spells 0 (codes "$c") [] → ⊥
+lost_param spells = by_text spells refl refl
+  where
+    by_text : {is_in : Bool} {at : ℕ} {text : List ℕ} {found : List Lexeme} → SpellsIn is_in at text found → text ≡ codes "$c" → found ≡ [] → ⊥
+    by_text no_more text found = cc
+    by_text (separator {in_tags = is_in} {b = c} {text = more} separates spells) text found =
+        let same : c ≡ 36 = cc in
+        let behind : more ≡ codes "c" = cc in
+        true≢false (sym (subst (λ (bytes : List ℕ). only_separates is_in 36 bytes ≡ true) behind (subst (λ (byte : ℕ). only_separates is_in byte more ≡ true) same separates)))
+    by_text (lexeme bytes some spelling spells) text found = cc

@@ -1,0 +1,43 @@
+-- Which text a list of lexemes spells, with what only separates them.
+use Rattle.std.specs.Prelude.{ℕ, suc, ◌+◌, ◌<◌, List, [], ◌∷◌, ◌++◌, length, Bool, true, false, ◌&&◌, not, ◌==◌, nat_eq, IsTrue, codes, if◌then◌else◌}
+use Rattle.std.specs.List.{list_any}
+use Rattle.query_lex.specs.declared.lexeme.LexKind.{LexKind}
+use Rattle.query_lex.specs.declared.lexeme.LexKind.TheVariants as kinds
+use Rattle.query_lex.specs.declared.lexeme.Lexeme.{Lexeme}
+use Rattle.query_lex.specs.declared.lexeme.Sign.TheVariants.{TagOpen, TagClose}
+use Rattle.query_lex.specs.Bytes.{is_of_name, comes, is_at}
+use Rattle.query_lex.specs.Spelling.{IsSpelling}
+use Rattle.token_text.specs.Tokens.{is_separator}
+
+-- bytes that are of a lexeme wherever they stand
+abbrev pub is_kept : ℕ → Bool
+is_kept b = list_any (nat_eq b) (codes "\"%()*-:@[\\]{}~")
+
+-- Whether a byte only separates, before the rest: `|` in the braces of tags, `$` where no name follows, `=` where no `>`
+-- does, and each other separator that is of no lexeme.
+abbrev pub only_separates : Bool → ℕ → List ℕ → Bool
+only_separates in_tags b rest =
+    if b == 124 then in_tags
+    else (if b == 36 then not (comes is_of_name rest)
+    else (if b == 61 then not (is_at 62 rest)
+    else is_separator b && not (is_kept b)))
+
+-- The braces of tags go from the sign that opens them to the one that closes them.
+abbrev pub in_tags_behind : Bool → LexKind → Bool
+in_tags_behind in_tags (kinds.Sign TagOpen) = true
+in_tags_behind in_tags (kinds.Sign TagClose) = false
+in_tags_behind in_tags other = in_tags
+
+-- From an offset on, in the braces of tags or not: the text ends, or a byte only separates, or a lexeme stands there, of
+-- one byte at least, and the others behind it.
+pub data SpellsIn : Bool → ℕ → List ℕ → List Lexeme → Type 0 where
+  no_more : {in_tags : Bool} {at : ℕ} → SpellsIn in_tags at [] []
+  separator : {in_tags : Bool} {at b : ℕ} {text : List ℕ} {found : List Lexeme}
+      → IsTrue (only_separates in_tags b text) → SpellsIn in_tags (suc at) text found → SpellsIn in_tags at (b ∷ text) found
+  lexeme : {in_tags : Bool} {at : ℕ} {kind : LexKind} (bytes : List ℕ) {text : List ℕ} {found : List Lexeme}
+      → 0 < length bytes → IsSpelling kind bytes → SpellsIn (in_tags_behind in_tags kind) (at + length bytes) text found
+      → SpellsIn in_tags at (bytes ++ text) (record { at = at; kind = kind } ∷ found)
+
+-- From this offset on, the lexemes and what separates them spell the text.
+abbrev pub Spells : ℕ → List ℕ → List Lexeme → Type 0
+Spells at text found = SpellsIn false at text found
