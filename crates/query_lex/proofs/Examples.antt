@@ -15,36 +15,36 @@ words :
     Spells 0 (codes "@t:(a \"b c\")")
     (put 0 (kinds.Sign signs.At) ∷ put 1 (kinds.Word (codes "t")) ∷ put 2 (kinds.Sign signs.Colon) ∷ put 3 (kinds.Sign signs.Open) ∷ put 4 (kinds.Word (codes "a")) ∷ put 6 (kinds.Quote (codes "b c")) ∷ put 11 (kinds.Sign signs.Close) ∷ [])
 words =
-    lexeme (codes "@") (omega arith) refl
-    (lexeme (codes "t") (omega arith) refl
-    (lexeme (codes ":") (omega arith) refl
-    (lexeme (codes "(") (omega arith) refl
-    (lexeme (codes "a") (omega arith) refl
+    lexeme (codes "@") (omega arith) refl refl
+    (lexeme (codes "t") (omega arith) refl refl
+    (lexeme (codes ":") (omega arith) refl refl
+    (lexeme (codes "(") (omega arith) refl refl
+    (lexeme (codes "a") (omega arith) refl refl
     (separator refl
-    (lexeme (codes "\"b c\"") (omega arith) (refl, quoted_byte refl (quoted_byte refl (quoted_byte refl quoted_end)))
-    (lexeme (codes ")") (omega arith) refl no_more)))))))
+    (lexeme (codes "\"b c\"") (omega arith) (refl, quoted_byte refl (quoted_byte refl (quoted_byte refl quoted_end))) refl
+    (lexeme (codes ")") (omega arith) refl refl no_more)))))))
 
 -- a tag whose bar is escaped, and a prefix; a bar and blanks stand between them
 tags :
     Spells 0 (codes "@t:{a\\|b | c* }")
     (put 0 (kinds.Sign signs.At) ∷ put 1 (kinds.Word (codes "t")) ∷ put 2 (kinds.Sign signs.Colon) ∷ put 3 (kinds.Sign signs.TagOpen) ∷ put 4 (kinds.Tag (codes "a|b") false) ∷ put 11 (kinds.Tag (codes "c") true) ∷ put 14 (kinds.Sign signs.TagClose) ∷ [])
 tags =
-    lexeme (codes "@") (omega arith) refl
-    (lexeme (codes "t") (omega arith) refl
-    (lexeme (codes ":") (omega arith) refl
-    (lexeme (codes "{") (omega arith) refl
-    (lexeme (codes "a\\|b") (omega arith) (tag_byte refl (tag_escape (tag_byte refl tag_end)))
+    lexeme (codes "@") (omega arith) refl refl
+    (lexeme (codes "t") (omega arith) refl refl
+    (lexeme (codes ":") (omega arith) refl refl
+    (lexeme (codes "{") (omega arith) refl refl
+    (lexeme (codes "a\\|b") (omega arith) (tag_byte refl (tag_escape (tag_byte refl tag_end))) refl
     (separator refl (separator refl (separator refl
-    (lexeme (codes "c*") (omega arith) (tag_byte refl tag_end)
+    (lexeme (codes "c*") (omega arith) (tag_byte refl tag_end) refl
     (separator refl
-    (lexeme (codes "}") (omega arith) refl no_more))))))))))
+    (lexeme (codes "}") (omega arith) refl refl no_more))))))))))
 
 -- an escaped blank is of its word, and a `$` without a name is of nothing
 escaped : Spells 0 (codes "red\\ wine $ $c") (put 0 (kinds.Word (codes "red wine")) ∷ put 12 (kinds.Param (codes "c")) ∷ [])
 escaped =
-    lexeme (codes "red\\ wine") (omega arith) refl
+    lexeme (codes "red\\ wine") (omega arith) refl refl
     (separator refl (separator refl (separator refl
-    (lexeme (codes "$c") (omega arith) (refl, refl) no_more))))
+    (lexeme (codes "$c") (omega arith) (refl, refl) refl no_more))))
 
 -- A lexeme stands at the next byte, unless that only separates.
 next_place : {is_in : Bool} {at : ℕ} {text : List ℕ} {found : List Lexeme} → SpellsIn is_in at text found → (b : ℕ) (rest : List ℕ) (first : Lexeme) (others : List Lexeme)
@@ -54,7 +54,7 @@ next_place (separator {in_tags = is_in} {b = c} {text = more} separates spells) 
     let same : c ≡ b = cc in
     let behind : more ≡ rest = cc in
     inr (subst (λ (bytes : List ℕ). only_separates is_in b bytes ≡ true) behind (subst (λ (byte : ℕ). only_separates is_in byte more ≡ true) same separates))
-next_place (lexeme {at = place} {kind = kind} bytes some spelling spells) b rest first others text found =
+next_place (lexeme {at = place} {kind = kind} bytes some spelling whole spells) b rest first others text found =
     let same : put place kind ≡ first = cc in
     inl (sym (ap (λ (x : Lexeme). x.at) same))
 
@@ -78,4 +78,4 @@ lost_param spells = by_text spells refl refl
         let same : c ≡ 36 = cc in
         let behind : more ≡ codes "c" = cc in
         true≢false (sym (subst (λ (bytes : List ℕ). only_separates is_in 36 bytes ≡ true) behind (subst (λ (byte : ℕ). only_separates is_in byte more ≡ true) same separates)))
-    by_text (lexeme bytes some spelling spells) text found = cc
+    by_text (lexeme bytes some spelling whole spells) text found = cc

@@ -5,7 +5,7 @@ use Rattle.std.specs.List.{list_all, prefix_len}
 use Rattle.std.proofs.lemmas.Bool.{ltb-false, and_parts, and_from, not_from_false}
 use Rattle.std.proofs.lemmas.List.Sums.{prefix_len-le-length}
 use Rattle.query_lex.specs.declared.lexeme.LexKind.TheVariants.{Param, ParamPrefix}
-use Rattle.query_lex.specs.Bytes.{is_of_name, is_at}
+use Rattle.query_lex.specs.Bytes.{is_of_name, comes, is_at}
 use Rattle.query_lex.specs.Spelling.{names_param}
 use Rattle.query_lex.specs.Words.{Found, ends_name, name_length, param_with, param_at}
 use Rattle.query_lex.proofs.Standing.{StandsSo, took, at-next}
@@ -35,35 +35,46 @@ name-bytes (b ∷ bytes) = by_test (is_of_name b) refl (name-bytes bytes)
         ap (λ (n : ℕ). list_all is_of_name (take n (b ∷ bytes))) (one-add (named bytes)) ∙ and_from (is_of_name b) (list_all is_of_name (take (named bytes) bytes)) e others
     by_test false e others = refl
 
+-- and none comes behind them
+name-ends : (bytes : List ℕ) → comes is_of_name (drop (named bytes) bytes) ≡ false
+name-ends [] = refl
+name-ends (b ∷ bytes) = by_test (is_of_name b) refl (name-ends bytes)
+  where
+    by_test : (is : Bool) → is_of_name b ≡ is → comes is_of_name (drop (named bytes) bytes) ≡ false
+        → comes is_of_name (drop (cond (not (not is)) (1 + named bytes) 0) (b ∷ bytes)) ≡ false
+    by_test true e others = ap (λ (n : ℕ). comes is_of_name (drop n (b ∷ bytes))) (one-add (named bytes)) ∙ others
+    by_test false e others = e
+
 -- a name comes
-name-stands : (in_tags may_be_prefix : Bool) (b : ℕ) (name behind rest : List ℕ) → rest ≡ (b ∷ name) ++ behind → names_param (b ∷ name) ≡ true
-    → StandsSo in_tags 36 rest (param_with may_be_prefix (b ∷ name) behind)
-name-stands in_tags may_be_prefix b name behind rest whole names = by_test (may_be_prefix && is_at 42 behind) refl
+name-stands : (may_be_prefix : Bool) (b : ℕ) (name behind rest : List ℕ) → rest ≡ (b ∷ name) ++ behind → names_param (b ∷ name) ≡ true → comes is_of_name behind ≡ false
+    → StandsSo false 36 rest (param_with may_be_prefix (b ∷ name) behind)
+name-stands may_be_prefix b name behind rest whole names ends = by_test (may_be_prefix && is_at 42 behind) refl
   where
     by_test : (is : Bool) → (may_be_prefix && is_at 42 behind) ≡ is
-        → StandsSo in_tags 36 rest (cond {A = Found} is (Some (ParamPrefix (b ∷ name)), drop 1 behind) (Some (Param (b ∷ name)), behind))
+        → StandsSo false 36 rest (cond {A = Found} is (Some (ParamPrefix (b ∷ name)), drop 1 behind) (Some (Param (b ∷ name)), behind))
     by_test true e =
         let star = at-next 42 behind (and_parts may_be_prefix (is_at 42 behind) e).1 in
-        took (36 ∷ rest) (ParamPrefix (b ∷ name)) (drop 1 behind) (36 ∷ ((b ∷ name) ++ 42 ∷ [])) (omega arith)
+        took false (36 ∷ rest) (ParamPrefix (b ∷ name)) (drop 1 behind) (36 ∷ ((b ∷ name) ++ 42 ∷ [])) (omega arith)
         (ap (λ (bytes : List ℕ). 36 ∷ bytes) (whole ∙ ap (λ (more : List ℕ). (b ∷ name) ++ more) star ∙ sym (append_assoc (b ∷ name) (42 ∷ []) (drop 1 behind))))
-        (refl, names)
-    by_test false e = took (36 ∷ rest) (Param (b ∷ name)) behind (36 ∷ b ∷ name) (omega arith) (ap (λ (bytes : List ℕ). 36 ∷ bytes) whole) (refl, names)
+        (refl, names) refl
+    by_test false e =
+        took false (36 ∷ rest) (Param (b ∷ name)) behind (36 ∷ b ∷ name) (omega arith) (ap (λ (bytes : List ℕ). 36 ∷ bytes) whole) (refl, names) (not_from_false (comes is_of_name behind) ends)
 
 -- what stands behind so many bytes
-abbrev Behind : Bool → Bool → List ℕ → ℕ → Type 0
-Behind in_tags may_be_prefix rest n = StandsSo in_tags 36 rest (param_with may_be_prefix (take n rest) (drop n rest))
+abbrev Behind : Bool → List ℕ → ℕ → Type 0
+Behind may_be_prefix rest n = StandsSo false 36 rest (param_with may_be_prefix (take n rest) (drop n rest))
 
-by-name : (in_tags may_be_prefix : Bool) (rest : List ℕ) → Behind in_tags may_be_prefix rest (named rest)
-by-name in_tags may_be_prefix [] = (refl, refl)
-by-name in_tags may_be_prefix (b ∷ rest) = by_test (is_of_name b) refl
+by-name : (may_be_prefix : Bool) (rest : List ℕ) → Behind may_be_prefix rest (named rest)
+by-name may_be_prefix [] = (refl, refl)
+by-name may_be_prefix (b ∷ rest) = by_test (is_of_name b) refl
   where
-    by_test : (is : Bool) → is_of_name b ≡ is → Behind in_tags may_be_prefix (b ∷ rest) (cond (not (not is)) (1 + named rest) 0)
+    by_test : (is : Bool) → is_of_name b ≡ is → Behind may_be_prefix (b ∷ rest) (cond (not (not is)) (1 + named rest) 0)
     by_test true e =
-        subst (Behind in_tags may_be_prefix (b ∷ rest)) (sym (one-add (named rest)))
-        (name-stands in_tags may_be_prefix b (take (named rest) rest) (drop (named rest) rest) (b ∷ rest)
-        (ap (λ (bytes : List ℕ). b ∷ bytes) (sym (take-append-drop (named rest) rest))) (and_from (is_of_name b) (list_all is_of_name (take (named rest) rest)) e (name-bytes rest)))
+        subst (Behind may_be_prefix (b ∷ rest)) (sym (one-add (named rest)))
+        (name-stands may_be_prefix b (take (named rest) rest) (drop (named rest) rest) (b ∷ rest)
+        (ap (λ (bytes : List ℕ). b ∷ bytes) (sym (take-append-drop (named rest) rest))) (and_from (is_of_name b) (list_all is_of_name (take (named rest) rest)) e (name-bytes rest)) (name-ends rest))
     by_test false e = (refl, not_from_false (is_of_name b) e)
 
-pub param-stands : (in_tags may_be_prefix : Bool) (rest : List ℕ) → StandsSo in_tags 36 rest (param_at may_be_prefix rest)
+pub param-stands : (may_be_prefix : Bool) (rest : List ℕ) → StandsSo false 36 rest (param_at may_be_prefix rest)
 unfolding param_at
-param-stands in_tags may_be_prefix rest = subst (Behind in_tags may_be_prefix rest) (sym (name-length rest)) (by-name in_tags may_be_prefix rest)
+param-stands may_be_prefix rest = subst (Behind may_be_prefix rest) (sym (name-length rest)) (by-name may_be_prefix rest)

@@ -1,8 +1,8 @@
 -- A piece of a tag brace stands before the blanks that are trimmed off it, each byte as it is or behind a backslash.
-use Rattle.std.proofs.Common.{◌≡◌, ℕ, zero, suc, ◌+◌, ◌-◌, ◌<◌, Bool, true, false, cond, not, eqb, List, [], ◌∷◌, ◌++◌, length, get_or, take, drop, replicate, Option, Some, None, Ok, IfOk, IfSome, codes, refl, ap, sym, ◌∙◌, subst, append_assoc, append-nil, take-append-drop, length-append, arith}
-use Rattle.std.specs.Prelude.{◌||◌}
+use Rattle.std.proofs.Common.{◌≡◌, ℕ, zero, suc, ◌+◌, ◌-◌, ◌<◌, Bool, true, false, cond, not, eqb, List, [], ◌∷◌, ◌++◌, length, get_or, take, drop, replicate, Option, Some, None, Ok, IfOk, IfSome, codes, refl, ap, sym, ◌∙◌, subst, inl, inr, append_assoc, append-nil, take-append-drop, length-append, arith}
+use Rattle.std.specs.Prelude.{◌&&◌, ◌||◌}
 use Rattle.std.specs.List.{list_all}
-use Rattle.std.proofs.lemmas.Bool.{false≢true, eqb-true, eq-eqb, both_ways, not-true, and_parts, and_from, or_from, not_from_false}
+use Rattle.std.proofs.lemmas.Bool.{false≢true, eqb-true, eq-eqb, both_ways, not-true, and_parts, and_from, or_cases, or_left, or_right, or_from, not_from_false}
 use Rattle.std.proofs.lemmas.List.{length-replicate}
 use Rattle.std.proofs.lemmas.List.Folds.{list_all-append}
 use Rattle.ft_base.specs.Reading.{◌>>=◌}
@@ -14,9 +14,10 @@ use Rattle.query_lex.specs.Pieces.{tag_escape_at, tag_byte_at, ends_piece, next_
 use Rattle.query_lex.specs.Quotes.{plain, spelled}
 use Rattle.query_lex.specs.Reading.{Read, Next}
 use Rattle.query_lex.specs.Spelling.{IsSpelling, IsTag, tag_end, tag_byte, tag_escape}
+use Rattle.query_lex.specs.Spells.{ends_tag, is_whole}
 use Rattle.query_lex.proofs.SpelledLemmas.{spelled-behind, spelled-plain, spelled-is_plain}
 use Rattle.query_lex.proofs.Standing.{Stands}
-use Rattle.query_lex.proofs.Taken.{Step, Run, Steps, as_next, first_then}
+use Rattle.query_lex.proofs.Taken.{Step, Run, Steps, as_next, some-next, first_then}
 use Rattle.query_lex.proofs.Trimming.{ends-spelled}
 
 -- a byte of a tag that may stand so
@@ -155,12 +156,44 @@ some-taken taken kept blanks same some =
     let size : length taken ≡ length (kept ++ replicate blanks 32) = ap length same in
     omega (arith, length-append kept (replicate blanks 32), length-replicate {A = ℕ} blanks 32)
 
+-- where none comes next, the piece ends
+pieces-end : (behind : List ℕ) → next_of_tag behind ≡ Ok None → ends_tag behind ≡ true
+unfolding next_of_tag
+pieces-end [] last = refl
+pieces-end (b ∷ rest) last = by_test (ends_piece b) refl last
+  where
+    by_test : (is : Bool) → ends_piece b ≡ is → cond {A = Next TextByte} is (Ok None) (tag_byte_at b rest >>= λ byte. Ok (Some byte)) ≡ Ok None → ends_tag (b ∷ rest) ≡ true
+    by_test true e last =
+        elim (or_cases (eqb b 124) (eqb b 125) e) [
+          | inl is ↦ or_left (eqb b 124) (eqb b 125 || (eqb b 32 && ends_tag rest)) is
+          | inr is ↦ or_right (eqb b 124) (eqb b 125 || (eqb b 32 && ends_tag rest)) (or_left (eqb b 125) (eqb b 32 && ends_tag rest) is)
+        ]
+    by_test false e last = absurd (some-next (tag_byte_at b rest) last)
+
+blanks-end : (blanks : ℕ) (behind : List ℕ) → ends_tag behind ≡ true → ends_tag (replicate blanks 32 ++ behind) ≡ true
+blanks-end zero behind ends = ends
+blanks-end (suc blanks) behind ends = blanks-end blanks behind ends
+
+starred-whole : (front : List TextByte) (rest : List ℕ) → ends_tag rest ≡ true → is_whole true (starred_kind front) rest ≡ true
+starred-whole [] rest ends = refl
+starred-whole (b ∷ front) rest ends = ends
+
+kind-whole : (piece : List TextByte) (rest : List ℕ) → ends_tag rest ≡ true → is_whole true (piece_kind piece) rest ≡ true
+kind-whole piece rest ends = by_param (is_param piece)
+  where
+    by_star : (is : Bool) → is_whole true (cond {A = LexKind} is (starred_kind (front_of piece)) (Tag (bytes_of piece) false)) rest ≡ true
+    by_star true = starred-whole (front_of piece) rest ends
+    by_star false = ends
+    by_param : (is : Bool) → is_whole true (cond {A = LexKind} is (Param (bytes_of (drop 1 piece))) (cond {A = LexKind} (ends_in 42 piece) (starred_kind (front_of piece)) (Tag (bytes_of piece) false))) rest ≡ true
+    by_param true = ends
+    by_param false = by_star (ends_in 42 piece)
+
 abbrev as_piece : List TextByte × List ℕ → Read (Option LexKind)
 as_piece piece = Ok (Some (piece_kind (trimmed piece.0)), piece.1)
 
-piece-found : (in_tags : Bool) (b : ℕ) (rest : List ℕ) (piece : List TextByte) (behind : List ℕ) → eqb b 32 ≡ false → Run next_of_tag SpellsPiece piece (b ∷ rest) behind → 0 < length piece
-    → Stands in_tags b rest (Some (piece_kind (trimmed piece))) behind
-piece-found in_tags b rest piece behind other run some =
+piece-found : (b : ℕ) (rest : List ℕ) (piece : List TextByte) (behind : List ℕ) → eqb b 32 ≡ false → Run next_of_tag SpellsPiece piece (b ∷ rest) behind → 0 < length piece
+    → Stands true b rest (Some (piece_kind (trimmed piece))) behind
+piece-found b rest piece behind other run some =
     let kept = trims piece in
     let text : List ℕ = spelled (trimmed piece) in
     let taken : run.taken ≡ text ++ replicate kept.blanks 32 = run.spells.0 ∙ kept.whole in
@@ -171,10 +204,11 @@ piece-found in_tags b rest piece behind other run some =
       least = some-kept b rest text kept.blanks behind other whole (some-taken run.taken text kept.blanks taken (omega (arith, run.least)));
       whole = whole;
       spells = kind-spelled (trimmed piece) (kept.lawful run.spells.1);
+      ends = kind-whole (trimmed piece) (replicate kept.blanks 32 ++ behind) (blanks-end kept.blanks behind (pieces-end behind run.last));
     }
 
-pub piece-stands : (in_tags : Bool) (b : ℕ) (rest : List ℕ) → eqb b 32 ≡ false → ends_piece b ≡ false → IfOk (piece_at b rest) (λ x. Stands in_tags b rest x.0 x.1)
+pub piece-stands : (b : ℕ) (rest : List ℕ) → eqb b 32 ≡ false → ends_piece b ≡ false → IfOk (piece_at b rest) (λ x. Stands true b rest x.0 x.1)
 unfolding piece_at
-piece-stands in_tags b rest other goes_on =
-    first_then next_of_tag SpellsPiece (b ∷ rest) (tag_byte_at b rest) as_piece (λ x. Stands in_tags b rest x.0 x.1) (refl, refl) tag-steps (tag-step b rest goes_on)
-    (λ x xs behind run. piece-found in_tags b rest (x ∷ xs) behind other run (omega arith))
+piece-stands b rest other goes_on =
+    first_then next_of_tag SpellsPiece (b ∷ rest) (tag_byte_at b rest) as_piece (λ x. Stands true b rest x.0 x.1) (refl, refl) tag-steps (tag-step b rest goes_on)
+    (λ x xs behind run. piece-found b rest (x ∷ xs) behind other run (omega arith))

@@ -82,16 +82,16 @@ as_spelled run = Ok (spelled run.0, run.1)
 abbrev as_quote : List ℕ × List ℕ → Read (Option LexKind)
 as_quote text = Ok (Some (Quote text.0), drop 1 text.1)
 
-pub quote-stands : (in_tags : Bool) (inside : List ℕ) → IfOk (quote_at inside) (λ x. Stands in_tags 34 inside x.0 x.1)
+pub quote-stands : (inside : List ℕ) → IfOk (quote_at inside) (λ x. Stands false 34 inside x.0 x.1)
 unfolding quote_at
-quote-stands in_tags inside = by_run (run_at (next_quoted inside) inside) (run_taken (next_quoted inside) SpellsInside (refl, quoted_end) (quoted-steps inside) inside)
+quote-stands inside = by_run (run_at (next_quoted inside) inside) (run_taken (next_quoted inside) SpellsInside (refl, quoted_end) (quoted-steps inside) inside)
   where
     by_run : (read : Read (List TextByte)) → IfOk read (λ run. Run (next_quoted inside) SpellsInside run.0 inside run.1)
-        → IfOk (read >>= as_spelled >>= as_quote) (λ x. Stands in_tags 34 inside x.0 x.1)
+        → IfOk (read >>= as_spelled >>= as_quote) (λ x. Stands false 34 inside x.0 x.1)
     by_run (Ok run) taken =
         let text : List ℕ = spelled run.0 in
-        took (34 ∷ inside) (Quote text) (drop 1 run.1) (34 ∷ (text ++ 34 ∷ [])) (omega arith)
+        took false (34 ∷ inside) (Quote text) (drop 1 run.1) (34 ∷ (text ++ 34 ∷ [])) (omega arith)
         (ap (λ (bytes : List ℕ). 34 ∷ bytes)
         (taken.whole ∙ ap (λ (bytes : List ℕ). bytes ++ run.1) taken.spells.0 ∙ ap (λ (more : List ℕ). text ++ more) (quote-ends inside run.1 taken.last) ∙ sym (append_assoc text (34 ∷ []) (drop 1 run.1))))
-        (refl, subst IsQuoted taken.spells.0 taken.spells.1)
+        (refl, subst IsQuoted taken.spells.0 taken.spells.1) refl
     by_run (Err stop) taken = tt

@@ -15,8 +15,13 @@ use Rattle.query_lex.specs.Raw.{raw_byte_at, next_raw, raw_at}
 use Rattle.query_lex.specs.Reading.{Read, Next, fault}
 use Rattle.query_lex.specs.Roles.{sign_role, text_role, range_role, tag_role, attribute_role, is_raw}
 use Rattle.query_lex.specs.Spelling.{is_raw_byte}
+use Rattle.query_lex.specs.Spells.{goes_on_raw}
 use Rattle.query_lex.proofs.Standing.{Stands, took}
-use Rattle.query_lex.proofs.Taken.{Step, Steps, as_next, first_then}
+use Rattle.query_lex.proofs.Taken.{Step, Steps, as_next, some-next, first_then}
+
+-- bytes that are not raw there go on with no run
+abbrev pub EndsRaw : Context → Type 0
+EndsRaw context = (b : ℕ) → is_raw context b ≡ false → goes_on_raw b ≡ false
 
 abbrev SpellsRaw : List ℕ → List ℕ → Type 0
 SpellsRaw run bytes = (bytes ≡ run) × (list_all is_raw_byte run ≡ true)
@@ -64,11 +69,22 @@ raw-steps context (b ∷ rest) = by_test (is_raw context b) refl
     by_test true e = as_next (raw_byte_at b rest) (λ x. Step SpellsRaw (b ∷ rest) x.0 x.1) (raw-step context b rest e)
     by_test false e = tt
 
+-- where none comes next, no raw byte does
+raw-ends : (context : Context) → EndsRaw context → (behind : List ℕ) → next_raw context behind ≡ Ok None → comes goes_on_raw behind ≡ false
+unfolding next_raw
+raw-ends context ends [] last = refl
+raw-ends context ends (b ∷ rest) last = by_test (is_raw context b) refl last
+  where
+    by_test : (is : Bool) → is_raw context b ≡ is → cond {A = Next ℕ} is (raw_byte_at b rest >>= λ byte. Ok (Some byte)) (Ok None) ≡ Ok None → goes_on_raw b ≡ false
+    by_test true e last = absurd (some-next (raw_byte_at b rest) last)
+    by_test false e last = ends b e
+
 abbrev as_raw : List ℕ × List ℕ → Read (Option LexKind)
 as_raw run = Ok (Some (kinds.Raw run.0), run.1)
 
-pub raw-stands : (in_tags : Bool) (context : Context) (b : ℕ) (rest : List ℕ) → is_raw context b ≡ true → IfOk (raw_at context b rest) (λ x. Stands in_tags b rest x.0 x.1)
+pub raw-stands : (context : Context) → EndsRaw context → (b : ℕ) (rest : List ℕ) → is_raw context b ≡ true → IfOk (raw_at context b rest) (λ x. Stands false b rest x.0 x.1)
 unfolding raw_at
-raw-stands in_tags context b rest raw =
-    first_then (next_raw context) SpellsRaw (b ∷ rest) (raw_byte_at b rest) as_raw (λ x. Stands in_tags b rest x.0 x.1) (refl, refl) (raw-steps context) (raw-step context b rest raw)
-    (λ x xs behind run. took (b ∷ rest) (kinds.Raw (x ∷ xs)) behind run.taken (omega arith) run.whole run.spells)
+raw-stands context ends b rest raw =
+    first_then (next_raw context) SpellsRaw (b ∷ rest) (raw_byte_at b rest) as_raw (λ x. Stands false b rest x.0 x.1) (refl, refl) (raw-steps context) (raw-step context b rest raw)
+    (λ x xs behind run.
+        took false (b ∷ rest) (kinds.Raw (x ∷ xs)) behind run.taken (omega arith) run.whole run.spells (not_from_false (comes goes_on_raw behind) (raw-ends context ends behind run.last)))

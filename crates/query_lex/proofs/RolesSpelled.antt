@@ -1,5 +1,5 @@
 -- What stands at a byte, by what the byte begins there.
-use Rattle.std.proofs.Common.{◌≡◌, ℕ, Bool, true, false, not, eqb, List, [], ◌∷◌, IfOk, refl, sym, subst, inl, inr, arith}
+use Rattle.std.proofs.Common.{◌≡◌, ℕ, Bool, true, false, true≢false, not, eqb, List, [], ◌∷◌, IfOk, refl, sym, subst, inl, inr, arith}
 use Rattle.std.specs.Prelude.{◌||◌}
 use Rattle.std.proofs.lemmas.Bool.{cond_both, eqb-true, or_parts, or_cases, or_from, not-false}
 use Rattle.query_lex.specs.declared.context.Context.{Context}
@@ -12,15 +12,15 @@ use Rattle.query_lex.specs.declared.role.Role.TheVariants as role
 use Rattle.query_lex.specs.Bytes.{begins_word}
 use Rattle.query_lex.specs.Context.{is_enclosed}
 use Rattle.query_lex.specs.Lexemes.{lexeme_with, lexeme_at}
-use Rattle.query_lex.specs.Roles.{bracket_in, brace_in, sign_role, text_role, range_role, tag_role, attribute_role}
+use Rattle.query_lex.specs.Roles.{bracket_in, brace_in, sign_role, text_role, range_role, tag_role, attribute_role, is_raw_role}
 use Rattle.query_lex.specs.Spelling.{IsSpelling}
-use Rattle.query_lex.specs.Spells.{only_separates}
+use Rattle.query_lex.specs.Spells.{only_separates, goes_on_raw}
 use Rattle.token_text.specs.Tokens.{is_separator}
 use Rattle.query_lex.proofs.InTags.{in_tags}
 use Rattle.query_lex.proofs.ParamsSpelled.{param-stands}
 use Rattle.query_lex.proofs.PiecesSpelled.{piece-stands}
 use Rattle.query_lex.proofs.QuotesSpelled.{quote-stands}
-use Rattle.query_lex.proofs.RawSpelled.{raw-stands}
+use Rattle.query_lex.proofs.RawSpelled.{EndsRaw, raw-stands}
 use Rattle.query_lex.proofs.Standing.{Stands, took, star-stands, arrow-stands, percent-stands}
 use Rattle.query_lex.proofs.WordsSpelled.{word-stands}
 
@@ -81,7 +81,7 @@ abbrev So : Bool → Context → ℕ → List ℕ → Role → Type 0
 So is_in context b rest begun = IfOk (lexeme_with begun context b rest) (λ x. Stands is_in b rest x.0 x.1)
 
 sign-so : (is_in : Bool) (context : Context) (b : ℕ) (rest : List ℕ) (sign : Sign) → Alone sign b → So is_in context b rest (role.Sign sign)
-sign-so is_in context b rest sign spells = took (b ∷ rest) (kinds.Sign sign) rest (b ∷ []) (omega arith) refl spells
+sign-so is_in context b rest sign spells = took is_in (b ∷ rest) (kinds.Sign sign) rest (b ∷ []) (omega arith) refl spells refl
 
 at-byte : (is_in : Bool) (context : Context) (b byte : ℕ) (rest : List ℕ) (begun : Role) → b ≡ byte → So is_in context byte rest begun → So is_in context b rest begun
 at-byte is_in context b byte rest begun e so = subst (λ (c : ℕ). So is_in context c rest begun) (sym e) so
@@ -89,20 +89,47 @@ at-byte is_in context b byte rest begun e so = subst (λ (c : ℕ). So is_in con
 text-stands : (context : Context) (b : ℕ) (rest : List ℕ) → So false context b rest (text_role context b)
 text-stands context b rest =
     text-cases context b (So false context b rest)
-    (word-stands false b rest)
-    (λ e. at-byte false context b 36 rest role.Dollar e (param-stands false (not (is_enclosed context)) rest))
-    (λ e. at-byte false context b 34 rest role.Quote e (quote-stands false rest))
-    (λ e. at-byte false context b 42 rest role.Star e (star-stands false rest))
-    (λ e. at-byte false context b 61 rest role.Equals e (arrow-stands false rest))
-    (λ e. at-byte false context b 37 rest role.Percent e (percent-stands false rest))
+    (word-stands b rest)
+    (λ e. at-byte false context b 36 rest role.Dollar e (param-stands (not (is_enclosed context)) rest))
+    (λ e. at-byte false context b 34 rest role.Quote e (quote-stands rest))
+    (λ e. at-byte false context b 42 rest role.Star e (star-stands rest))
+    (λ e. at-byte false context b 61 rest role.Equals e (arrow-stands rest))
+    (λ e. at-byte false context b 37 rest role.Percent e (percent-stands rest))
     (λ sign spells. sign-so false context b rest sign spells)
     (λ separates. (refl, separates false rest))
 
 blank-stands : (is_in : Bool) (context : Context) (b : ℕ) (rest : List ℕ) → eqb b 32 ≡ true → So is_in context b rest role.Blank
 blank-stands is_in context b rest e = at-byte is_in context b 32 rest role.Blank (eqb-true b 32 e) (refl, refl)
 
-dollar-stands : (is_in : Bool) (context : Context) (b : ℕ) (rest : List ℕ) → eqb b 36 ≡ true → So is_in context b rest role.Dollar
-dollar-stands is_in context b rest e = at-byte is_in context b 36 rest role.Dollar (eqb-true b 36 e) (param-stands is_in (not (is_enclosed context)) rest)
+dollar-stands : (context : Context) (b : ℕ) (rest : List ℕ) → eqb b 36 ≡ true → So false context b rest role.Dollar
+dollar-stands context b rest e = at-byte false context b 36 rest role.Dollar (eqb-true b 36 e) (param-stands (not (is_enclosed context)) rest)
+
+-- what is not raw in brackets or in braces of attributes ends a run
+abbrev Ends : ℕ → Role → Type 0
+Ends b begun = is_raw_role begun ≡ false → goes_on_raw b ≡ false
+
+ends-at : (b byte : ℕ) → goes_on_raw byte ≡ false → eqb b byte ≡ true → goes_on_raw b ≡ false
+ends-at b byte ends e = subst (λ (c : ℕ). goes_on_raw c ≡ false) (sym (eqb-true b byte e)) ends
+
+range-ends : EndsRaw Range
+unfolding range_role
+range-ends b =
+    let P : Role → Type 0 = Ends b in
+    cond_both (eqb b 32) role.Blank _ P (λ e raw. ends-at b 32 refl e) (λ n32.
+    cond_both (eqb b 40) (role.Sign signs.Open) _ P (λ e raw. ends-at b 40 refl e) (λ n40.
+    cond_both (eqb b 91) (role.Sign signs.Stray) _ P (λ e raw. ends-at b 91 refl e) (λ n91.
+    cond_both (eqb b 93) (role.Sign signs.RangeClose) _ P (λ e raw. ends-at b 93 refl e) (λ n93.
+    cond_both (eqb b 36) role.Dollar role.Raw P (λ e raw. ends-at b 36 refl e) (λ n36 raw. absurd (true≢false raw))))))
+
+attribute-ends : EndsRaw Attributes
+unfolding attribute_role
+attribute-ends b =
+    let P : Role → Type 0 = Ends b in
+    cond_both (eqb b 32) role.Blank _ P (λ e raw. ends-at b 32 refl e) (λ n32.
+    cond_both (eqb b 59) (role.Sign signs.Semi) _ P (λ e raw. ends-at b 59 refl e) (λ n59.
+    cond_both (eqb b 125) (role.Sign signs.AttrClose) _ P (λ e raw. ends-at b 125 refl e) (λ n125.
+    cond_both (eqb b 58) (role.Sign signs.Colon) _ P (λ e raw. ends-at b 58 refl e) (λ n58.
+    cond_both (eqb b 36) role.Dollar role.Raw P (λ e raw. ends-at b 36 refl e) (λ n36 raw. absurd (true≢false raw))))))
 
 range-stands : (b : ℕ) (rest : List ℕ) → So false Range b rest (range_role b)
 unfolding range_role
@@ -113,8 +140,8 @@ range-stands b rest =
     cond_both (eqb b 40) (role.Sign signs.Open) _ P (λ e. put signs.Open (alone signs.Open b 40 e refl)) (λ n40.
     cond_both (eqb b 91) (role.Sign signs.Stray) _ P (λ e. put signs.Stray (alone signs.Stray b 91 e refl)) (λ n91.
     cond_both (eqb b 93) (role.Sign signs.RangeClose) _ P (λ e. put signs.RangeClose (alone signs.RangeClose b 93 e refl)) (λ n93.
-    cond_both (eqb b 36) role.Dollar role.Raw P (dollar-stands false Range b rest) (λ n36.
-    raw-stands false Range b rest (rw (n32, n40, n91, n93, n36) refl))))))
+    cond_both (eqb b 36) role.Dollar role.Raw P (dollar-stands Range b rest) (λ n36.
+    raw-stands Range range-ends b rest (rw (n32, n40, n91, n93, n36) refl))))))
 
 attribute-stands : (b : ℕ) (rest : List ℕ) → So false Attributes b rest (attribute_role b)
 unfolding attribute_role
@@ -125,8 +152,8 @@ attribute-stands b rest =
     cond_both (eqb b 59) (role.Sign signs.Semi) _ P (λ e. put signs.Semi (alone signs.Semi b 59 e refl)) (λ n59.
     cond_both (eqb b 125) (role.Sign signs.AttrClose) _ P (λ e. put signs.AttrClose (alone signs.AttrClose b 125 e refl)) (λ n125.
     cond_both (eqb b 58) (role.Sign signs.Colon) _ P (λ e. put signs.Colon (alone signs.Colon b 58 e refl)) (λ n58.
-    cond_both (eqb b 36) role.Dollar role.Raw P (dollar-stands false Attributes b rest) (λ n36.
-    raw-stands false Attributes b rest (rw (n32, n59, n125, n58, n36) refl))))))
+    cond_both (eqb b 36) role.Dollar role.Raw P (dollar-stands Attributes b rest) (λ n36.
+    raw-stands Attributes attribute-ends b rest (rw (n32, n59, n125, n58, n36) refl))))))
 
 tag-stands : (b : ℕ) (rest : List ℕ) → So true Tags b rest (tag_role b)
 unfolding tag_role
@@ -135,7 +162,7 @@ tag-stands b rest =
     cond_both (eqb b 32 || eqb b 124) role.Blank _ P between (λ n.
     let bars = or_parts (eqb b 32) (eqb b 124) n in
     cond_both (eqb b 125) (role.Sign signs.TagClose) role.Piece P (λ e. sign-so true Tags b rest signs.TagClose (alone signs.TagClose b 125 e refl)) (λ n125.
-    piece-stands true b rest bars.0 (or_from (eqb b 124) (eqb b 125) bars.1 n125)))
+    piece-stands b rest bars.0 (or_from (eqb b 124) (eqb b 125) bars.1 n125)))
   where
     between : (eqb b 32 || eqb b 124) ≡ true → So true Tags b rest role.Blank
     between e =

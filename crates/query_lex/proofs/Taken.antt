@@ -28,6 +28,11 @@ pub as_next : {A : Type 0} (read : Read A) (P : A × List ℕ → Type 0) → If
 as_next (Ok x) P h = h
 as_next (Err stop) P h = tt
 
+-- and then there is a next
+pub some-next : {A : Type 0} (read : Read A) → (read >>= λ x. Ok (Some x)) ≡ Ok None → ⊥
+some-next (Ok x) e = cc
+some-next (Err stop) e = cc
+
 -- what holds whatever was read
 pub whatever : {A B : Type 0} (P : B → Type 0) (read : Result A Stop) (then : A → Result B Stop) → ((x : A) → IfOk (then x) P) → IfOk (read >>= then) P
 whatever P (Ok x) then h = h x

@@ -28,8 +28,8 @@ blanks-separate is_in (suc blanks) at text found spells =
     separator refl (blanks-separate is_in blanks (suc at) text found (subst (λ (place : ℕ). SpellsIn is_in place text found) here spells))
 
 -- how many bytes a lexeme takes
-took-length : (bytes : List ℕ) (kind : LexKind) (rest : List ℕ) (took : Took bytes kind rest) → length bytes ≡ length took.spelling + (took.blanks + length rest)
-took-length bytes kind rest took =
+took-length : (is_in : Bool) (bytes : List ℕ) (kind : LexKind) (rest : List ℕ) (took : Took is_in bytes kind rest) → length bytes ≡ length took.spelling + (took.blanks + length rest)
+took-length is_in bytes kind rest took =
     let blanks : length (replicate took.blanks 32 ++ rest) ≡ took.blanks + length rest = length-append (replicate took.blanks 32) rest ∙ ap (λ (n : ℕ). n + length rest) (length-replicate took.blanks 32) in
     ap length took.whole ∙ length-append took.spelling (replicate took.blanks 32 ++ rest) ∙ ap (λ (n : ℕ). length took.spelling + n) blanks
 
@@ -50,7 +50,7 @@ one-spelled n total at context b bytes None rest few place stands keeps again =
     after_ok [] (lexed_in n total context rest) (SpellsIn (in_tags context) (suc at) rest) (SpellsIn (in_tags context) at (b ∷ bytes)) (again (suc at) context rest (omega arith) (omega arith))
     (λ found spells. separator stands.1 (subst (λ (text : List ℕ). SpellsIn (in_tags context) (suc at) text found) stands.0 spells))
 one-spelled n total at context b bytes (Some kind) rest few place stands keeps again =
-    let size : length (b ∷ bytes) ≡ length stands.spelling + (stands.blanks + length rest) = took-length (b ∷ bytes) kind rest stands in
+    let size : length (b ∷ bytes) ≡ length stands.spelling + (stands.blanks + length rest) = took-length (in_tags context) (b ∷ bytes) kind rest stands in
     let here : at ≡ total - length (b ∷ bytes) = omega arith in
     let next : ℕ = at + length stands.spelling + stands.blanks in
     after_ok (at_place (total - length (b ∷ bytes)) (Some kind)) (lexed_in n total (context_behind context (Some kind)) rest) (SpellsIn (in_tags (context_behind context (Some kind))) next rest) (SpellsIn (in_tags context) at (b ∷ bytes))
@@ -60,7 +60,7 @@ one-spelled n total at context b bytes (Some kind) rest few place stands keeps a
     let behind = blanks-separate (in_tags_behind (in_tags context) kind) stands.blanks (at + length stands.spelling) rest found others in
     subst (λ (place : ℕ). SpellsIn (in_tags context) at (b ∷ bytes) (record { at = place; kind = kind } ∷ found)) here
     (subst (λ (text : List ℕ). SpellsIn (in_tags context) at text (record { at = at; kind = kind } ∷ found)) (sym stands.whole)
-    (lexeme stands.spelling stands.least stands.spells behind)))
+    (lexeme stands.spelling stands.least stands.spells stands.ends behind)))
 
 step-spelled : (n total at : ℕ) (context : Context) (b : ℕ) (bytes : List ℕ) (read : Read (Option LexKind)) → length (b ∷ bytes) ≤ suc n → at + length (b ∷ bytes) ≡ total
     → IfOk read (λ x. Stands (in_tags context) b bytes x.0 x.1) → IfOk read (λ x. KeepsTags context x.0) → Again n total

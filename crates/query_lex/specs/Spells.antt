@@ -1,11 +1,11 @@
 -- Which text a list of lexemes spells, with what only separates them.
-use Rattle.std.specs.Prelude.{ℕ, suc, ◌+◌, ◌<◌, List, [], ◌∷◌, ◌++◌, length, Bool, true, false, ◌&&◌, not, ◌==◌, nat_eq, IsTrue, codes, if◌then◌else◌}
+use Rattle.std.specs.Prelude.{ℕ, suc, ◌+◌, ◌<◌, List, [], ◌∷◌, ◌++◌, length, Bool, true, false, ◌&&◌, ◌||◌, not, ◌==◌, nat_eq, IsTrue, codes, if◌then◌else◌}
 use Rattle.std.specs.List.{list_any}
 use Rattle.query_lex.specs.declared.lexeme.LexKind.{LexKind}
 use Rattle.query_lex.specs.declared.lexeme.LexKind.TheVariants as kinds
 use Rattle.query_lex.specs.declared.lexeme.Lexeme.{Lexeme}
 use Rattle.query_lex.specs.declared.lexeme.Sign.TheVariants.{TagOpen, TagClose}
-use Rattle.query_lex.specs.Bytes.{is_of_name, comes, is_at}
+use Rattle.query_lex.specs.Bytes.{begins_word, is_of_name, comes, is_at}
 use Rattle.query_lex.specs.Spelling.{IsSpelling}
 use Rattle.token_text.specs.Tokens.{is_separator}
 
@@ -28,14 +28,34 @@ in_tags_behind in_tags (kinds.Sign TagOpen) = true
 in_tags_behind in_tags (kinds.Sign TagClose) = false
 in_tags_behind in_tags other = in_tags
 
--- From an offset on, in the braces of tags or not: the text ends, or a byte only separates, or a lexeme stands there, of
--- one byte at least, and the others behind it.
+-- bytes that go on with a run of raw bytes
+abbrev pub goes_on_raw : ℕ → Bool
+goes_on_raw b = not (list_any (nat_eq b) (codes " $([]:;}"))
+
+-- what may follow a piece: blanks, and then a bar, the brace that closes or the text's end
+abbrev pub ends_tag : List ℕ → Bool
+ends_tag [] = true
+ends_tag (b ∷ rest) = (b == 124) || ((b == 125) || ((b == 32) && ends_tag rest))
+
+-- Whether a lexeme is whole before the rest, which does not go on with a word, a name, a run of raw bytes or a piece.
+-- Tags stand in their braces alone, with parameters and signs and nothing else.
+abbrev pub is_whole : Bool → LexKind → List ℕ → Bool
+is_whole in_tags (kinds.Word word) rest = not (in_tags || (comes begins_word rest || is_at 42 rest))
+is_whole in_tags (kinds.Param name) rest = if in_tags then ends_tag rest else not (comes is_of_name rest)
+is_whole in_tags (kinds.Raw run) rest = not (in_tags || comes goes_on_raw rest)
+is_whole in_tags (kinds.Tag tag prefix) rest = in_tags && ends_tag rest
+is_whole in_tags (kinds.Sign sign) rest = true
+is_whole in_tags other rest = not in_tags
+
+-- From an offset on, in the braces of tags or not: the text ends, or a byte only separates, or a lexeme stands there,
+-- whole and of one byte at least, and the others behind it.
 pub data SpellsIn : Bool → ℕ → List ℕ → List Lexeme → Type 0 where
   no_more : {in_tags : Bool} {at : ℕ} → SpellsIn in_tags at [] []
   separator : {in_tags : Bool} {at b : ℕ} {text : List ℕ} {found : List Lexeme}
       → IsTrue (only_separates in_tags b text) → SpellsIn in_tags (suc at) text found → SpellsIn in_tags at (b ∷ text) found
   lexeme : {in_tags : Bool} {at : ℕ} {kind : LexKind} (bytes : List ℕ) {text : List ℕ} {found : List Lexeme}
-      → 0 < length bytes → IsSpelling kind bytes → SpellsIn (in_tags_behind in_tags kind) (at + length bytes) text found
+      → 0 < length bytes → IsSpelling kind bytes → IsTrue (is_whole in_tags kind text)
+      → SpellsIn (in_tags_behind in_tags kind) (at + length bytes) text found
       → SpellsIn in_tags at (bytes ++ text) (record { at = at; kind = kind } ∷ found)
 
 -- From this offset on, the lexemes and what separates them spell the text.
