@@ -1,11 +1,11 @@
 -- What the definition says of a few texts: which lexemes spell them, and which do not.
-use Rattle.std.proofs.Common.{◌≡◌, ℕ, ◌⊎◌, Bool, true, false, true≢false, List, [], ◌∷◌, codes, refl, ap, sym, subst, inl, inr, arith}
+use Rattle.std.proofs.Common.{◌≡◌, ℕ, ◌⊎◌, Bool, true, false, true≢false, List, [], ◌∷◌, ◌++◌, codes, refl, ap, sym, subst, inl, inr, arith}
 use Rattle.query_lex.specs.declared.lexeme.LexKind.{LexKind}
 use Rattle.query_lex.specs.declared.lexeme.LexKind.TheVariants as kinds
 use Rattle.query_lex.specs.declared.lexeme.Lexeme.{Lexeme}
 use Rattle.query_lex.specs.declared.lexeme.Sign.TheVariants as signs
-use Rattle.query_lex.specs.Spelling.{quoted_end, quoted_byte, tag_end, tag_byte, tag_escape}
-use Rattle.query_lex.specs.Spells.{only_separates, SpellsIn, no_more, separator, lexeme, Spells}
+use Rattle.query_lex.specs.Spelling.{IsSpelling, quoted_end, quoted_byte, tag_end, tag_byte, tag_escape}
+use Rattle.query_lex.specs.Spells.{only_separates, is_whole, SpellsIn, no_more, separator, lexeme, Spells}
 
 abbrev put : ℕ → LexKind → Lexeme
 put at kind = record { at = at; kind = kind }
@@ -72,10 +72,27 @@ lost_bar spells =
 lost_param : Spells 0 (codes "$c") [] → ⊥
 lost_param spells = by_text spells refl refl
   where
-    by_text : {is_in : Bool} {at : ℕ} {text : List ℕ} {found : List Lexeme} → SpellsIn is_in at text found → text ≡ codes "$c" → found ≡ [] → ⊥
+    by_text : {at : ℕ} {text : List ℕ} {found : List Lexeme} → SpellsIn false at text found → text ≡ codes "$c" → found ≡ [] → ⊥
     by_text no_more text found = cc
-    by_text (separator {in_tags = is_in} {b = c} {text = more} separates spells) text found =
+    by_text (separator {b = c} {text = more} separates spells) text found =
         let same : c ≡ 36 = cc in
         let behind : more ≡ codes "c" = cc in
-        true≢false (sym (subst (λ (bytes : List ℕ). only_separates is_in 36 bytes ≡ true) behind (subst (λ (byte : ℕ). only_separates is_in byte more ≡ true) same separates)))
+        true≢false (sym (subst (λ (bytes : List ℕ). only_separates false 36 bytes ≡ true) behind (subst (λ (byte : ℕ). only_separates false byte more ≡ true) same separates)))
     by_text (lexeme bytes some spelling whole spells) text found = cc
+
+-- a word is not two
+split_word : Spells 0 (codes "ab") (put 0 (kinds.Word (codes "a")) ∷ put 1 (kinds.Word (codes "b")) ∷ []) → ⊥
+split_word spells = by_text spells refl refl
+  where
+    by_text : {at : ℕ} {text : List ℕ} {found : List Lexeme} → SpellsIn false at text found → text ≡ codes "ab" → found ≡ put 0 (kinds.Word (codes "a")) ∷ put 1 (kinds.Word (codes "b")) ∷ [] → ⊥
+    by_text no_more text found = cc
+    by_text (separator {b = c} {text = more} separates spells) text found =
+        let same : c ≡ 97 = cc in
+        true≢false (sym (subst (λ (byte : ℕ). only_separates false byte more ≡ true) same separates))
+    by_text (lexeme {at = place} {kind = kind} bytes {text = more} some spelling whole spells) text found =
+        let same : put place kind ≡ put 0 (kinds.Word (codes "a")) = cc in
+        let word : kind ≡ kinds.Word (codes "a") = ap (λ (x : Lexeme). x.kind) same in
+        let first : bytes ≡ codes "a" = subst (λ (k : LexKind). IsSpelling k bytes) word spelling in
+        let both : 97 ∷ more ≡ codes "ab" = subst (λ (front : List ℕ). front ++ more ≡ codes "ab") first text in
+        let rest : more ≡ codes "b" = cc in
+        true≢false (sym (subst (λ (after : List ℕ). is_whole false (kinds.Word (codes "a")) after ≡ true) rest (subst (λ (k : LexKind). is_whole false k more ≡ true) word whole)))

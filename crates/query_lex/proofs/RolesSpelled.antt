@@ -21,7 +21,7 @@ use Rattle.query_lex.proofs.ParamsSpelled.{param-stands}
 use Rattle.query_lex.proofs.PiecesSpelled.{piece-stands}
 use Rattle.query_lex.proofs.QuotesSpelled.{quote-stands}
 use Rattle.query_lex.proofs.RawSpelled.{EndsRaw, raw-stands}
-use Rattle.query_lex.proofs.Standing.{Stands, took, star-stands, arrow-stands, percent-stands}
+use Rattle.query_lex.proofs.Standing.{Stands, took, blank-separates, star-stands, arrow-stands, percent-stands}
 use Rattle.query_lex.proofs.WordsSpelled.{word-stands}
 
 -- the byte alone spells the sign
@@ -45,7 +45,7 @@ text-cases : (context : Context) (b : ℕ) (P : Role → Type 0)
     → (begins_word b ≡ true → P role.Word)
     → (b ≡ 36 → P role.Dollar) → (b ≡ 34 → P role.Quote) → (b ≡ 42 → P role.Star) → (b ≡ 61 → P role.Equals) → (b ≡ 37 → P role.Percent)
     → ((sign : Sign) → Alone sign b → P (role.Sign sign))
-    → (((is_in : Bool) (rest : List ℕ) → only_separates is_in b rest ≡ true) → P role.Blank)
+    → (((rest : List ℕ) → only_separates false b rest ≡ true) → P role.Blank)
     → P (text_role context b)
 unfolding text_role sign_role
 text-cases context b P word dollar quote star equals percent sign blank =
@@ -71,7 +71,7 @@ text-cases context b P word dollar quote star equals percent sign blank =
     let closers = or_parts (eqb b 93) (eqb b 125) n in
     let n93 : eqb b 93 ≡ false = closers.0 in
     let n125 : eqb b 125 ≡ false = closers.1 in
-    blank (λ is_in rest. rw (n124, n36, n61, parts, n34, n37, n40, n41, n42, n45, n58, n64, n91, n92, n93, n123, n125, n126) refl)))))))))))))))))
+    blank (λ rest. rw (n36, n61, parts, n34, n37, n40, n41, n42, n45, n58, n64, n91, n92, n93, n123, n124, n125, n126) refl)))))))))))))))))
   where
     stray : (eqb b 93 || eqb b 125) ≡ true → Alone signs.Stray b
     stray e = elim (or_cases (eqb b 93) (eqb b 125) e) [ inl is ↦ alone signs.Stray b 93 is refl | inr is ↦ alone signs.Stray b 125 is refl ]
@@ -96,10 +96,10 @@ text-stands context b rest =
     (λ e. at-byte false context b 61 rest role.Equals e (arrow-stands rest))
     (λ e. at-byte false context b 37 rest role.Percent e (percent-stands rest))
     (λ sign spells. sign-so false context b rest sign spells)
-    (λ separates. (refl, separates false rest))
+    (λ separates. (refl, separates rest))
 
 blank-stands : (is_in : Bool) (context : Context) (b : ℕ) (rest : List ℕ) → eqb b 32 ≡ true → So is_in context b rest role.Blank
-blank-stands is_in context b rest e = at-byte is_in context b 32 rest role.Blank (eqb-true b 32 e) (refl, refl)
+blank-stands is_in context b rest e = at-byte is_in context b 32 rest role.Blank (eqb-true b 32 e) (refl, blank-separates is_in rest)
 
 dollar-stands : (context : Context) (b : ℕ) (rest : List ℕ) → eqb b 36 ≡ true → So false context b rest role.Dollar
 dollar-stands context b rest e = at-byte false context b 36 rest role.Dollar (eqb-true b 36 e) (param-stands (not (is_enclosed context)) rest)

@@ -31,6 +31,11 @@ pub took : (in_tags : Bool) (bytes : List ℕ) (kind : LexKind) (behind spelling
     → is_whole in_tags kind behind ≡ true → Took in_tags bytes kind behind
 took in_tags bytes kind behind spelling least whole spells ends = record { spelling = spelling; blanks = 0; least = least; whole = whole; spells = spells; ends = ends }
 
+-- a blank only separates
+pub blank-separates : (in_tags : Bool) (rest : List ℕ) → only_separates in_tags 32 rest ≡ true
+blank-separates true rest = refl
+blank-separates false rest = refl
+
 -- the byte that comes next is the first
 pub at-next : (byte : ℕ) (rest : List ℕ) → is_at byte rest ≡ true → rest ≡ byte ∷ drop 1 rest
 at-next byte [] e = absurd (false≢true e)

@@ -16,7 +16,7 @@ use Rattle.query_lex.specs.Spells.{SpellsIn, no_more, separator, lexeme, in_tags
 use Rattle.query_lex.proofs.InTags.{in_tags, KeepsTags, lexeme-keeps}
 use Rattle.query_lex.proofs.Lexing.{after}
 use Rattle.query_lex.proofs.RolesSpelled.{lexeme-stands}
-use Rattle.query_lex.proofs.Standing.{Took, Stands}
+use Rattle.query_lex.proofs.Standing.{Took, Stands, blank-separates}
 
 -- blanks only separate
 blanks-separate : (is_in : Bool) (blanks at : ℕ) (text : List ℕ) (found : List Lexeme) → SpellsIn is_in (at + blanks) text found → SpellsIn is_in at (replicate blanks 32 ++ text) found
@@ -25,7 +25,7 @@ blanks-separate is_in zero at text found spells =
     subst (λ (place : ℕ). SpellsIn is_in place text found) here spells
 blanks-separate is_in (suc blanks) at text found spells =
     let here : at + suc blanks ≡ suc at + blanks = omega arith in
-    separator refl (blanks-separate is_in blanks (suc at) text found (subst (λ (place : ℕ). SpellsIn is_in place text found) here spells))
+    separator (blank-separates is_in (replicate blanks 32 ++ text)) (blanks-separate is_in blanks (suc at) text found (subst (λ (place : ℕ). SpellsIn is_in place text found) here spells))
 
 -- how many bytes a lexeme takes
 took-length : (is_in : Bool) (bytes : List ℕ) (kind : LexKind) (rest : List ℕ) (took : Took is_in bytes kind rest) → length bytes ≡ length took.spelling + (took.blanks + length rest)

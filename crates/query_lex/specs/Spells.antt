@@ -9,15 +9,15 @@ use Rattle.query_lex.specs.Bytes.{begins_word, is_of_name, comes, is_at}
 use Rattle.query_lex.specs.Spelling.{IsSpelling}
 use Rattle.token_text.specs.Tokens.{is_separator}
 
--- bytes that are of a lexeme wherever they stand
+-- bytes that are of a lexeme wherever they stand outside the braces of tags
 abbrev pub is_kept : ℕ → Bool
-is_kept b = list_any (nat_eq b) (codes "\"%()*-:@[\\]{}~")
+is_kept b = list_any (nat_eq b) (codes "\"%()*-:@[\\]{|}~")
 
--- Whether a byte only separates, before the rest: `|` in the braces of tags, `$` where no name follows, `=` where no `>`
--- does, and each other separator that is of no lexeme.
+-- Whether a byte only separates, before the rest: in the braces of tags a blank and a bar, elsewhere `$` where no name
+-- follows, `=` where no `>` does, and each other separator that is of no lexeme.
 abbrev pub only_separates : Bool → ℕ → List ℕ → Bool
 only_separates in_tags b rest =
-    if b == 124 then in_tags
+    if in_tags then (b == 32) || (b == 124)
     else (if b == 36 then not (comes is_of_name rest)
     else (if b == 61 then not (is_at 62 rest)
     else is_separator b && not (is_kept b)))
