@@ -14,7 +14,7 @@ use Rattle.query_lex.specs.Pieces.{tag_escape_at, tag_byte_at, ends_piece, next_
 use Rattle.query_lex.specs.Quotes.{plain, spelled}
 use Rattle.query_lex.specs.Reading.{Read, Next}
 use Rattle.query_lex.specs.Spelling.{IsSpelling, IsTag, tag_end, tag_byte, tag_escape}
-use Rattle.query_lex.specs.Spells.{ends_tag, is_whole}
+use Rattle.query_lex.specs.Spells.{closes_piece, is_whole}
 use Rattle.query_lex.proofs.SpelledLemmas.{spelled-behind, spelled-plain, spelled-is_plain}
 use Rattle.query_lex.proofs.Standing.{Stands}
 use Rattle.query_lex.proofs.Taken.{Step, Run, Steps, as_next, some-next, first_then}
@@ -157,33 +157,34 @@ some-taken taken kept blanks same some =
     omega (arith, length-append kept (replicate blanks 32), length-replicate {A = ℕ} blanks 32)
 
 -- where none comes next, the piece ends
-pieces-end : (behind : List ℕ) → next_of_tag behind ≡ Ok None → ends_tag behind ≡ true
+pieces-end : (behind : List ℕ) → next_of_tag behind ≡ Ok None → closes_piece behind ≡ true
 unfolding next_of_tag
 pieces-end [] last = refl
 pieces-end (b ∷ rest) last = by_test (ends_piece b) refl last
   where
-    by_test : (is : Bool) → ends_piece b ≡ is → cond {A = Next TextByte} is (Ok None) (tag_byte_at b rest >>= λ byte. Ok (Some byte)) ≡ Ok None → ends_tag (b ∷ rest) ≡ true
+    by_test : (is : Bool) → ends_piece b ≡ is → cond {A = Next TextByte} is (Ok None) (tag_byte_at b rest >>= λ byte. Ok (Some byte)) ≡ Ok None → closes_piece (b ∷ rest) ≡ true
     by_test true e last =
         elim (or_cases (eqb b 124) (eqb b 125) e) [
-          | inl is ↦ or_left (eqb b 124) (eqb b 125 || (eqb b 32 && ends_tag rest)) is
-          | inr is ↦ or_right (eqb b 124) (eqb b 125 || (eqb b 32 && ends_tag rest)) (or_left (eqb b 125) (eqb b 32 && ends_tag rest) is)
+          | inl is ↦ or_left (eqb b 124) (eqb b 125 || (eqb b 32 && closes_piece rest)) is
+          | inr is ↦ or_right (eqb b 124) (eqb b 125 || (eqb b 32 && closes_piece rest)) (or_left (eqb b 125) (eqb b 32 && closes_piece rest) is)
         ]
     by_test false e last = absurd (some-next (tag_byte_at b rest) last)
 
-blanks-end : (blanks : ℕ) (behind : List ℕ) → ends_tag behind ≡ true → ends_tag (replicate blanks 32 ++ behind) ≡ true
+blanks-end : (blanks : ℕ) (behind : List ℕ) → closes_piece behind ≡ true → closes_piece (replicate blanks 32 ++ behind) ≡ true
 blanks-end zero behind ends = ends
 blanks-end (suc blanks) behind ends = blanks-end blanks behind ends
 
-starred-whole : (front : List TextByte) (rest : List ℕ) → ends_tag rest ≡ true → is_whole true (starred_kind front) rest ≡ true
-starred-whole [] rest ends = refl
+starred-whole : (front : List TextByte) (rest : List ℕ) → closes_piece rest ≡ true → is_whole true (starred_kind front) rest ≡ true
+starred-whole [] rest ends = ends
 starred-whole (b ∷ front) rest ends = ends
 
-kind-whole : (piece : List TextByte) (rest : List ℕ) → ends_tag rest ≡ true → is_whole true (piece_kind piece) rest ≡ true
+kind-whole : (piece : List TextByte) (rest : List ℕ) → closes_piece rest ≡ true → is_whole true (piece_kind piece) rest ≡ true
 kind-whole piece rest ends = by_param (is_param piece)
   where
     by_star : (is : Bool) → is_whole true (cond {A = LexKind} is (starred_kind (front_of piece)) (Tag (bytes_of piece) false)) rest ≡ true
     by_star true = starred-whole (front_of piece) rest ends
     by_star false = ends
+
     by_param : (is : Bool) → is_whole true (cond {A = LexKind} is (Param (bytes_of (drop 1 piece))) (cond {A = LexKind} (ends_in 42 piece) (starred_kind (front_of piece)) (Tag (bytes_of piece) false))) rest ≡ true
     by_param true = ends
     by_param false = by_star (ends_in 42 piece)

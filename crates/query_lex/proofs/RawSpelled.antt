@@ -87,4 +87,4 @@ unfolding raw_at
 raw-stands context ends b rest raw =
     first_then (next_raw context) SpellsRaw (b ∷ rest) (raw_byte_at b rest) as_raw (λ x. Stands false b rest x.0 x.1) (refl, refl) (raw-steps context) (raw-step context b rest raw)
     (λ x xs behind run.
-        took false (b ∷ rest) (kinds.Raw (x ∷ xs)) behind run.taken (omega arith) run.whole run.spells (not_from_false (comes goes_on_raw behind) (raw-ends context ends behind run.last)))
+    took false (b ∷ rest) (kinds.Raw (x ∷ xs)) behind run.taken (omega arith) run.whole run.spells (not_from_false (comes goes_on_raw behind) (raw-ends context ends behind run.last)))

@@ -80,8 +80,8 @@ text-cases context b P word dollar quote star equals percent sign blank =
 abbrev So : Bool → Context → ℕ → List ℕ → Role → Type 0
 So is_in context b rest begun = IfOk (lexeme_with begun context b rest) (λ x. Stands is_in b rest x.0 x.1)
 
-sign-so : (is_in : Bool) (context : Context) (b : ℕ) (rest : List ℕ) (sign : Sign) → Alone sign b → So is_in context b rest (role.Sign sign)
-sign-so is_in context b rest sign spells = took is_in (b ∷ rest) (kinds.Sign sign) rest (b ∷ []) (omega arith) refl spells refl
+sign-so : (context : Context) (b : ℕ) (rest : List ℕ) (sign : Sign) → Alone sign b → So false context b rest (role.Sign sign)
+sign-so context b rest sign spells = took false (b ∷ rest) (kinds.Sign sign) rest (b ∷ []) (omega arith) refl spells refl
 
 at-byte : (is_in : Bool) (context : Context) (b byte : ℕ) (rest : List ℕ) (begun : Role) → b ≡ byte → So is_in context byte rest begun → So is_in context b rest begun
 at-byte is_in context b byte rest begun e so = subst (λ (c : ℕ). So is_in context c rest begun) (sym e) so
@@ -95,7 +95,7 @@ text-stands context b rest =
     (λ e. at-byte false context b 42 rest role.Star e (star-stands rest))
     (λ e. at-byte false context b 61 rest role.Equals e (arrow-stands rest))
     (λ e. at-byte false context b 37 rest role.Percent e (percent-stands rest))
-    (λ sign spells. sign-so false context b rest sign spells)
+    (sign-so context b rest)
     (λ separates. (refl, separates rest))
 
 blank-stands : (is_in : Bool) (context : Context) (b : ℕ) (rest : List ℕ) → eqb b 32 ≡ true → So is_in context b rest role.Blank
@@ -135,7 +135,7 @@ range-stands : (b : ℕ) (rest : List ℕ) → So false Range b rest (range_role
 unfolding range_role
 range-stands b rest =
     let P : Role → Type 0 = So false Range b rest in
-    let put = sign-so false Range b rest in
+    let put = sign-so Range b rest in
     cond_both (eqb b 32) role.Blank _ P (blank-stands false Range b rest) (λ n32.
     cond_both (eqb b 40) (role.Sign signs.Open) _ P (λ e. put signs.Open (alone signs.Open b 40 e refl)) (λ n40.
     cond_both (eqb b 91) (role.Sign signs.Stray) _ P (λ e. put signs.Stray (alone signs.Stray b 91 e refl)) (λ n91.
@@ -147,7 +147,7 @@ attribute-stands : (b : ℕ) (rest : List ℕ) → So false Attributes b rest (a
 unfolding attribute_role
 attribute-stands b rest =
     let P : Role → Type 0 = So false Attributes b rest in
-    let put = sign-so false Attributes b rest in
+    let put = sign-so Attributes b rest in
     cond_both (eqb b 32) role.Blank _ P (blank-stands false Attributes b rest) (λ n32.
     cond_both (eqb b 59) (role.Sign signs.Semi) _ P (λ e. put signs.Semi (alone signs.Semi b 59 e refl)) (λ n59.
     cond_both (eqb b 125) (role.Sign signs.AttrClose) _ P (λ e. put signs.AttrClose (alone signs.AttrClose b 125 e refl)) (λ n125.
@@ -161,7 +161,7 @@ tag-stands b rest =
     let P : Role → Type 0 = So true Tags b rest in
     cond_both (eqb b 32 || eqb b 124) role.Blank _ P between (λ n.
     let bars = or_parts (eqb b 32) (eqb b 124) n in
-    cond_both (eqb b 125) (role.Sign signs.TagClose) role.Piece P (λ e. sign-so true Tags b rest signs.TagClose (alone signs.TagClose b 125 e refl)) (λ n125.
+    cond_both (eqb b 125) (role.Sign signs.TagClose) role.Piece P (λ e. took true (b ∷ rest) (kinds.Sign signs.TagClose) rest (b ∷ []) (omega arith) refl (alone signs.TagClose b 125 e refl) refl) (λ n125.
     piece-stands b rest bars.0 (or_from (eqb b 124) (eqb b 125) bars.1 n125)))
   where
     between : (eqb b 32 || eqb b 124) ≡ true → So true Tags b rest role.Blank

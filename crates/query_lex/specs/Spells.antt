@@ -4,7 +4,7 @@ use Rattle.std.specs.List.{list_any}
 use Rattle.query_lex.specs.declared.lexeme.LexKind.{LexKind}
 use Rattle.query_lex.specs.declared.lexeme.LexKind.TheVariants as kinds
 use Rattle.query_lex.specs.declared.lexeme.Lexeme.{Lexeme}
-use Rattle.query_lex.specs.declared.lexeme.Sign.TheVariants.{TagOpen, TagClose}
+use Rattle.query_lex.specs.declared.lexeme.Sign.TheVariants.{TagOpen, TagClose, Stray}
 use Rattle.query_lex.specs.Bytes.{begins_word, is_of_name, comes, is_at}
 use Rattle.query_lex.specs.Spelling.{IsSpelling}
 use Rattle.token_text.specs.Tokens.{is_separator}
@@ -32,20 +32,30 @@ in_tags_behind in_tags other = in_tags
 abbrev pub goes_on_raw : ℕ → Bool
 goes_on_raw b = not (list_any (nat_eq b) (codes " $([]:;}"))
 
--- what may follow a piece: blanks, and then a bar, the brace that closes or the text's end
-abbrev pub ends_tag : List ℕ → Bool
-ends_tag [] = true
-ends_tag (b ∷ rest) = (b == 124) || ((b == 125) || ((b == 32) && ends_tag rest))
+-- what may follow a piece of tag braces: blanks, and then a bar, the brace that closes or the text's end
+abbrev pub closes_piece : List ℕ → Bool
+closes_piece [] = true
+closes_piece (b ∷ rest) = (b == 124) || ((b == 125) || ((b == 32) && closes_piece rest))
 
--- Whether a lexeme is whole before the rest, which does not go on with a word, a name, a run of raw bytes or a piece.
--- Tags stand in their braces alone, with parameters and signs and nothing else.
+-- In the braces of tags stand whole pieces before the rest (tags, parameters or a stray star), and the brace that closes.
+abbrev pub is_piece : LexKind → List ℕ → Bool
+is_piece (kinds.Tag tag prefix) rest = closes_piece rest
+is_piece (kinds.Param name) rest = closes_piece rest
+is_piece (kinds.Sign Stray) rest = closes_piece rest
+is_piece (kinds.Sign TagClose) rest = true
+is_piece other rest = false
+
+-- Elsewhere stand no tags, and the rest does not go on with a word, a name or a run of raw bytes.
+abbrev pub is_longest : LexKind → List ℕ → Bool
+is_longest (kinds.Tag tag prefix) rest = false
+is_longest (kinds.Word word) rest = not (comes begins_word rest || is_at 42 rest)
+is_longest (kinds.Param name) rest = not (comes is_of_name rest)
+is_longest (kinds.Raw run) rest = not (comes goes_on_raw rest)
+is_longest other rest = true
+
+-- the lexeme may stand before the rest
 abbrev pub is_whole : Bool → LexKind → List ℕ → Bool
-is_whole in_tags (kinds.Word word) rest = not (in_tags || (comes begins_word rest || is_at 42 rest))
-is_whole in_tags (kinds.Param name) rest = if in_tags then ends_tag rest else not (comes is_of_name rest)
-is_whole in_tags (kinds.Raw run) rest = not (in_tags || comes goes_on_raw rest)
-is_whole in_tags (kinds.Tag tag prefix) rest = in_tags && ends_tag rest
-is_whole in_tags (kinds.Sign sign) rest = true
-is_whole in_tags other rest = not in_tags
+is_whole in_tags kind rest = if in_tags then is_piece kind rest else is_longest kind rest
 
 -- From an offset on, in the braces of tags or not: the text ends, or a byte only separates, or a lexeme stands there,
 -- whole and of one byte at least, and the others behind it.
