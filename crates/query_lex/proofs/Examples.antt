@@ -40,14 +40,16 @@ tags =
     (lexeme (codes "}") (omega arith) refl refl no_more))))))))))
 
 -- an escaped blank is of its word, and a `$` without a name is of nothing
-escaped : Spells 0 (codes "red\\ wine $ $c") (put 0 (kinds.Word (codes "red wine")) ∷ put 12 (kinds.Param (codes "c")) ∷ [])
+escaped : Spells 0 (codes "red\\ wine $ $c")
+    (put 0 (kinds.Word (codes "red wine")) ∷ put 12 (kinds.Param (codes "c")) ∷ [])
 escaped =
     lexeme (codes "red\\ wine") (omega arith) refl refl
     (separator refl (separator refl (separator refl
     (lexeme (codes "$c") (omega arith) (refl, refl) refl no_more))))
 
 -- A lexeme stands at the next byte, unless that only separates.
-next_place : {is_in : Bool} {at : ℕ} {text : List ℕ} {found : List Lexeme} → SpellsIn is_in at text found → (b : ℕ) (rest : List ℕ) (first : Lexeme) (others : List Lexeme)
+next_place : {is_in : Bool} {at : ℕ} {text : List ℕ} {found : List Lexeme} → SpellsIn is_in at text found → (b : ℕ)
+    (rest : List ℕ) (first : Lexeme) (others : List Lexeme)
     → text ≡ b ∷ rest → found ≡ first ∷ others → (first.at ≡ at) ⊎ (only_separates is_in b rest ≡ true)
 next_place no_more b rest first others text found = absurd cc
 next_place (separator {in_tags = is_in} {b = c} {text = more} separates spells) b rest first others text found =
@@ -84,7 +86,8 @@ lost_param spells = by_text spells refl refl
 split_word : Spells 0 (codes "ab") (put 0 (kinds.Word (codes "a")) ∷ put 1 (kinds.Word (codes "b")) ∷ []) → ⊥
 split_word spells = by_text spells refl refl
   where
-    by_text : {at : ℕ} {text : List ℕ} {found : List Lexeme} → SpellsIn false at text found → text ≡ codes "ab" → found ≡ put 0 (kinds.Word (codes "a")) ∷ put 1 (kinds.Word (codes "b")) ∷ [] → ⊥
+    by_text : {at : ℕ} {text : List ℕ} {found : List Lexeme} → SpellsIn false at text found → text ≡ codes "ab" → found ≡ put 0
+        (kinds.Word (codes "a")) ∷ put 1 (kinds.Word (codes "b")) ∷ [] → ⊥
     by_text no_more text found = cc
     by_text (separator {b = c} {text = more} separates spells) text found =
         let same : c ≡ 97 = cc in

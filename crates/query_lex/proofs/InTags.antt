@@ -59,7 +59,8 @@ kind-keeps context outside None = refl
 kind-keeps context outside (Some (kinds.Sign sign)) = sign-keeps context outside sign
 kind-keeps context outside (Some _) = behind-keeps context
 
-outside-keeps : (context : Context) → in_tags context ≡ false → (read : Read (Option LexKind)) → IfOk read (λ x. KeepsTags context x.0)
+outside-keeps : (context : Context) → in_tags context ≡ false → (read : Read (Option LexKind))
+    → IfOk read (λ x. KeepsTags context x.0)
 outside-keeps context outside (Ok x) = kind-keeps context outside x.0
 outside-keeps context outside (Err stop) = tt
 
@@ -70,11 +71,15 @@ starred-keeps (b ∷ front) = refl
 piece-keeps : (piece : List TextByte) → KeepsTags Tags (Some (piece_kind piece))
 piece-keeps piece = by_param (is_param piece)
   where
-    by_star : (is : Bool) → KeepsTags Tags (Some (cond {A = LexKind} is (starred_kind (front_of piece)) (kinds.Tag (bytes_of piece) false)))
+    by_star : (is : Bool)
+        → KeepsTags Tags
+        (Some (cond {A = LexKind} is (starred_kind (front_of piece)) (kinds.Tag (bytes_of piece) false)))
     by_star true = starred-keeps (front_of piece)
     by_star false = refl
 
-    by_param : (is : Bool) → KeepsTags Tags (Some (cond {A = LexKind} is (kinds.Param (bytes_of (drop 1 piece))) (cond {A = LexKind} (ends_in 42 piece) (starred_kind (front_of piece)) (kinds.Tag (bytes_of piece) false))))
+    by_param : (is : Bool)
+        → KeepsTags Tags
+        (Some (cond {A = LexKind} is (kinds.Param (bytes_of (drop 1 piece))) (cond {A = LexKind} (ends_in 42 piece) (starred_kind (front_of piece)) (kinds.Tag (bytes_of piece) false))))
     by_param true = refl
     by_param false = by_star (ends_in 42 piece)
 
@@ -83,7 +88,9 @@ Kept x = KeepsTags Tags x.0
 
 inside-keeps : (b : ℕ) (rest : List ℕ) → IfOk (piece_at b rest) Kept
 unfolding piece_at
-inside-keeps b rest = whatever Kept (tag_byte_at b rest) _ (λ first. whatever Kept (with_first first.0 (run_at next_of_tag first.1)) _ (λ piece. piece-keeps (trimmed piece.0)))
+inside-keeps b rest =
+    whatever Kept (tag_byte_at b rest) _
+    (λ first. whatever Kept (with_first first.0 (run_at next_of_tag first.1)) _ (λ piece. piece-keeps (trimmed piece.0)))
 
 -- In the braces of tags there are pieces, and the sign that closes them.
 tag-keeps : (b : ℕ) (rest : List ℕ) → IfOk (lexeme_with (tag_role b) Tags b rest) Kept
@@ -93,7 +100,8 @@ tag-keeps b rest =
     cond_both (eqb b 32 || eqb b 124) role.Blank _ P (λ e. refl) (λ n.
     cond_both (eqb b 125) (role.Sign signs.TagClose) role.Piece P (λ e. refl) (λ n125. inside-keeps b rest))
 
-pub lexeme-keeps : (context : Context) (b : ℕ) (rest : List ℕ) → IfOk (lexeme_at context b rest) (λ x. KeepsTags context x.0)
+pub lexeme-keeps : (context : Context) (b : ℕ) (rest : List ℕ)
+    → IfOk (lexeme_at context b rest) (λ x. KeepsTags context x.0)
 unfolding lexeme_at
 lexeme-keeps Tags b rest = tag-keeps b rest
 lexeme-keeps Text b rest = outside-keeps Text refl (lexeme_at Text b rest)

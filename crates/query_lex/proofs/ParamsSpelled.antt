@@ -17,7 +17,8 @@ named bytes = prefix_len (λ b. not (ends_name b)) bytes
 name-length : (bytes : List ℕ) → name_length bytes ≡ named bytes
 name-length bytes = by_test (ltb (named bytes) (length bytes)) refl
   where
-    by_test : (is : Bool) → ltb (named bytes) (length bytes) ≡ is → unwrap_or (cond {A = Option ℕ} is (Some (named bytes)) None) (length bytes) ≡ named bytes
+    by_test : (is : Bool) → ltb (named bytes) (length bytes) ≡ is
+        → unwrap_or (cond {A = Option ℕ} is (Some (named bytes)) None) (length bytes) ≡ named bytes
     by_test true e = refl
     by_test false e =
         let most : named bytes ≤ length bytes = prefix_len-le-length (λ b. not (ends_name b)) bytes in
@@ -32,7 +33,8 @@ name-bytes (b ∷ bytes) = by_test (is_of_name b) refl (name-bytes bytes)
     by_test : (is : Bool) → is_of_name b ≡ is → list_all is_of_name (take (named bytes) bytes) ≡ true
         → list_all is_of_name (take (cond (not (not is)) (1 + named bytes) 0) (b ∷ bytes)) ≡ true
     by_test true e others =
-        ap (λ (n : ℕ). list_all is_of_name (take n (b ∷ bytes))) (one-add (named bytes)) ∙ and_from (is_of_name b) (list_all is_of_name (take (named bytes) bytes)) e others
+        ap (λ (n : ℕ). list_all is_of_name (take n (b ∷ bytes))) (one-add (named bytes))
+        ∙ and_from (is_of_name b) (list_all is_of_name (take (named bytes) bytes)) e others
     by_test false e others = refl
 
 -- and none comes behind them
@@ -46,19 +48,22 @@ name-ends (b ∷ bytes) = by_test (is_of_name b) refl (name-ends bytes)
     by_test false e others = e
 
 -- a name comes
-name-stands : (may_be_prefix : Bool) (b : ℕ) (name behind rest : List ℕ) → rest ≡ (b ∷ name) ++ behind → names_param (b ∷ name) ≡ true → comes is_of_name behind ≡ false
+name-stands : (may_be_prefix : Bool) (b : ℕ) (name behind rest : List ℕ) → rest ≡ (b ∷ name) ++ behind
+    → names_param (b ∷ name) ≡ true → comes is_of_name behind ≡ false
     → StandsSo false 36 rest (param_with may_be_prefix (b ∷ name) behind)
 name-stands may_be_prefix b name behind rest whole names ends = by_test (may_be_prefix && is_at 42 behind) refl
   where
     by_test : (is : Bool) → (may_be_prefix && is_at 42 behind) ≡ is
-        → StandsSo false 36 rest (cond {A = Found} is (Some (ParamPrefix (b ∷ name)), drop 1 behind) (Some (Param (b ∷ name)), behind))
+        → StandsSo false 36 rest
+        (cond {A = Found} is (Some (ParamPrefix (b ∷ name)), drop 1 behind) (Some (Param (b ∷ name)), behind))
     by_test true e =
         let star = at-next 42 behind (and_parts may_be_prefix (is_at 42 behind) e).1 in
         took false (36 ∷ rest) (ParamPrefix (b ∷ name)) (drop 1 behind) (36 ∷ ((b ∷ name) ++ 42 ∷ [])) (omega arith)
         (ap (λ (bytes : List ℕ). 36 ∷ bytes) (whole ∙ ap (λ (more : List ℕ). (b ∷ name) ++ more) star ∙ sym (append_assoc (b ∷ name) (42 ∷ []) (drop 1 behind))))
         (refl, names) refl
     by_test false e =
-        took false (36 ∷ rest) (Param (b ∷ name)) behind (36 ∷ b ∷ name) (omega arith) (ap (λ (bytes : List ℕ). 36 ∷ bytes) whole) (refl, names) (not_from_false (comes is_of_name behind) ends)
+        took false (36 ∷ rest) (Param (b ∷ name)) behind (36 ∷ b ∷ name) (omega arith)
+        (ap (λ (bytes : List ℕ). 36 ∷ bytes) whole) (refl, names) (not_from_false (comes is_of_name behind) ends)
 
 -- what stands behind so many bytes
 abbrev Behind : Bool → List ℕ → ℕ → Type 0
@@ -72,9 +77,11 @@ by-name may_be_prefix (b ∷ rest) = by_test (is_of_name b) refl
     by_test true e =
         subst (Behind may_be_prefix (b ∷ rest)) (sym (one-add (named rest)))
         (name-stands may_be_prefix b (take (named rest) rest) (drop (named rest) rest) (b ∷ rest)
-        (ap (λ (bytes : List ℕ). b ∷ bytes) (sym (take-append-drop (named rest) rest))) (and_from (is_of_name b) (list_all is_of_name (take (named rest) rest)) e (name-bytes rest)) (name-ends rest))
+        (ap (λ (bytes : List ℕ). b ∷ bytes) (sym (take-append-drop (named rest) rest)))
+        (and_from (is_of_name b) (list_all is_of_name (take (named rest) rest)) e (name-bytes rest)) (name-ends rest))
     by_test false e = (refl, not_from_false (is_of_name b) e)
 
 pub param-stands : (may_be_prefix : Bool) (rest : List ℕ) → StandsSo false 36 rest (param_at may_be_prefix rest)
 unfolding param_at
-param-stands may_be_prefix rest = subst (Behind may_be_prefix rest) (sym (name-length rest)) (by-name may_be_prefix rest)
+param-stands may_be_prefix rest =
+    subst (Behind may_be_prefix rest) (sym (name-length rest)) (by-name may_be_prefix rest)

@@ -24,7 +24,9 @@ escape-step : (inside rest : List ℕ) → NextSo (92 ∷ rest) (quoted_escape_a
 escape-step inside [] = tt
 escape-step inside (b ∷ rest) = by_test (is_separator b) refl
   where
-    by_test : (is : Bool) → is_separator b ≡ is → NextSo (92 ∷ b ∷ rest) (cond {A = Next TextByte} is (Ok (Some (escaped b, rest))) (Err (lone_or_open inside (b ∷ rest))))
+    by_test : (is : Bool) → is_separator b ≡ is
+        → NextSo (92 ∷ b ∷ rest)
+        (cond {A = Next TextByte} is (Ok (Some (escaped b, rest))) (Err (lone_or_open inside (b ∷ rest))))
     by_test true e = record {
       front = 92 ∷ b ∷ [];
       least = omega arith;
@@ -38,17 +40,22 @@ unfolding next_quoted
 quoted-steps inside [] = tt
 quoted-steps inside (b ∷ rest) = by_mark (eqb b 34) refl
   where
-    by_escape : (is : Bool) → eqb b 34 ≡ false → eqb b 92 ≡ is → NextSo (b ∷ rest) (cond {A = Next TextByte} is (quoted_escape_at inside rest) (Ok (Some (plain b, rest))))
-    by_escape true m e = subst (λ (c : ℕ). NextSo (c ∷ rest) (quoted_escape_at inside rest)) (sym (eqb-true b 92 e)) (escape-step inside rest)
+    by_escape : (is : Bool) → eqb b 34 ≡ false → eqb b 92 ≡ is
+        → NextSo (b ∷ rest) (cond {A = Next TextByte} is (quoted_escape_at inside rest) (Ok (Some (plain b, rest))))
+    by_escape true m e =
+        subst (λ (c : ℕ). NextSo (c ∷ rest) (quoted_escape_at inside rest)) (sym (eqb-true b 92 e))
+        (escape-step inside rest)
     by_escape false m e = record {
       front = b ∷ [];
       least = omega arith;
       whole = refl;
-      adds = λ inside more spells. (ap (λ (bytes : List ℕ). b ∷ bytes) spells.0, quoted_byte (not_from_false (eqb b 34 || eqb b 92) (or_from (eqb b 34) (eqb b 92) m e)) spells.1);
+      adds = λ inside more spells.
+          (ap (λ (bytes : List ℕ). b ∷ bytes) spells.0, quoted_byte (not_from_false (eqb b 34 || eqb b 92) (or_from (eqb b 34) (eqb b 92) m e)) spells.1);
     }
 
     by_mark : (is : Bool) → eqb b 34 ≡ is
-        → NextSo (b ∷ rest) (cond {A = Next TextByte} is (Ok None) (cond {A = Next TextByte} (eqb b 92) (quoted_escape_at inside rest) (Ok (Some (plain b, rest)))))
+        → NextSo (b ∷ rest)
+        (cond {A = Next TextByte} is (Ok None) (cond {A = Next TextByte} (eqb b 92) (quoted_escape_at inside rest) (Ok (Some (plain b, rest)))))
     by_mark true m = tt
     by_mark false m = by_escape (eqb b 92) m refl
 
@@ -57,7 +64,8 @@ escape-goes_on : (inside rest : List ℕ) → quoted_escape_at inside rest ≡ O
 escape-goes_on inside [] e = cc
 escape-goes_on inside (b ∷ rest) e = by_test (is_separator b) e
   where
-    by_test : (is : Bool) → cond {A = Next TextByte} is (Ok (Some (escaped b, rest))) (Err (lone_or_open inside (b ∷ rest))) ≡ Ok None → ⊥
+    by_test : (is : Bool)
+        → cond {A = Next TextByte} is (Ok (Some (escaped b, rest))) (Err (lone_or_open inside (b ∷ rest))) ≡ Ok None → ⊥
     by_test true e = cc
     by_test false e = cc
 
@@ -67,12 +75,15 @@ unfolding next_quoted
 quote-ends inside [] e = absurd cc
 quote-ends inside (b ∷ rest) e = by_mark (eqb b 34) refl e
   where
-    by_escape : (is : Bool) → cond {A = Next TextByte} is (quoted_escape_at inside rest) (Ok (Some (plain b, rest))) ≡ Ok None → ⊥
+    by_escape : (is : Bool)
+        → cond {A = Next TextByte} is (quoted_escape_at inside rest) (Ok (Some (plain b, rest))) ≡ Ok None → ⊥
     by_escape true e = escape-goes_on inside rest e
     by_escape false e = cc
 
     by_mark : (is : Bool) → eqb b 34 ≡ is
-        → cond {A = Next TextByte} is (Ok None) (cond {A = Next TextByte} (eqb b 92) (quoted_escape_at inside rest) (Ok (Some (plain b, rest)))) ≡ Ok None → b ∷ rest ≡ 34 ∷ rest
+        → cond {A = Next TextByte} is (Ok None)
+        (cond {A = Next TextByte} (eqb b 92) (quoted_escape_at inside rest) (Ok (Some (plain b, rest)))) ≡ Ok None
+        → b ∷ rest ≡ 34 ∷ rest
     by_mark true m e = ap (λ (c : ℕ). c ∷ rest) (eqb-true b 34 m)
     by_mark false m e = absurd (by_escape (eqb b 92) e)
 
@@ -84,7 +95,9 @@ as_quote text = Ok (Some (Quote text.0), drop 1 text.1)
 
 pub quote-stands : (inside : List ℕ) → IfOk (quote_at inside) (λ x. Stands false 34 inside x.0 x.1)
 unfolding quote_at
-quote-stands inside = by_run (run_at (next_quoted inside) inside) (run_taken (next_quoted inside) SpellsInside (refl, quoted_end) (quoted-steps inside) inside)
+quote-stands inside =
+    by_run (run_at (next_quoted inside) inside)
+    (run_taken (next_quoted inside) SpellsInside (refl, quoted_end) (quoted-steps inside) inside)
   where
     by_run : (read : Read (List TextByte)) → IfOk read (λ run. Run (next_quoted inside) SpellsInside run.0 inside run.1)
         → IfOk (read >>= as_spelled >>= as_quote) (λ x. Stands false 34 inside x.0 x.1)

@@ -43,7 +43,8 @@ brace-alone _ = refl
 -- the cases in a text; of no lexeme is what always only separates
 text-cases : (context : Context) (b : ℕ) (P : Role → Type 0)
     → (begins_word b ≡ true → P role.Word)
-    → (b ≡ 36 → P role.Dollar) → (b ≡ 34 → P role.Quote) → (b ≡ 42 → P role.Star) → (b ≡ 61 → P role.Equals) → (b ≡ 37 → P role.Percent)
+    → (b ≡ 36 → P role.Dollar) → (b ≡ 34 → P role.Quote) → (b ≡ 42 → P role.Star) → (b ≡ 61 → P role.Equals)
+    → (b ≡ 37 → P role.Percent)
     → ((sign : Sign) → Alone sign b → P (role.Sign sign))
     → (((rest : List ℕ) → only_separates false b rest ≡ true) → P role.Blank)
     → P (text_role context b)
@@ -62,8 +63,10 @@ text-cases context b P word dollar quote star equals percent sign blank =
     cond_both (eqb b 126) (role.Sign signs.Tilde) _ P (λ e. sign signs.Tilde (alone signs.Tilde b 126 e refl)) (λ n126.
     cond_both (eqb b 64) (role.Sign signs.At) _ P (λ e. sign signs.At (alone signs.At b 64 e refl)) (λ n64.
     cond_both (eqb b 58) (role.Sign signs.Colon) _ P (λ e. sign signs.Colon (alone signs.Colon b 58 e refl)) (λ n58.
-    cond_both (eqb b 91) (role.Sign (bracket_in context)) _ P (λ e. sign (bracket_in context) (alone (bracket_in context) b 91 e (bracket-alone context))) (λ n91.
-    cond_both (eqb b 123) (role.Sign (brace_in context)) _ P (λ e. sign (brace_in context) (alone (brace_in context) b 123 e (brace-alone context))) (λ n123.
+    cond_both (eqb b 91) (role.Sign (bracket_in context)) _ P
+    (λ e. sign (bracket_in context) (alone (bracket_in context) b 91 e (bracket-alone context))) (λ n91.
+    cond_both (eqb b 123) (role.Sign (brace_in context)) _ P
+    (λ e. sign (brace_in context) (alone (brace_in context) b 123 e (brace-alone context))) (λ n123.
     cond_both (eqb b 93 || eqb b 125) (role.Sign signs.Stray) role.Blank P (λ e. sign signs.Stray (stray e)) (λ n.
     let bars = or_parts (eqb b 92) (not (is_separator b)) n0 in
     let n92 : eqb b 92 ≡ false = bars.0 in
@@ -71,19 +74,25 @@ text-cases context b P word dollar quote star equals percent sign blank =
     let closers = or_parts (eqb b 93) (eqb b 125) n in
     let n93 : eqb b 93 ≡ false = closers.0 in
     let n125 : eqb b 125 ≡ false = closers.1 in
-    blank (λ rest. rw (n36, n61, parts, n34, n37, n40, n41, n42, n45, n58, n64, n91, n92, n93, n123, n124, n125, n126) refl)))))))))))))))))
+    blank
+    (λ rest. rw (n36, n61, parts, n34, n37, n40, n41, n42, n45, n58, n64, n91, n92, n93, n123, n124, n125, n126) refl)))))))))))))))))
   where
     stray : (eqb b 93 || eqb b 125) ≡ true → Alone signs.Stray b
-    stray e = elim (or_cases (eqb b 93) (eqb b 125) e) [ inl is ↦ alone signs.Stray b 93 is refl | inr is ↦ alone signs.Stray b 125 is refl ]
+    stray e =
+        elim
+        (or_cases (eqb b 93) (eqb b 125) e) [ inl is ↦ alone signs.Stray b 93 is refl | inr is ↦ alone signs.Stray b 125 is refl ]
 
 -- what stands there where it begins so
 abbrev So : Bool → Context → ℕ → List ℕ → Role → Type 0
 So is_in context b rest begun = IfOk (lexeme_with begun context b rest) (λ x. Stands is_in b rest x.0 x.1)
 
-sign-so : (context : Context) (b : ℕ) (rest : List ℕ) (sign : Sign) → Alone sign b → So false context b rest (role.Sign sign)
-sign-so context b rest sign spells = took false (b ∷ rest) (kinds.Sign sign) rest (b ∷ []) (omega arith) refl spells refl
+sign-so : (context : Context) (b : ℕ) (rest : List ℕ) (sign : Sign) → Alone sign b
+    → So false context b rest (role.Sign sign)
+sign-so context b rest sign spells =
+    took false (b ∷ rest) (kinds.Sign sign) rest (b ∷ []) (omega arith) refl spells refl
 
-at-byte : (is_in : Bool) (context : Context) (b byte : ℕ) (rest : List ℕ) (begun : Role) → b ≡ byte → So is_in context byte rest begun → So is_in context b rest begun
+at-byte : (is_in : Bool) (context : Context) (b byte : ℕ) (rest : List ℕ) (begun : Role) → b ≡ byte
+    → So is_in context byte rest begun → So is_in context b rest begun
 at-byte is_in context b byte rest begun e so = subst (λ (c : ℕ). So is_in context c rest begun) (sym e) so
 
 text-stands : (context : Context) (b : ℕ) (rest : List ℕ) → So false context b rest (text_role context b)
@@ -98,11 +107,14 @@ text-stands context b rest =
     (sign-so context b rest)
     (λ separates. (refl, separates rest))
 
-blank-stands : (is_in : Bool) (context : Context) (b : ℕ) (rest : List ℕ) → eqb b 32 ≡ true → So is_in context b rest role.Blank
-blank-stands is_in context b rest e = at-byte is_in context b 32 rest role.Blank (eqb-true b 32 e) (refl, blank-separates is_in rest)
+blank-stands : (is_in : Bool) (context : Context) (b : ℕ) (rest : List ℕ) → eqb b 32 ≡ true
+    → So is_in context b rest role.Blank
+blank-stands is_in context b rest e =
+    at-byte is_in context b 32 rest role.Blank (eqb-true b 32 e) (refl, blank-separates is_in rest)
 
 dollar-stands : (context : Context) (b : ℕ) (rest : List ℕ) → eqb b 36 ≡ true → So false context b rest role.Dollar
-dollar-stands context b rest e = at-byte false context b 36 rest role.Dollar (eqb-true b 36 e) (param-stands (not (is_enclosed context)) rest)
+dollar-stands context b rest e =
+    at-byte false context b 36 rest role.Dollar (eqb-true b 36 e) (param-stands (not (is_enclosed context)) rest)
 
 -- what is not raw in brackets or in braces of attributes ends a run
 abbrev Ends : ℕ → Role → Type 0
@@ -139,7 +151,8 @@ range-stands b rest =
     cond_both (eqb b 32) role.Blank _ P (blank-stands false Range b rest) (λ n32.
     cond_both (eqb b 40) (role.Sign signs.Open) _ P (λ e. put signs.Open (alone signs.Open b 40 e refl)) (λ n40.
     cond_both (eqb b 91) (role.Sign signs.Stray) _ P (λ e. put signs.Stray (alone signs.Stray b 91 e refl)) (λ n91.
-    cond_both (eqb b 93) (role.Sign signs.RangeClose) _ P (λ e. put signs.RangeClose (alone signs.RangeClose b 93 e refl)) (λ n93.
+    cond_both (eqb b 93) (role.Sign signs.RangeClose) _ P
+    (λ e. put signs.RangeClose (alone signs.RangeClose b 93 e refl)) (λ n93.
     cond_both (eqb b 36) role.Dollar role.Raw P (dollar-stands Range b rest) (λ n36.
     raw-stands Range range-ends b rest (rw (n32, n40, n91, n93, n36) refl))))))
 
@@ -150,7 +163,8 @@ attribute-stands b rest =
     let put = sign-so Attributes b rest in
     cond_both (eqb b 32) role.Blank _ P (blank-stands false Attributes b rest) (λ n32.
     cond_both (eqb b 59) (role.Sign signs.Semi) _ P (λ e. put signs.Semi (alone signs.Semi b 59 e refl)) (λ n59.
-    cond_both (eqb b 125) (role.Sign signs.AttrClose) _ P (λ e. put signs.AttrClose (alone signs.AttrClose b 125 e refl)) (λ n125.
+    cond_both (eqb b 125) (role.Sign signs.AttrClose) _ P
+    (λ e. put signs.AttrClose (alone signs.AttrClose b 125 e refl)) (λ n125.
     cond_both (eqb b 58) (role.Sign signs.Colon) _ P (λ e. put signs.Colon (alone signs.Colon b 58 e refl)) (λ n58.
     cond_both (eqb b 36) role.Dollar role.Raw P (dollar-stands Attributes b rest) (λ n36.
     raw-stands Attributes attribute-ends b rest (rw (n32, n59, n125, n58, n36) refl))))))
@@ -161,7 +175,9 @@ tag-stands b rest =
     let P : Role → Type 0 = So true Tags b rest in
     cond_both (eqb b 32 || eqb b 124) role.Blank _ P between (λ n.
     let bars = or_parts (eqb b 32) (eqb b 124) n in
-    cond_both (eqb b 125) (role.Sign signs.TagClose) role.Piece P (λ e. took true (b ∷ rest) (kinds.Sign signs.TagClose) rest (b ∷ []) (omega arith) refl (alone signs.TagClose b 125 e refl) refl) (λ n125.
+    cond_both (eqb b 125) (role.Sign signs.TagClose) role.Piece P
+    (λ e. took true (b ∷ rest) (kinds.Sign signs.TagClose) rest (b ∷ []) (omega arith) refl (alone signs.TagClose b 125 e refl) refl)
+    (λ n125.
     piece-stands b rest bars.0 (or_from (eqb b 124) (eqb b 125) bars.1 n125)))
   where
     between : (eqb b 32 || eqb b 124) ≡ true → So true Tags b rest role.Blank
@@ -171,7 +187,8 @@ tag-stands b rest =
           | inr is ↦ at-byte true Tags b 124 rest role.Blank (eqb-true b 124 is) (refl, refl)
         ]
 
-pub lexeme-stands : (context : Context) (b : ℕ) (rest : List ℕ) → IfOk (lexeme_at context b rest) (λ x. Stands (in_tags context) b rest x.0 x.1)
+pub lexeme-stands : (context : Context) (b : ℕ) (rest : List ℕ)
+    → IfOk (lexeme_at context b rest) (λ x. Stands (in_tags context) b rest x.0 x.1)
 unfolding lexeme_at
 lexeme-stands Range b rest = range-stands b rest
 lexeme-stands Tags b rest = tag-stands b rest

@@ -27,7 +27,8 @@ abbrev pub StandsSo : Bool → ℕ → List ℕ → Found → Type 0
 StandsSo in_tags b rest found = Stands in_tags b rest found.0 found.1
 
 -- no blanks behind it
-pub took : (in_tags : Bool) (bytes : List ℕ) (kind : LexKind) (behind spelling : List ℕ) → 0 < length spelling → bytes ≡ spelling ++ behind → IsSpelling kind spelling
+pub took : (in_tags : Bool) (bytes : List ℕ) (kind : LexKind) (behind spelling : List ℕ) → 0 < length spelling
+    → bytes ≡ spelling ++ behind → IsSpelling kind spelling
     → is_whole in_tags kind behind ≡ true → Took in_tags bytes kind behind
 took in_tags bytes kind behind spelling least whole spells ends = record { spelling = spelling; blanks = 0; least = least; whole = whole; spells = spells; ends = ends }
 
@@ -44,15 +45,19 @@ at-next byte (b ∷ rest) e = ap (λ (c : ℕ). c ∷ rest) (eqb-true b byte e)
 pub star-stands : (rest : List ℕ) → StandsSo false 42 rest (star_at rest)
 star-stands rest = by_test (comes begins_word rest)
   where
-    by_test : (is : Bool) → StandsSo false 42 rest (cond {A = Found} is (Some (Foreign (codes "*")), rest) (Some (Sign signs.Star), rest))
+    by_test : (is : Bool)
+        → StandsSo false 42 rest (cond {A = Found} is (Some (Foreign (codes "*")), rest) (Some (Sign signs.Star), rest))
     by_test true = took false (42 ∷ rest) (Foreign (codes "*")) rest (42 ∷ []) (omega arith) refl (refl, refl) refl
     by_test false = took false (42 ∷ rest) (Sign signs.Star) rest (42 ∷ []) (omega arith) refl refl refl
 
 pub arrow-stands : (rest : List ℕ) → StandsSo false 61 rest (arrow_at rest)
 arrow-stands rest = by_test (is_at 62 rest) refl
   where
-    by_test : (is : Bool) → is_at 62 rest ≡ is → StandsSo false 61 rest (cond {A = Found} is (Some (Sign signs.Arrow), drop 1 rest) (None, rest))
-    by_test true e = took false (61 ∷ rest) (Sign signs.Arrow) (drop 1 rest) (61 ∷ 62 ∷ []) (omega arith) (ap (λ (bytes : List ℕ). 61 ∷ bytes) (at-next 62 rest e)) refl refl
+    by_test : (is : Bool) → is_at 62 rest ≡ is
+        → StandsSo false 61 rest (cond {A = Found} is (Some (Sign signs.Arrow), drop 1 rest) (None, rest))
+    by_test true e =
+        took false (61 ∷ rest) (Sign signs.Arrow) (drop 1 rest) (61 ∷ 62 ∷ []) (omega arith)
+        (ap (λ (bytes : List ℕ). 61 ∷ bytes) (at-next 62 rest e)) refl refl
     by_test false e = (refl, not_from_false (is_at 62 rest) e)
 
 pub percent-stands : (rest : List ℕ) → Stands false 37 rest (Some (Foreign (codes "%"))) rest

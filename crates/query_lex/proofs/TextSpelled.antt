@@ -19,53 +19,75 @@ use Rattle.query_lex.proofs.RolesSpelled.{lexeme-stands}
 use Rattle.query_lex.proofs.Standing.{Took, Stands, blank-separates}
 
 -- blanks only separate
-blanks-separate : (is_in : Bool) (blanks at : ℕ) (text : List ℕ) (found : List Lexeme) → SpellsIn is_in (at + blanks) text found → SpellsIn is_in at (replicate blanks 32 ++ text) found
+blanks-separate : (is_in : Bool) (blanks at : ℕ) (text : List ℕ) (found : List Lexeme)
+    → SpellsIn is_in (at + blanks) text found → SpellsIn is_in at (replicate blanks 32 ++ text) found
 blanks-separate is_in zero at text found spells =
     let here : at + 0 ≡ at = omega arith in
     subst (λ (place : ℕ). SpellsIn is_in place text found) here spells
 blanks-separate is_in (suc blanks) at text found spells =
     let here : at + suc blanks ≡ suc at + blanks = omega arith in
-    separator (blank-separates is_in (replicate blanks 32 ++ text)) (blanks-separate is_in blanks (suc at) text found (subst (λ (place : ℕ). SpellsIn is_in place text found) here spells))
+    separator (blank-separates is_in (replicate blanks 32 ++ text))
+    (blanks-separate is_in blanks (suc at) text found (subst (λ (place : ℕ). SpellsIn is_in place text found) here spells))
 
 -- how many bytes a lexeme takes
-took-length : (is_in : Bool) (bytes : List ℕ) (kind : LexKind) (rest : List ℕ) (took : Took is_in bytes kind rest) → length bytes ≡ length took.spelling + (took.blanks + length rest)
+took-length : (is_in : Bool) (bytes : List ℕ) (kind : LexKind) (rest : List ℕ) (took : Took is_in bytes kind rest)
+    → length bytes ≡ length took.spelling + (took.blanks + length rest)
 took-length is_in bytes kind rest took =
-    let blanks : length (replicate took.blanks 32 ++ rest) ≡ took.blanks + length rest = length-append (replicate took.blanks 32) rest ∙ ap (λ (n : ℕ). n + length rest) (length-replicate took.blanks 32) in
-    ap length took.whole ∙ length-append took.spelling (replicate took.blanks 32 ++ rest) ∙ ap (λ (n : ℕ). length took.spelling + n) blanks
+    let blanks : length (replicate took.blanks 32 ++ rest) ≡ took.blanks + length rest =
+    length-append (replicate took.blanks 32) rest
+    ∙ ap (λ (n : ℕ). n + length rest) (length-replicate took.blanks 32) in
+    ap length took.whole ∙ length-append took.spelling (replicate took.blanks 32 ++ rest)
+    ∙ ap (λ (n : ℕ). length took.spelling + n) blanks
 
-after_ok : (found : List Lexeme) (others : Result (List Lexeme) Stop) (P Q : List Lexeme → Type 0) → IfOk others P → ((lexemes : List Lexeme) → P lexemes → Q (found ++ lexemes))
+after_ok : (found : List Lexeme) (others : Result (List Lexeme) Stop) (P Q : List Lexeme → Type 0) → IfOk others P
+    → ((lexemes : List Lexeme) → P lexemes → Q (found ++ lexemes))
     → IfOk (after found others) Q
 after_ok found (Ok lexemes) P Q h given = given lexemes h
 after_ok found (Err stop) P Q h given = tt
 
 -- what is known of the bytes behind a lexeme
 abbrev Again : ℕ → ℕ → Type 0
-Again n total = (at : ℕ) (context : Context) (rest : List ℕ) → length rest ≤ n → at + length rest ≡ total → IfOk (lexed_in n total context rest) (SpellsIn (in_tags context) at rest)
+Again n total =
+    (at : ℕ) (context : Context) (rest : List ℕ) → length rest ≤ n → at + length rest ≡ total → IfOk
+    (lexed_in n total context rest) (SpellsIn (in_tags context) at rest)
 
-one-spelled : (n total at : ℕ) (context : Context) (b : ℕ) (bytes : List ℕ) (kind : Option LexKind) (rest : List ℕ) → length (b ∷ bytes) ≤ suc n → at + length (b ∷ bytes) ≡ total
+one-spelled : (n total at : ℕ) (context : Context) (b : ℕ) (bytes : List ℕ) (kind : Option LexKind) (rest : List ℕ)
+    → length (b ∷ bytes) ≤ suc n → at + length (b ∷ bytes) ≡ total
     → Stands (in_tags context) b bytes kind rest → KeepsTags context kind → Again n total
-    → IfOk (after (at_place (total - length (b ∷ bytes)) kind) (lexed_in n total (context_behind context kind) rest)) (SpellsIn (in_tags context) at (b ∷ bytes))
+    → IfOk (after (at_place (total - length (b ∷ bytes)) kind) (lexed_in n total (context_behind context kind) rest))
+    (SpellsIn (in_tags context) at (b ∷ bytes))
 one-spelled n total at context b bytes None rest few place stands keeps again =
     let size : length rest ≡ length bytes = ap length stands.0 in
-    after_ok [] (lexed_in n total context rest) (SpellsIn (in_tags context) (suc at) rest) (SpellsIn (in_tags context) at (b ∷ bytes)) (again (suc at) context rest (omega arith) (omega arith))
+    after_ok [] (lexed_in n total context rest) (SpellsIn (in_tags context) (suc at) rest)
+    (SpellsIn (in_tags context) at (b ∷ bytes)) (again (suc at) context rest (omega arith) (omega arith))
     (λ found spells. separator stands.1 (subst (λ (text : List ℕ). SpellsIn (in_tags context) (suc at) text found) stands.0 spells))
 one-spelled n total at context b bytes (Some kind) rest few place stands keeps again =
-    let size : length (b ∷ bytes) ≡ length stands.spelling + (stands.blanks + length rest) = took-length (in_tags context) (b ∷ bytes) kind rest stands in
+    let size : length (b ∷ bytes) ≡ length stands.spelling + (stands.blanks + length rest) =
+    took-length (in_tags context) (b ∷ bytes) kind rest stands in
     let here : at ≡ total - length (b ∷ bytes) = omega arith in
     let next : ℕ = at + length stands.spelling + stands.blanks in
-    after_ok (at_place (total - length (b ∷ bytes)) (Some kind)) (lexed_in n total (context_behind context (Some kind)) rest) (SpellsIn (in_tags (context_behind context (Some kind))) next rest) (SpellsIn (in_tags context) at (b ∷ bytes))
+    after_ok (at_place (total - length (b ∷ bytes)) (Some kind))
+    (lexed_in n total (context_behind context (Some kind)) rest)
+    (SpellsIn (in_tags (context_behind context (Some kind))) next rest) (SpellsIn (in_tags context) at (b ∷ bytes))
     (again next (context_behind context (Some kind)) rest (omega (arith, stands.least)) (omega arith))
     (λ found spells.
-    let others : SpellsIn (in_tags_behind (in_tags context) kind) next rest found = subst (λ (is_in : Bool). SpellsIn is_in next rest found) keeps spells in
-    let behind = blanks-separate (in_tags_behind (in_tags context) kind) stands.blanks (at + length stands.spelling) rest found others in
+    let others : SpellsIn (in_tags_behind (in_tags context) kind) next rest found =
+    subst (λ (is_in : Bool). SpellsIn is_in next rest found) keeps spells in
+    let behind =
+    blanks-separate (in_tags_behind (in_tags context) kind) stands.blanks
+    (at + length stands.spelling) rest found others in
     subst (λ (place : ℕ). SpellsIn (in_tags context) at (b ∷ bytes) (record { at = place; kind = kind } ∷ found)) here
     (subst (λ (text : List ℕ). SpellsIn (in_tags context) at text (record { at = at; kind = kind } ∷ found)) (sym stands.whole)
     (lexeme stands.spelling stands.least stands.spells stands.ends behind)))
 
-step-spelled : (n total at : ℕ) (context : Context) (b : ℕ) (bytes : List ℕ) (read : Read (Option LexKind)) → length (b ∷ bytes) ≤ suc n → at + length (b ∷ bytes) ≡ total
+step-spelled : (n total at : ℕ) (context : Context) (b : ℕ) (bytes : List ℕ) (read : Read (Option LexKind))
+    → length (b ∷ bytes) ≤ suc n → at + length (b ∷ bytes) ≡ total
     → IfOk read (λ x. Stands (in_tags context) b bytes x.0 x.1) → IfOk read (λ x. KeepsTags context x.0) → Again n total
-    → IfOk (read >>= λ first. after (at_place (total - length (b ∷ bytes)) first.0) (lexed_in n total (context_behind context first.0) first.1)) (SpellsIn (in_tags context) at (b ∷ bytes))
-step-spelled n total at context b bytes (Ok first) few place stands keeps again = one-spelled n total at context b bytes first.0 first.1 few place stands keeps again
+    → IfOk
+    (read >>= λ first. after (at_place (total - length (b ∷ bytes)) first.0) (lexed_in n total (context_behind context first.0) first.1))
+    (SpellsIn (in_tags context) at (b ∷ bytes))
+step-spelled n total at context b bytes (Ok first) few place stands keeps again =
+    one-spelled n total at context b bytes first.0 first.1 few place stands keeps again
 step-spelled n total at context b bytes (Err stop) few place stands keeps again = tt
 
 lexed-spelled : (n total at : ℕ) (context : Context) (bytes : List ℕ) → length bytes ≤ n → at + length bytes ≡ total
@@ -74,10 +96,12 @@ lexed-spelled zero total at context [] few place = no_more
 lexed-spelled zero total at context (b ∷ bytes) few place = absurd (omega (arith, few))
 lexed-spelled (suc n) total at context [] few place = no_more
 lexed-spelled (suc n) total at context (b ∷ bytes) few place =
-    step-spelled n total at context b bytes (lexeme_at context b bytes) few place (lexeme-stands context b bytes) (lexeme-keeps context b bytes)
+    step-spelled n total at context b bytes (lexeme_at context b bytes) few place (lexeme-stands context b bytes)
+    (lexeme-keeps context b bytes)
     (λ at context rest few place. lexed-spelled n total at context rest few place)
 
-placed-ok : (total : ℕ) (read : Result (List Lexeme) Stop) (P : List Lexeme → Type 0) → IfOk read P → IfOk (placed total read) P
+placed-ok : (total : ℕ) (read : Result (List Lexeme) Stop) (P : List Lexeme → Type 0) → IfOk read P
+    → IfOk (placed total read) P
 placed-ok total (Ok found) P h = h
 placed-ok total (Err stop) P h = tt
 
@@ -88,8 +112,10 @@ text-spelled text found read =
     (placed-ok (length text) (lexed text) (SpellsIn false 0 text) (lexed-spelled (length text) (length text) 0 Text text (omega arith) (omega arith)))
 
 -- a text has one answer
-pub one-list : (text : List ℕ) (found others : List Lexeme) → lexemes text ≡ Ok found → lexemes text ≡ Ok others → found ≡ others
+pub one-list : (text : List ℕ) (found others : List Lexeme) → lexemes text ≡ Ok found → lexemes text ≡ Ok others
+    → found ≡ others
 one-list text found others one other = cc
 
-pub no-fault : (text : List ℕ) (found : List Lexeme) (fault : LexFault) → lexemes text ≡ Ok found → lexemes text ≡ Err fault → ⊥
+pub no-fault : (text : List ℕ) (found : List Lexeme) (fault : LexFault) → lexemes text ≡ Ok found
+    → lexemes text ≡ Err fault → ⊥
 no-fault text found fault one other = cc
