@@ -17,6 +17,7 @@ use Rattle.query_lex.specs.Pieces.{tag_byte_at, next_of_tag, trimmed, bytes_of, 
 use Rattle.query_lex.specs.Reading.{Read, with_first, run_at}
 use Rattle.query_lex.specs.Roles.{tag_role}
 use Rattle.query_lex.specs.Spells.{in_tags_behind}
+use Rattle.query_lex.proofs.PieceKinds.{kind-cases}
 use Rattle.query_lex.proofs.Taken.{whatever}
 
 abbrev pub in_tags : Context → Bool
@@ -69,19 +70,8 @@ starred-keeps [] = refl
 starred-keeps (b ∷ front) = refl
 
 piece-keeps : (piece : List TextByte) → KeepsTags Tags (Some (piece_kind piece))
-piece-keeps piece = by_param (is_param piece)
-  where
-    by_star : (is : Bool)
-        → KeepsTags Tags
-        (Some (cond {A = LexKind} is (starred_kind (front_of piece)) (kinds.Tag (bytes_of piece) false)))
-    by_star true = starred-keeps (front_of piece)
-    by_star false = refl
-
-    by_param : (is : Bool)
-        → KeepsTags Tags
-        (Some (cond {A = LexKind} is (kinds.Param (bytes_of (drop 1 piece))) (cond {A = LexKind} (ends_in 42 piece) (starred_kind (front_of piece)) (kinds.Tag (bytes_of piece) false))))
-    by_param true = refl
-    by_param false = by_star (ends_in 42 piece)
+piece-keeps piece =
+    kind-cases piece (λ kind. KeepsTags Tags (Some kind)) (λ param. refl) (λ star. starred-keeps (front_of piece)) refl
 
 abbrev Kept : Option LexKind × List ℕ → Type 0
 Kept x = KeepsTags Tags x.0

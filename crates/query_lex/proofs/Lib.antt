@@ -3,6 +3,7 @@ mod Examples
 mod InTags
 mod Lexing
 mod ParamsSpelled
+mod PieceKinds
 mod PiecesSpelled
 mod QuotesSpelled
 mod RawSpelled

@@ -15,6 +15,7 @@ use Rattle.query_lex.specs.Quotes.{plain, spelled}
 use Rattle.query_lex.specs.Reading.{Read, Next}
 use Rattle.query_lex.specs.Spelling.{IsSpelling, IsTag, tag_end, tag_byte, tag_escape}
 use Rattle.query_lex.specs.Spells.{closes_piece, is_whole}
+use Rattle.query_lex.proofs.PieceKinds.{kind-cases}
 use Rattle.query_lex.proofs.SpelledLemmas.{spelled-behind, spelled-plain, spelled-is_plain}
 use Rattle.query_lex.proofs.Standing.{Stands}
 use Rattle.query_lex.proofs.Taken.{Step, Run, Steps, as_next, some-next, first_then}
@@ -151,22 +152,12 @@ starred-spelled [] lawful = refl
 starred-spelled (b ∷ front) lawful = tag-spelled true (b ∷ front) lawful
 
 kind-spelled : (piece : List TextByte) → list_all is_lawful piece ≡ true → IsSpelling (piece_kind piece) (spelled piece)
-kind-spelled piece lawful = by_param (is_param piece) refl
-  where
-    by_star : (is : Bool) → ends_in 42 piece ≡ is
-        → IsSpelling (cond {A = LexKind} is (starred_kind (front_of piece)) (Tag (bytes_of piece) false))
-        (spelled piece)
-    by_star true e =
-        subst (IsSpelling (starred_kind (front_of piece))) (sym (ends-spelled 42 piece e))
-        (starred-spelled (front_of piece) (front-lawful piece lawful))
-    by_star false e = subst (IsTag false (bytes_of piece)) (append-nil (spelled piece)) (tag-spelled false piece lawful)
-
-    by_param : (is : Bool) → is_param piece ≡ is
-        → IsSpelling
-        (cond {A = LexKind} is (Param (bytes_of (drop 1 piece))) (cond {A = LexKind} (ends_in 42 piece) (starred_kind (front_of piece)) (Tag (bytes_of piece) false)))
-        (spelled piece)
-    by_param true e = param-spelled piece e
-    by_param false e = by_star (ends_in 42 piece) refl
+kind-spelled piece lawful =
+    kind-cases piece (λ kind. IsSpelling kind (spelled piece))
+    (param-spelled piece)
+    (λ star. subst (IsSpelling (starred_kind (front_of piece))) (sym (ends-spelled 42 piece star))
+    (starred-spelled (front_of piece) (front-lawful piece lawful)))
+    (subst (IsTag false (bytes_of piece)) (append-nil (spelled piece)) (tag-spelled false piece lawful))
 
 -- A byte that is no blank is kept.
 some-kept : (b : ℕ) (rest kept : List ℕ) (blanks : ℕ) (behind : List ℕ) → eqb b 32 ≡ false
@@ -210,20 +201,9 @@ starred-whole : (front : List TextByte) (rest : List ℕ) → closes_piece rest 
 starred-whole [] rest ends = ends
 starred-whole (b ∷ front) rest ends = ends
 
-kind-whole : (piece : List TextByte) (rest : List ℕ) → closes_piece rest ≡ true
-    → is_whole true (piece_kind piece) rest ≡ true
-kind-whole piece rest ends = by_param (is_param piece)
-  where
-    by_star : (is : Bool)
-        → is_whole true (cond {A = LexKind} is (starred_kind (front_of piece)) (Tag (bytes_of piece) false)) rest ≡ true
-    by_star true = starred-whole (front_of piece) rest ends
-    by_star false = ends
-
-    by_param : (is : Bool)
-        → is_whole true
-        (cond {A = LexKind} is (Param (bytes_of (drop 1 piece))) (cond {A = LexKind} (ends_in 42 piece) (starred_kind (front_of piece)) (Tag (bytes_of piece) false))) rest ≡ true
-    by_param true = ends
-    by_param false = by_star (ends_in 42 piece)
+kind-whole : (piece : List TextByte) (rest : List ℕ) → closes_piece rest ≡ true → is_whole true (piece_kind piece) rest ≡ true
+kind-whole piece rest ends =
+    kind-cases piece (λ kind. is_whole true kind rest ≡ true) (λ param. ends) (λ star. starred-whole (front_of piece) rest ends) ends
 
 abbrev as_piece : List TextByte × List ℕ → Read (Option LexKind)
 as_piece piece = Ok (Some (piece_kind (trimmed piece.0)), piece.1)

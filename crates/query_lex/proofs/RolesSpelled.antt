@@ -70,17 +70,19 @@ text-cases context b P word dollar quote star equals percent sign blank =
     cond_both (eqb b 93 || eqb b 125) (role.Sign signs.Stray) role.Blank P (λ e. sign signs.Stray (stray e)) (λ n.
     let bars = or_parts (eqb b 92) (not (is_separator b)) n0 in
     let n92 : eqb b 92 ≡ false = bars.0 in
-    let parts : is_separator b ≡ true = not-false (is_separator b) bars.1 in
+    let is : is_separator b ≡ true = not-false (is_separator b) bars.1 in
     let closers = or_parts (eqb b 93) (eqb b 125) n in
     let n93 : eqb b 93 ≡ false = closers.0 in
     let n125 : eqb b 125 ≡ false = closers.1 in
-    blank
-    (λ rest. rw (n36, n61, parts, n34, n37, n40, n41, n42, n45, n58, n64, n91, n92, n93, n123, n124, n125, n126) refl)))))))))))))))))
+    blank (λ rest.
+    rw (n36, n61, is, n34, n37, n40, n41, n42, n45, n58, n64, n91, n92, n93, n123, n124, n125, n126) refl)))))))))))))))))
   where
     stray : (eqb b 93 || eqb b 125) ≡ true → Alone signs.Stray b
     stray e =
-        elim
-        (or_cases (eqb b 93) (eqb b 125) e) [ inl is ↦ alone signs.Stray b 93 is refl | inr is ↦ alone signs.Stray b 125 is refl ]
+        elim (or_cases (eqb b 93) (eqb b 125) e) [
+          | inl is ↦ alone signs.Stray b 93 is refl
+          | inr is ↦ alone signs.Stray b 125 is refl
+        ]
 
 -- what stands there where it begins so
 abbrev So : Bool → Context → ℕ → List ℕ → Role → Type 0
@@ -176,8 +178,9 @@ tag-stands b rest =
     cond_both (eqb b 32 || eqb b 124) role.Blank _ P between (λ n.
     let bars = or_parts (eqb b 32) (eqb b 124) n in
     cond_both (eqb b 125) (role.Sign signs.TagClose) role.Piece P
-    (λ e. took true (b ∷ rest) (kinds.Sign signs.TagClose) rest (b ∷ []) (omega arith) refl (alone signs.TagClose b 125 e refl) refl)
-    (λ n125.
+    (λ e.
+    let spells : Alone signs.TagClose b = alone signs.TagClose b 125 e refl in
+    took true (b ∷ rest) (kinds.Sign signs.TagClose) rest (b ∷ []) (omega arith) refl spells refl) (λ n125.
     piece-stands b rest bars.0 (or_from (eqb b 124) (eqb b 125) bars.1 n125)))
   where
     between : (eqb b 32 || eqb b 124) ≡ true → So true Tags b rest role.Blank

@@ -30,7 +30,8 @@ StandsSo in_tags b rest found = Stands in_tags b rest found.0 found.1
 pub took : (in_tags : Bool) (bytes : List ℕ) (kind : LexKind) (behind spelling : List ℕ) → 0 < length spelling
     → bytes ≡ spelling ++ behind → IsSpelling kind spelling
     → is_whole in_tags kind behind ≡ true → Took in_tags bytes kind behind
-took in_tags bytes kind behind spelling least whole spells ends = record { spelling = spelling; blanks = 0; least = least; whole = whole; spells = spells; ends = ends }
+took in_tags bytes kind behind spelling least whole spells ends =
+    record { spelling = spelling; blanks = 0; least = least; whole = whole; spells = spells; ends = ends }
 
 -- a blank only separates
 pub blank-separates : (in_tags : Bool) (rest : List ℕ) → only_separates in_tags 32 rest ≡ true

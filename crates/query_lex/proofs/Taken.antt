@@ -74,7 +74,8 @@ step_taken : {A : Type 0} (next : List ℕ → Next A) (R : List A → List ℕ 
     → next bytes ≡ found → IfOk found (λ found. IfSome found (λ x. Step R bytes x.0 x.1))
     → ((rest : List ℕ) → length rest < n → IfOk (run_in next n rest) (λ run. Run next R run.0 rest run.1))
     → IfOk (found >>= λ found. run_with (λ rest. run_in next n rest) bytes found) (λ run. Run next R run.0 bytes run.1)
-step_taken next R none n bytes (Ok None) few is step again = record { taken = []; whole = refl; least = omega arith; spells = none; last = is }
+step_taken next R none n bytes (Ok None) few is step again =
+    record { taken = []; whole = refl; least = omega arith; spells = none; last = is }
 step_taken next R none n bytes (Ok (Some x)) few is step again =
     let less : length x.1 < length bytes = shorter R bytes x.0 x.1 step in
     first_behind next R bytes x.0 x.1 (run_in next n x.1) step (again x.1 (omega arith))

@@ -47,51 +47,56 @@ after_ok found (Err stop) P Q h given = tt
 
 -- what is known of the bytes behind a lexeme
 abbrev Again : ℕ → ℕ → Type 0
-Again n total =
-    (at : ℕ) (context : Context) (rest : List ℕ) → length rest ≤ n → at + length rest ≡ total → IfOk
-    (lexed_in n total context rest) (SpellsIn (in_tags context) at rest)
+Again n total = (at : ℕ) (context : Context) (rest : List ℕ) → length rest ≤ n → at + length rest ≡ total
+    → IfOk (lexed_in n total context rest) (SpellsIn (in_tags context) at rest)
+
+-- the lexeme that is read at the first of so many bytes, if there is one, and those behind it
+abbrev with_others : ℕ → ℕ → Context → ℕ → Option LexKind × List ℕ → Result (List Lexeme) Stop
+with_others n total context size first =
+    after (at_place (total - size) first.0) (lexed_in n total (context_behind context first.0) first.1)
+
+-- the text spells what is read of it
+abbrev IsSpelled : Context → ℕ → List ℕ → Result (List Lexeme) Stop → Type 0
+IsSpelled context at text read = IfOk read (SpellsIn (in_tags context) at text)
 
 one-spelled : (n total at : ℕ) (context : Context) (b : ℕ) (bytes : List ℕ) (kind : Option LexKind) (rest : List ℕ)
     → length (b ∷ bytes) ≤ suc n → at + length (b ∷ bytes) ≡ total
     → Stands (in_tags context) b bytes kind rest → KeepsTags context kind → Again n total
-    → IfOk (after (at_place (total - length (b ∷ bytes)) kind) (lexed_in n total (context_behind context kind) rest))
-    (SpellsIn (in_tags context) at (b ∷ bytes))
+    → IsSpelled context at (b ∷ bytes) (with_others n total context (length (b ∷ bytes)) (kind, rest))
 one-spelled n total at context b bytes None rest few place stands keeps again =
     let size : length rest ≡ length bytes = ap length stands.0 in
-    after_ok [] (lexed_in n total context rest) (SpellsIn (in_tags context) (suc at) rest)
-    (SpellsIn (in_tags context) at (b ∷ bytes)) (again (suc at) context rest (omega arith) (omega arith))
-    (λ found spells. separator stands.1 (subst (λ (text : List ℕ). SpellsIn (in_tags context) (suc at) text found) stands.0 spells))
+    let P : List ℕ → List Lexeme → Type 0 = SpellsIn (in_tags context) (suc at) in
+    after_ok [] (lexed_in n total context rest) (P rest) (SpellsIn (in_tags context) at (b ∷ bytes))
+    (again (suc at) context rest (omega arith) (omega arith))
+    (λ found spells. separator stands.1 (subst (λ (text : List ℕ). P text found) stands.0 spells))
 one-spelled n total at context b bytes (Some kind) rest few place stands keeps again =
     let size : length (b ∷ bytes) ≡ length stands.spelling + (stands.blanks + length rest) =
     took-length (in_tags context) (b ∷ bytes) kind rest stands in
     let here : at ≡ total - length (b ∷ bytes) = omega arith in
-    let next : ℕ = at + length stands.spelling + stands.blanks in
-    after_ok (at_place (total - length (b ∷ bytes)) (Some kind))
-    (lexed_in n total (context_behind context (Some kind)) rest)
-    (SpellsIn (in_tags (context_behind context (Some kind))) next rest) (SpellsIn (in_tags context) at (b ∷ bytes))
-    (again next (context_behind context (Some kind)) rest (omega (arith, stands.least)) (omega arith))
+    let end : ℕ = at + length stands.spelling in
+    let next : Context = context_behind context (Some kind) in
+    let is_in : Bool = in_tags_behind (in_tags context) kind in
+    let P : List ℕ → List Lexeme → Type 0 = SpellsIn (in_tags context) at in
+    after_ok (at_place (total - length (b ∷ bytes)) (Some kind)) (lexed_in n total next rest)
+    (SpellsIn (in_tags next) (end + stands.blanks) rest) (P (b ∷ bytes))
+    (again (end + stands.blanks) next rest (omega (arith, stands.least)) (omega arith))
     (λ found spells.
-    let others : SpellsIn (in_tags_behind (in_tags context) kind) next rest found =
-    subst (λ (is_in : Bool). SpellsIn is_in next rest found) keeps spells in
-    let behind =
-    blanks-separate (in_tags_behind (in_tags context) kind) stands.blanks
-    (at + length stands.spelling) rest found others in
-    subst (λ (place : ℕ). SpellsIn (in_tags context) at (b ∷ bytes) (record { at = place; kind = kind } ∷ found)) here
-    (subst (λ (text : List ℕ). SpellsIn (in_tags context) at text (record { at = at; kind = kind } ∷ found)) (sym stands.whole)
+    let others = subst (λ (x : Bool). SpellsIn x (end + stands.blanks) rest found) keeps spells in
+    let behind = blanks-separate is_in stands.blanks end rest found others in
+    subst (λ (place : ℕ). P (b ∷ bytes) (record { at = place; kind = kind } ∷ found)) here
+    (subst (λ (text : List ℕ). P text (record { at = at; kind = kind } ∷ found)) (sym stands.whole)
     (lexeme stands.spelling stands.least stands.spells stands.ends behind)))
 
 step-spelled : (n total at : ℕ) (context : Context) (b : ℕ) (bytes : List ℕ) (read : Read (Option LexKind))
     → length (b ∷ bytes) ≤ suc n → at + length (b ∷ bytes) ≡ total
     → IfOk read (λ x. Stands (in_tags context) b bytes x.0 x.1) → IfOk read (λ x. KeepsTags context x.0) → Again n total
-    → IfOk
-    (read >>= λ first. after (at_place (total - length (b ∷ bytes)) first.0) (lexed_in n total (context_behind context first.0) first.1))
-    (SpellsIn (in_tags context) at (b ∷ bytes))
+    → IsSpelled context at (b ∷ bytes) (read >>= with_others n total context (length (b ∷ bytes)))
 step-spelled n total at context b bytes (Ok first) few place stands keeps again =
     one-spelled n total at context b bytes first.0 first.1 few place stands keeps again
 step-spelled n total at context b bytes (Err stop) few place stands keeps again = tt
 
 lexed-spelled : (n total at : ℕ) (context : Context) (bytes : List ℕ) → length bytes ≤ n → at + length bytes ≡ total
-    → IfOk (lexed_in n total context bytes) (SpellsIn (in_tags context) at bytes)
+    → IsSpelled context at bytes (lexed_in n total context bytes)
 lexed-spelled zero total at context [] few place = no_more
 lexed-spelled zero total at context (b ∷ bytes) few place = absurd (omega (arith, few))
 lexed-spelled (suc n) total at context [] few place = no_more
@@ -109,7 +114,8 @@ pub text-spelled : (text : List ℕ) (found : List Lexeme) → lexemes text ≡ 
 unfolding lexed lexemes
 text-spelled text found read =
     IfOk-at_ok (SpellsIn false 0 text) read
-    (placed-ok (length text) (lexed text) (SpellsIn false 0 text) (lexed-spelled (length text) (length text) 0 Text text (omega arith) (omega arith)))
+    (placed-ok (length text) (lexed text) (SpellsIn false 0 text)
+    (lexed-spelled (length text) (length text) 0 Text text (omega arith) (omega arith)))
 
 -- a text has one answer
 pub one-list : (text : List ℕ) (found others : List Lexeme) → lexemes text ≡ Ok found → lexemes text ≡ Ok others

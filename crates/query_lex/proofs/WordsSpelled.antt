@@ -1,7 +1,7 @@
 -- A word stands with a backslash before each of its separators.
 use Rattle.std.proofs.Common.{◌≡◌, ℕ, ◌<◌, Bool, true, false, cond, not, eqb, List, [], ◌∷◌, ◌++◌, length, drop, Option, Some, None, Ok, IfOk, IfSome, codes, refl, ap, sym, ◌∙◌, subst, inl, inr, append_assoc, length-append, arith}
 use Rattle.std.specs.Prelude.{◌&&◌, ◌||◌}
-use Rattle.std.proofs.lemmas.Bool.{eqb-true, not-true, and_parts, or_cases, or_from, not_from_false}
+use Rattle.std.proofs.lemmas.Bool.{eqb-true, not-true, and_parts, or_cases, or_from, not_from_false, cond_both}
 use Rattle.std.proofs.lemmas.Slice.Eq.{bytes_eq-Decides}
 use Rattle.std.specs.Str.{bytes_eq}
 use Rattle.ft_base.specs.Reading.{◌>>=◌}
@@ -94,29 +94,31 @@ w-form word e =
       | inr is ↦ subst IsForm (sym ((bytes_eq-Decides word (codes "W")).0 is)) (refl, refl)
     ]
 
-module _ (b : ℕ) (rest word behind : List ℕ) (run : Run next_letter SpellsWord word (b ∷ rest) behind)
-    (some : 0 < length word) where
-  word-alone : (is : Bool) → (is_w word && is_at 39 behind) ≡ is → is_at 42 behind ≡ false
-      → StandsSo false b rest (cond {A = Found} is (Some (Foreign word), behind) (Some (Word word), behind))
-  word-alone true e star =
-      let form : IsForm word = w-form word (and_parts (is_w word) (is_at 39 behind) e).0 in
-      took false (b ∷ rest) (Foreign word) behind run.taken (omega arith) run.whole (run.spells ∙ form.0, form.1) refl
-  word-alone false e star =
-      took false (b ∷ rest) (Word word) behind run.taken (omega arith) run.whole run.spells
-      (not_from_false (comes begins_word behind || is_at 42 behind) (or_from (comes begins_word behind) (is_at 42 behind) (letters-end behind run.last) star))
+-- a word that no `*` follows
+abbrev unstarred : List ℕ → List ℕ → Found
+unstarred word behind = cond (is_w word && is_at 39 behind) (Some (Foreign word), behind) (Some (Word word), behind)
 
-  word-starred : (is : Bool) → is_at 42 behind ≡ is
-      → StandsSo false b rest
-      (cond {A = Found} is (Some (Prefix word), drop 1 behind) (cond {A = Found} (is_w word && is_at 39 behind) (Some (Foreign word), behind) (Some (Word word), behind)))
-  word-starred true e =
-      took false (b ∷ rest) (Prefix word) (drop 1 behind) (run.taken ++ 42 ∷ [])
-      (omega (arith, length-append run.taken (42 ∷ [])))
-      (run.whole ∙ ap (λ (more : List ℕ). run.taken ++ more) (at-next 42 behind e) ∙ sym (append_assoc run.taken (42 ∷ []) (drop 1 behind)))
-      (ap (λ (front : List ℕ). front ++ 42 ∷ []) run.spells) refl
-  word-starred false e = word-alone (is_w word && is_at 39 behind) refl e
-
-  word-found : StandsSo false b rest (word_with word behind)
-  word-found = word-starred (is_at 42 behind) refl
+word-found : (b : ℕ) (rest word behind : List ℕ) → Run next_letter SpellsWord word (b ∷ rest) behind → 0 < length word
+    → StandsSo false b rest (word_with word behind)
+word-found b rest word behind run some =
+    let bytes : List ℕ = b ∷ rest in
+    let P : Found → Type 0 = StandsSo false b rest in
+    let more : List ℕ = drop 1 behind in
+    cond_both (is_at 42 behind) (Some (Prefix word), more) (unstarred word behind) P
+    (λ star.
+    took false bytes (Prefix word) more (run.taken ++ 42 ∷ []) (omega (arith, length-append run.taken (42 ∷ [])))
+    (run.whole ∙ ap (λ (others : List ℕ). run.taken ++ others) (at-next 42 behind star)
+    ∙ sym (append_assoc run.taken (42 ∷ []) more))
+    (ap (λ (front : List ℕ). front ++ 42 ∷ []) run.spells) refl) (λ no_star.
+    cond_both (is_w word && is_at 39 behind) (Some (Foreign word), behind) (Some (Word word), behind) P
+    (λ mark.
+    let form : IsForm word = w-form word (and_parts (is_w word) (is_at 39 behind) mark).0 in
+    took false bytes (Foreign word) behind run.taken (omega arith) run.whole (run.spells ∙ form.0, form.1) refl)
+    (λ no_mark.
+    let none : comes begins_word behind ≡ false = letters-end behind run.last in
+    took false bytes (Word word) behind run.taken (omega arith) run.whole run.spells
+    (not_from_false (comes begins_word behind || is_at 42 behind)
+    (or_from (comes begins_word behind) (is_at 42 behind) none no_star))))
 
 abbrev as_word : List ℕ × List ℕ → Read (Option LexKind)
 as_word run = Ok (word_with run.0 run.1)
