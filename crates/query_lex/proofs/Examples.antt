@@ -13,7 +13,9 @@ put at kind = record { at = at; kind = kind }
 -- words, a quote and signs; the blank in the quote is of it, the other one separates
 words :
     Spells 0 (codes "@t:(a \"b c\")")
-    (put 0 (kinds.Sign signs.At) ∷ put 1 (kinds.Word (codes "t")) ∷ put 2 (kinds.Sign signs.Colon) ∷ put 3 (kinds.Sign signs.Open) ∷ put 4 (kinds.Word (codes "a")) ∷ put 6 (kinds.Quote (codes "b c")) ∷ put 11 (kinds.Sign signs.Close) ∷ [])
+    (put 0 (kinds.Sign signs.At) ∷ put 1 (kinds.Word (codes "t")) ∷ put 2 (kinds.Sign signs.Colon)
+    ∷ put 3 (kinds.Sign signs.Open) ∷ put 4 (kinds.Word (codes "a")) ∷ put 6 (kinds.Quote (codes "b c"))
+    ∷ put 11 (kinds.Sign signs.Close) ∷ [])
 words =
     lexeme (codes "@") (omega arith) refl refl
     (lexeme (codes "t") (omega arith) refl refl
@@ -27,7 +29,9 @@ words =
 -- a tag whose bar is escaped, and a prefix; a bar and blanks stand between them
 tags :
     Spells 0 (codes "@t:{a\\|b | c* }")
-    (put 0 (kinds.Sign signs.At) ∷ put 1 (kinds.Word (codes "t")) ∷ put 2 (kinds.Sign signs.Colon) ∷ put 3 (kinds.Sign signs.TagOpen) ∷ put 4 (kinds.Tag (codes "a|b") false) ∷ put 11 (kinds.Tag (codes "c") true) ∷ put 14 (kinds.Sign signs.TagClose) ∷ [])
+    (put 0 (kinds.Sign signs.At) ∷ put 1 (kinds.Word (codes "t")) ∷ put 2 (kinds.Sign signs.Colon)
+    ∷ put 3 (kinds.Sign signs.TagOpen) ∷ put 4 (kinds.Tag (codes "a|b") false) ∷ put 11 (kinds.Tag (codes "c") true)
+    ∷ put 14 (kinds.Sign signs.TagClose) ∷ [])
 tags =
     lexeme (codes "@") (omega arith) refl refl
     (lexeme (codes "t") (omega arith) refl refl
@@ -55,7 +59,8 @@ next_place no_more b rest first others text found = absurd cc
 next_place (separator {in_tags = is_in} {b = c} {text = more} separates spells) b rest first others text found =
     let same : c ≡ b = cc in
     let behind : more ≡ rest = cc in
-    inr (subst (λ (bytes : List ℕ). only_separates is_in b bytes ≡ true) behind (subst (λ (byte : ℕ). only_separates is_in byte more ≡ true) same separates))
+    let here = subst (λ (byte : ℕ). only_separates is_in byte more ≡ true) same separates in
+    inr (subst (λ (bytes : List ℕ). only_separates is_in b bytes ≡ true) behind here)
 next_place (lexeme {at = place} {kind = kind} bytes some spelling whole spells) b rest first others text found =
     let same : put place kind ≡ first = cc in
     inl (sym (ap (λ (x : Lexeme). x.at) same))
@@ -63,31 +68,39 @@ next_place (lexeme {at = place} {kind = kind} bytes some spelling whole spells) 
 -- the byte of a word does not separate, so the word stands nowhere but at it
 wrong_offset : Spells 0 (codes "a") (put 1 (kinds.Word (codes "a")) ∷ []) → ⊥
 wrong_offset spells =
-    elim (next_place spells 97 [] (put 1 (kinds.Word (codes "a"))) [] refl refl) [ inl at ↦ omega (arith, at) | inr separates ↦ true≢false (sym separates) ]
+    elim (next_place spells 97 [] (put 1 (kinds.Word (codes "a"))) [] refl refl) [
+      | inl at ↦ omega (arith, at)
+      | inr separates ↦ true≢false (sym separates)
+    ]
 
 -- a bar outside the braces of tags is a sign of its own
 lost_bar : Spells 0 (codes "|a") (put 1 (kinds.Word (codes "a")) ∷ []) → ⊥
 lost_bar spells =
-    elim (next_place spells 124 (codes "a") (put 1 (kinds.Word (codes "a"))) [] refl refl) [ inl at ↦ omega (arith, at) | inr separates ↦ true≢false (sym separates) ]
+    elim (next_place spells 124 (codes "a") (put 1 (kinds.Word (codes "a"))) [] refl refl) [
+      | inl at ↦ omega (arith, at)
+      | inr separates ↦ true≢false (sym separates)
+    ]
 
 -- a parameter is not passed over
 lost_param : Spells 0 (codes "$c") [] → ⊥
 lost_param spells = by_text spells refl refl
   where
-    by_text : {at : ℕ} {text : List ℕ} {found : List Lexeme} → SpellsIn false at text found → text ≡ codes "$c" → found ≡ [] → ⊥
+    by_text : {at : ℕ} {text : List ℕ} {found : List Lexeme} → SpellsIn false at text found
+        → text ≡ codes "$c" → found ≡ [] → ⊥
     by_text no_more text found = cc
     by_text (separator {b = c} {text = more} separates spells) text found =
         let same : c ≡ 36 = cc in
         let behind : more ≡ codes "c" = cc in
-        true≢false (sym (subst (λ (bytes : List ℕ). only_separates false 36 bytes ≡ true) behind (subst (λ (byte : ℕ). only_separates false byte more ≡ true) same separates)))
+        let here = subst (λ (byte : ℕ). only_separates false byte more ≡ true) same separates in
+        true≢false (sym (subst (λ (bytes : List ℕ). only_separates false 36 bytes ≡ true) behind here))
     by_text (lexeme bytes some spelling whole spells) text found = cc
 
 -- a word is not two
 split_word : Spells 0 (codes "ab") (put 0 (kinds.Word (codes "a")) ∷ put 1 (kinds.Word (codes "b")) ∷ []) → ⊥
 split_word spells = by_text spells refl refl
   where
-    by_text : {at : ℕ} {text : List ℕ} {found : List Lexeme} → SpellsIn false at text found → text ≡ codes "ab" → found ≡ put 0
-        (kinds.Word (codes "a")) ∷ put 1 (kinds.Word (codes "b")) ∷ [] → ⊥
+    by_text : {at : ℕ} {text : List ℕ} {found : List Lexeme} → SpellsIn false at text found → text ≡ codes "ab"
+        → found ≡ put 0 (kinds.Word (codes "a")) ∷ put 1 (kinds.Word (codes "b")) ∷ [] → ⊥
     by_text no_more text found = cc
     by_text (separator {b = c} {text = more} separates spells) text found =
         let same : c ≡ 97 = cc in
@@ -98,4 +111,5 @@ split_word spells = by_text spells refl refl
         let first : bytes ≡ codes "a" = subst (λ (k : LexKind). IsSpelling k bytes) word spelling in
         let both : 97 ∷ more ≡ codes "ab" = subst (λ (front : List ℕ). front ++ more ≡ codes "ab") first text in
         let rest : more ≡ codes "b" = cc in
-        true≢false (sym (subst (λ (after : List ℕ). is_whole false (kinds.Word (codes "a")) after ≡ true) rest (subst (λ (k : LexKind). is_whole false k more ≡ true) word whole)))
+        let here = subst (λ (k : LexKind). is_whole false k more ≡ true) word whole in
+        true≢false (sym (subst (λ (after : List ℕ). is_whole false (kinds.Word (codes "a")) after ≡ true) rest here))

@@ -1,5 +1,5 @@
 -- Where the next lexeme stands, so far as the braces of tags go.
-use Rattle.std.proofs.Common.{◌≡◌, ℕ, Bool, true, false, cond, eqb, List, [], ◌∷◌, drop, Option, Some, None, Ok, Err, IfOk, refl, sym}
+use Rattle.std.proofs.Common.{◌≡◌, ℕ, Bool, true, false, eqb, List, [], ◌∷◌, Option, Some, None, Ok, Err, IfOk, refl, sym}
 use Rattle.std.specs.Prelude.{◌||◌}
 use Rattle.std.proofs.lemmas.Bool.{cond_both}
 use Rattle.query_lex.specs.declared.context.Context.{Context}
@@ -13,7 +13,7 @@ use Rattle.query_lex.specs.declared.role.Role.TheVariants as role
 use Rattle.query_lex.specs.declared.text_byte.TextByte.{TextByte}
 use Rattle.query_lex.specs.Context.{behind, behind_colon, context_behind}
 use Rattle.query_lex.specs.Lexemes.{lexeme_with, lexeme_at}
-use Rattle.query_lex.specs.Pieces.{tag_byte_at, next_of_tag, trimmed, bytes_of, is_param, front_of, ends_in, starred_kind, piece_kind, piece_at}
+use Rattle.query_lex.specs.Pieces.{tag_byte_at, next_of_tag, trimmed, front_of, starred_kind, piece_kind, piece_at}
 use Rattle.query_lex.specs.Reading.{Read, with_first, run_at}
 use Rattle.query_lex.specs.Roles.{tag_role}
 use Rattle.query_lex.specs.Spells.{in_tags_behind}

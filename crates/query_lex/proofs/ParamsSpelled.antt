@@ -1,5 +1,5 @@
 -- A parameter stands as `$` and its name.
-use Rattle.std.proofs.Common.{◌≡◌, ℕ, ◌+◌, ◌≤◌, Bool, true, false, cond, not, ltb, List, [], ◌∷◌, ◌++◌, length, take, drop, Option, Some, None, unwrap_or, refl, ap, sym, ◌∙◌, subst, append_assoc, take-append-drop, one-add, arith}
+use Rattle.std.proofs.Common.{◌≡◌, ℕ, ◌+◌, ◌≤◌, Bool, true, false, cond, not, ltb, List, [], ◌∷◌, ◌++◌, length, take, drop, Option, Some, None, unwrap_or, refl, ap, sym, ◌∙◌, subst, take-append-drop, one-add, arith}
 use Rattle.std.specs.Prelude.{◌&&◌}
 use Rattle.std.specs.List.{list_all, prefix_len}
 use Rattle.std.proofs.lemmas.Bool.{ltb-false, and_parts, and_from, not_from_false}
@@ -8,7 +8,7 @@ use Rattle.query_lex.specs.declared.lexeme.LexKind.TheVariants.{Param, ParamPref
 use Rattle.query_lex.specs.Bytes.{is_of_name, comes, is_at}
 use Rattle.query_lex.specs.Spelling.{names_param}
 use Rattle.query_lex.specs.Words.{Found, ends_name, name_length, param_with, param_at}
-use Rattle.query_lex.proofs.Standing.{StandsSo, took, at-next}
+use Rattle.query_lex.proofs.Standing.{StandsSo, took, at-next, with-next}
 
 -- how many bytes of a name come, one after another
 abbrev named : List ℕ → ℕ
@@ -59,7 +59,7 @@ name-stands may_be_prefix b name behind rest whole names ends = by_test (may_be_
     by_test true e =
         let star = at-next 42 behind (and_parts may_be_prefix (is_at 42 behind) e).1 in
         took false (36 ∷ rest) (ParamPrefix (b ∷ name)) (drop 1 behind) (36 ∷ ((b ∷ name) ++ 42 ∷ [])) (omega arith)
-        (ap (λ (bytes : List ℕ). 36 ∷ bytes) (whole ∙ ap (λ (more : List ℕ). (b ∷ name) ++ more) star ∙ sym (append_assoc (b ∷ name) (42 ∷ []) (drop 1 behind))))
+        (ap (λ (bytes : List ℕ). 36 ∷ bytes) (with-next rest (b ∷ name) behind (drop 1 behind) 42 whole star))
         (refl, names) refl
     by_test false e =
         took false (36 ∷ rest) (Param (b ∷ name)) behind (36 ∷ b ∷ name) (omega arith)

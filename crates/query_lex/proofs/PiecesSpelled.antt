@@ -7,10 +7,10 @@ use Rattle.std.proofs.lemmas.List.{length-replicate}
 use Rattle.std.proofs.lemmas.List.Folds.{list_all-append}
 use Rattle.ft_base.specs.Reading.{◌>>=◌}
 use Rattle.query_lex.specs.declared.lexeme.LexKind.{LexKind}
-use Rattle.query_lex.specs.declared.lexeme.LexKind.TheVariants.{Param, Tag}
+use Rattle.query_lex.specs.declared.lexeme.LexKind.TheVariants.{Param}
 use Rattle.query_lex.specs.declared.text_byte.TextByte.{TextByte}
 use Rattle.query_lex.specs.Bytes.{is_of_name}
-use Rattle.query_lex.specs.Pieces.{tag_escape_at, tag_byte_at, ends_piece, next_of_tag, is_plain, trimmed_with, trimmed, bytes_of, is_plain_of_name, is_name, is_param, front_of, ends_in, starred_kind, piece_kind, piece_at}
+use Rattle.query_lex.specs.Pieces.{tag_escape_at, tag_byte_at, ends_piece, next_of_tag, is_plain, trimmed_with, trimmed, bytes_of, is_plain_of_name, is_name, is_param, front_of, starred_kind, piece_kind, piece_at}
 use Rattle.query_lex.specs.Quotes.{plain, spelled}
 use Rattle.query_lex.specs.Reading.{Read, Next}
 use Rattle.query_lex.specs.Spelling.{IsSpelling, IsTag, tag_end, tag_byte, tag_escape}
@@ -79,7 +79,11 @@ first-trims : (b : TextByte) (piece kept : List TextByte) → Trims piece kept �
 first-trims b piece [] others = by_test (is_plain 32 b) refl
   where
     by_test : (is : Bool) → is_plain 32 b ≡ is → Trims (b ∷ piece) (cond {A = List TextByte} is [] (b ∷ []))
-    by_test true e = record { blanks = suc others.blanks; whole = spelled-is_plain 32 b piece e ∙ ap (λ (bytes : List ℕ). 32 ∷ bytes) others.whole; lawful = λ all. refl }
+    by_test true e = record {
+      blanks = suc others.blanks;
+      whole = spelled-is_plain 32 b piece e ∙ ap (λ (bytes : List ℕ). 32 ∷ bytes) others.whole;
+      lawful = λ all. refl;
+    }
     by_test false e = record {
       blanks = others.blanks;
       whole = spelled-behind b piece [] (replicate others.blanks 32) others.whole;
@@ -127,7 +131,8 @@ name-spelled (b ∷ name) all =
     let parts = and_parts (is_plain_of_name b) (list_all is_plain_of_name name) all in
     let here = and_parts (not b.escaped) (is_of_name b.byte) parts.0 in
     let others = name-spelled name parts.1 in
-    (spelled-plain b name (not-true b.escaped here.0) ∙ ap (λ (bytes : List ℕ). b.byte ∷ bytes) others.0, and_from (is_of_name b.byte) (list_all is_of_name (bytes_of name)) here.1 others.1)
+    let names = and_from (is_of_name b.byte) (list_all is_of_name (bytes_of name)) here.1 others.1 in
+    (spelled-plain b name (not-true b.escaped here.0) ∙ ap (λ (bytes : List ℕ). b.byte ∷ bytes) others.0, names)
 
 param-spelled : (piece : List TextByte) → is_param piece ≡ true
     → IsSpelling (Param (bytes_of (drop 1 piece))) (spelled piece)
@@ -143,8 +148,9 @@ param-spelled (b ∷ c ∷ name) is =
 front-lawful : (piece : List TextByte) → list_all is_lawful piece ≡ true → list_all is_lawful (front_of piece) ≡ true
 front-lawful piece all =
     let n : ℕ = length piece - 1 in
+    let whole = ap (list_all is_lawful) (take-append-drop n piece) ∙ all in
     (and_parts (list_all is_lawful (take n piece)) (list_all is_lawful (drop n piece))
-    (sym (list_all-append is_lawful (take n piece) (drop n piece)) ∙ ap (list_all is_lawful) (take-append-drop n piece) ∙ all)).0
+    (sym (list_all-append is_lawful (take n piece) (drop n piece)) ∙ whole)).0
 
 starred-spelled : (front : List TextByte) → list_all is_lawful front ≡ true
     → IsSpelling (starred_kind front) (spelled front ++ 42 ∷ [])
@@ -201,9 +207,11 @@ starred-whole : (front : List TextByte) (rest : List ℕ) → closes_piece rest 
 starred-whole [] rest ends = ends
 starred-whole (b ∷ front) rest ends = ends
 
-kind-whole : (piece : List TextByte) (rest : List ℕ) → closes_piece rest ≡ true → is_whole true (piece_kind piece) rest ≡ true
+kind-whole : (piece : List TextByte) (rest : List ℕ) → closes_piece rest ≡ true
+    → is_whole true (piece_kind piece) rest ≡ true
 kind-whole piece rest ends =
-    kind-cases piece (λ kind. is_whole true kind rest ≡ true) (λ param. ends) (λ star. starred-whole (front_of piece) rest ends) ends
+    kind-cases piece (λ kind. is_whole true kind rest ≡ true) (λ param. ends)
+    (λ star. starred-whole (front_of piece) rest ends) ends
 
 abbrev as_piece : List TextByte × List ℕ → Read (Option LexKind)
 as_piece piece = Ok (Some (piece_kind (trimmed piece.0)), piece.1)

@@ -1,5 +1,5 @@
 -- A quote stands as it is between its marks.
-use Rattle.std.proofs.Common.{◌≡◌, ℕ, Bool, true, false, cond, eqb, List, [], ◌∷◌, ◌++◌, drop, Option, Some, None, Ok, Err, IfOk, IfSome, refl, ap, sym, ◌∙◌, subst, append_assoc, arith}
+use Rattle.std.proofs.Common.{◌≡◌, ℕ, Bool, true, false, cond, eqb, List, [], ◌∷◌, ◌++◌, drop, Option, Some, None, Ok, Err, if◌then◌else◌, IfOk, IfSome, refl, ap, sym, ◌∙◌, subst, arith}
 use Rattle.std.specs.Prelude.{◌||◌}
 use Rattle.std.proofs.lemmas.Bool.{eqb-true, or_from, not_from_false}
 use Rattle.ft_base.specs.Reading.{◌>>=◌}
@@ -10,7 +10,7 @@ use Rattle.token_text.specs.Tokens.{is_separator}
 use Rattle.query_lex.specs.Quotes.{plain, escaped, spelled, lone_or_open, quoted_escape_at, next_quoted, quote_at}
 use Rattle.query_lex.specs.Reading.{Read, Next, run_at}
 use Rattle.query_lex.specs.Spelling.{IsQuoted, quoted_end, quoted_byte, quoted_escape}
-use Rattle.query_lex.proofs.Standing.{Stands, took}
+use Rattle.query_lex.proofs.Standing.{Stands, took, with-next}
 use Rattle.query_lex.proofs.Taken.{Step, Run, Steps, run_taken}
 
 abbrev SpellsInside : List TextByte → List ℕ → Type 0
@@ -35,6 +35,10 @@ escape-step inside (b ∷ rest) = by_test (is_separator b) refl
     }
     by_test false e = tt
 
+-- what comes next at a byte that is no quote mark
+abbrev unmarked : List ℕ → ℕ → List ℕ → Next TextByte
+unmarked inside b rest = if eqb b 92 then quoted_escape_at inside rest else Ok (Some (plain b, rest))
+
 quoted-steps : (inside : List ℕ) → Steps (next_quoted inside) SpellsInside
 unfolding next_quoted
 quoted-steps inside [] = tt
@@ -50,12 +54,11 @@ quoted-steps inside (b ∷ rest) = by_mark (eqb b 34) refl
       least = omega arith;
       whole = refl;
       adds = λ inside more spells.
-          (ap (λ (bytes : List ℕ). b ∷ bytes) spells.0, quoted_byte (not_from_false (eqb b 34 || eqb b 92) (or_from (eqb b 34) (eqb b 92) m e)) spells.1);
+          let neither = not_from_false (eqb b 34 || eqb b 92) (or_from (eqb b 34) (eqb b 92) m e) in
+          (ap (λ (bytes : List ℕ). b ∷ bytes) spells.0, quoted_byte neither spells.1);
     }
 
-    by_mark : (is : Bool) → eqb b 34 ≡ is
-        → NextSo (b ∷ rest)
-        (cond {A = Next TextByte} is (Ok None) (cond {A = Next TextByte} (eqb b 92) (quoted_escape_at inside rest) (Ok (Some (plain b, rest)))))
+    by_mark : (is : Bool) → eqb b 34 ≡ is → NextSo (b ∷ rest) (cond is (Ok None) (unmarked inside b rest))
     by_mark true m = tt
     by_mark false m = by_escape (eqb b 92) m refl
 
@@ -103,8 +106,9 @@ quote-stands inside =
         → IfOk (read >>= as_spelled >>= as_quote) (λ x. Stands false 34 inside x.0 x.1)
     by_run (Ok run) taken =
         let text : List ℕ = spelled run.0 in
+        let whole : inside ≡ text ++ run.1 = taken.whole ∙ ap (λ (bytes : List ℕ). bytes ++ run.1) taken.spells.0 in
         took false (34 ∷ inside) (Quote text) (drop 1 run.1) (34 ∷ (text ++ 34 ∷ [])) (omega arith)
         (ap (λ (bytes : List ℕ). 34 ∷ bytes)
-        (taken.whole ∙ ap (λ (bytes : List ℕ). bytes ++ run.1) taken.spells.0 ∙ ap (λ (more : List ℕ). text ++ more) (quote-ends inside run.1 taken.last) ∙ sym (append_assoc text (34 ∷ []) (drop 1 run.1))))
+        (with-next inside text run.1 (drop 1 run.1) 34 whole (quote-ends inside run.1 taken.last)))
         (refl, subst IsQuoted taken.spells.0 taken.spells.1) refl
     by_run (Err stop) taken = tt

@@ -47,7 +47,8 @@ other-byte context b byte raw ends = by_test (eqb b byte) refl
 kept-raw : (context : Context) (b : ℕ) → is_raw context b ≡ true → is_raw_byte b ≡ true
 kept-raw context b raw =
     not_from_false (eqb b 32 || eqb b 36)
-    (or_from (eqb b 32) (eqb b 36) (other-byte context b 32 raw (ends-raw context).0) (other-byte context b 36 raw (ends-raw context).1))
+    (or_from (eqb b 32) (eqb b 36) (other-byte context b 32 raw (ends-raw context).0)
+    (other-byte context b 36 raw (ends-raw context).1))
 
 raw-step : (context : Context) (b : ℕ) (rest : List ℕ) → is_raw context b ≡ true
     → IfOk (raw_byte_at b rest) (λ x. Step SpellsRaw (b ∷ rest) x.0 x.1)
@@ -62,7 +63,8 @@ raw-step context b rest raw = by_test (eqb b 92 && not (comes is_separator rest)
       least = omega arith;
       whole = refl;
       adds = λ run more spells.
-          (ap (λ (bytes : List ℕ). b ∷ bytes) spells.0, and_from (is_raw_byte b) (list_all is_raw_byte run) (kept-raw context b raw) spells.1);
+          let kept = and_from (is_raw_byte b) (list_all is_raw_byte run) (kept-raw context b raw) spells.1 in
+          (ap (λ (bytes : List ℕ). b ∷ bytes) spells.0, kept);
     }
 
 raw-steps : (context : Context) → Steps (next_raw context) SpellsRaw

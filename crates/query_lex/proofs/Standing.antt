@@ -1,5 +1,5 @@
 -- What stands at a byte: a lexeme with the bytes that spell it, or none.
-use Rattle.std.proofs.Common.{◌≡◌, ℕ, ◌<◌, Bool, true, false, cond, List, [], ◌∷◌, ◌++◌, length, drop, replicate, Option, Some, None, codes, IsTrue, refl, ap, arith}
+use Rattle.std.proofs.Common.{◌≡◌, ℕ, ◌<◌, Bool, true, false, cond, List, [], ◌∷◌, ◌++◌, length, drop, replicate, Option, Some, None, codes, IsTrue, refl, ap, sym, ◌∙◌, append_assoc, arith}
 use Rattle.std.proofs.lemmas.Bool.{false≢true, eqb-true, not_from_false}
 use Rattle.query_lex.specs.declared.lexeme.LexKind.{LexKind}
 use Rattle.query_lex.specs.declared.lexeme.LexKind.TheVariants.{Foreign, Sign}
@@ -42,6 +42,12 @@ blank-separates false rest = refl
 pub at-next : (byte : ℕ) (rest : List ℕ) → is_at byte rest ≡ true → rest ≡ byte ∷ drop 1 rest
 at-next byte [] e = absurd (false≢true e)
 at-next byte (b ∷ rest) e = ap (λ (c : ℕ). c ∷ rest) (eqb-true b byte e)
+
+-- bytes that end in the one that comes next
+pub with-next : (bytes front behind more : List ℕ) (b : ℕ) → bytes ≡ front ++ behind → behind ≡ b ∷ more
+    → bytes ≡ (front ++ b ∷ []) ++ more
+with-next bytes front behind more b whole next =
+    whole ∙ ap (λ (others : List ℕ). front ++ others) next ∙ sym (append_assoc front (b ∷ []) more)
 
 pub star-stands : (rest : List ℕ) → StandsSo false 42 rest (star_at rest)
 star-stands rest = by_test (comes begins_word rest)

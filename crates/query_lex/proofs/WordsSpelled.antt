@@ -1,5 +1,5 @@
 -- A word stands with a backslash before each of its separators.
-use Rattle.std.proofs.Common.{◌≡◌, ℕ, ◌<◌, Bool, true, false, cond, not, eqb, List, [], ◌∷◌, ◌++◌, length, drop, Option, Some, None, Ok, IfOk, IfSome, codes, refl, ap, sym, ◌∙◌, subst, inl, inr, append_assoc, length-append, arith}
+use Rattle.std.proofs.Common.{◌≡◌, ℕ, ◌<◌, Bool, true, false, cond, not, eqb, List, [], ◌∷◌, ◌++◌, length, drop, Option, Some, None, Ok, IfOk, IfSome, codes, refl, ap, sym, ◌∙◌, subst, inl, inr, length-append, arith}
 use Rattle.std.specs.Prelude.{◌&&◌, ◌||◌}
 use Rattle.std.proofs.lemmas.Bool.{eqb-true, not-true, and_parts, or_cases, or_from, not_from_false, cond_both}
 use Rattle.std.proofs.lemmas.Slice.Eq.{bytes_eq-Decides}
@@ -14,7 +14,7 @@ use Rattle.query_lex.specs.Escaping.{escaped_word}
 use Rattle.query_lex.specs.Reading.{Read, Next, fault}
 use Rattle.query_lex.specs.Spelling.{is_among}
 use Rattle.query_lex.specs.Words.{Found, escaped_at, letter_at, next_letter, is_w, word_with, word_at}
-use Rattle.query_lex.proofs.Standing.{Stands, StandsSo, took, at-next}
+use Rattle.query_lex.proofs.Standing.{Stands, StandsSo, took, at-next, with-next}
 use Rattle.query_lex.proofs.Taken.{Step, Run, Steps, as_next, some-next, first_then}
 
 abbrev SpellsWord : List ℕ → List ℕ → Type 0
@@ -107,8 +107,7 @@ word-found b rest word behind run some =
     cond_both (is_at 42 behind) (Some (Prefix word), more) (unstarred word behind) P
     (λ star.
     took false bytes (Prefix word) more (run.taken ++ 42 ∷ []) (omega (arith, length-append run.taken (42 ∷ [])))
-    (run.whole ∙ ap (λ (others : List ℕ). run.taken ++ others) (at-next 42 behind star)
-    ∙ sym (append_assoc run.taken (42 ∷ []) more))
+    (with-next bytes run.taken behind more 42 run.whole (at-next 42 behind star))
     (ap (λ (front : List ℕ). front ++ 42 ∷ []) run.spells) refl) (λ no_star.
     cond_both (is_w word && is_at 39 behind) (Some (Foreign word), behind) (Some (Word word), behind) P
     (λ mark.
