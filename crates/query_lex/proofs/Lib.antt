@@ -2,6 +2,7 @@ mod EscapingLemmas
 mod Examples
 mod InTags
 mod Lexing
+mod NameBytes
 mod ParamsSpelled
 mod PieceKinds
 mod PiecesSpelled

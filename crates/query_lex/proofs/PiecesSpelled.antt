@@ -13,8 +13,9 @@ use Rattle.query_lex.specs.Bytes.{is_of_name}
 use Rattle.query_lex.specs.Pieces.{tag_escape_at, tag_byte_at, ends_piece, next_of_tag, is_plain, trimmed_with, trimmed, bytes_of, is_plain_of_name, is_name, is_param, front_of, starred_kind, piece_kind, piece_at}
 use Rattle.query_lex.specs.Quotes.{plain, spelled}
 use Rattle.query_lex.specs.Reading.{Read, Next}
-use Rattle.query_lex.specs.Spelling.{IsSpelling, IsTag, tag_end, tag_byte, tag_escape}
+use Rattle.query_lex.specs.Spelling.{is_name_byte, is_tag_byte, IsSpelling, IsTag, tag_end, tag_byte, tag_escape}
 use Rattle.query_lex.specs.Spells.{closes_piece, is_whole}
+use Rattle.query_lex.proofs.NameBytes.{name-byte}
 use Rattle.query_lex.proofs.PieceKinds.{kind-cases}
 use Rattle.query_lex.proofs.SpelledLemmas.{spelled-behind, spelled-plain, spelled-is_plain}
 use Rattle.query_lex.proofs.Standing.{Stands}
@@ -23,7 +24,7 @@ use Rattle.query_lex.proofs.Trimming.{ends-spelled}
 
 -- a byte of a tag that may stand so
 abbrev is_lawful : TextByte → Bool
-is_lawful b = b.escaped || not (eqb b.byte 92 || (eqb b.byte 124 || eqb b.byte 125))
+is_lawful b = b.escaped || is_tag_byte b.byte
 
 abbrev SpellsPiece : List TextByte → List ℕ → Type 0
 SpellsPiece piece bytes = (bytes ≡ spelled piece) × (list_all is_lawful piece ≡ true)
@@ -115,7 +116,7 @@ first-tag prefix b piece lawful others = by_test b.escaped refl
     by_test true e = tag_escape others
     by_test false e =
         tag_byte
-        (sym (ap (λ (is : Bool). is || not (eqb b.byte 92 || (eqb b.byte 124 || eqb b.byte 125))) e) ∙ lawful) others
+        (sym (ap (λ (is : Bool). is || is_tag_byte b.byte) e) ∙ lawful) others
 
 tag-spelled : (prefix : Bool) (piece : List TextByte) → list_all is_lawful piece ≡ true
     → IsTag prefix (bytes_of piece) (spelled piece ++ star_of prefix)
@@ -125,13 +126,14 @@ tag-spelled prefix (b ∷ piece) lawful =
     first-tag prefix b piece parts.0 (tag-spelled prefix piece parts.1)
 
 name-spelled : (name : List TextByte) → list_all is_plain_of_name name ≡ true
-    → (spelled name ≡ bytes_of name) × (list_all is_of_name (bytes_of name) ≡ true)
+    → (spelled name ≡ bytes_of name) × (list_all is_name_byte (bytes_of name) ≡ true)
 name-spelled [] all = (refl, refl)
 name-spelled (b ∷ name) all =
     let parts = and_parts (is_plain_of_name b) (list_all is_plain_of_name name) all in
     let here = and_parts (not b.escaped) (is_of_name b.byte) parts.0 in
     let others = name-spelled name parts.1 in
-    let names = and_from (is_of_name b.byte) (list_all is_of_name (bytes_of name)) here.1 others.1 in
+    let named : is_name_byte b.byte ≡ true = sym (name-byte b.byte) ∙ here.1 in
+    let names = and_from (is_name_byte b.byte) (list_all is_name_byte (bytes_of name)) named others.1 in
     (spelled-plain b name (not-true b.escaped here.0) ∙ ap (λ (bytes : List ℕ). b.byte ∷ bytes) others.0, names)
 
 param-spelled : (piece : List TextByte) → is_param piece ≡ true

@@ -27,7 +27,8 @@ blanks-separate is_in zero at text found spells =
 blanks-separate is_in (suc blanks) at text found spells =
     let here : at + suc blanks ≡ suc at + blanks = omega arith in
     let others = subst (λ (place : ℕ). SpellsIn is_in place text found) here spells in
-    separator (blank-separates is_in (replicate blanks 32 ++ text)) (blanks-separate is_in blanks (suc at) text found others)
+    separator (blank-separates is_in (replicate blanks 32 ++ text))
+    (blanks-separate is_in blanks (suc at) text found others)
 
 -- how many bytes a lexeme takes
 took-length : (is_in : Bool) (bytes : List ℕ) (kind : LexKind) (rest : List ℕ) (took : Took is_in bytes kind rest)

@@ -1,7 +1,7 @@
 -- A word stands with a backslash before each of its separators.
 use Rattle.std.proofs.Common.{◌≡◌, ℕ, ◌<◌, Bool, true, false, cond, not, eqb, List, [], ◌∷◌, ◌++◌, length, drop, Option, Some, None, Ok, IfOk, IfSome, codes, refl, ap, sym, ◌∙◌, subst, inl, inr, length-append, arith}
 use Rattle.std.specs.Prelude.{◌&&◌, ◌||◌}
-use Rattle.std.proofs.lemmas.Bool.{eqb-true, not-true, and_parts, or_cases, or_from, not_from_false, cond_both}
+use Rattle.std.proofs.lemmas.Bool.{eqb-true, not-true, and_parts, or_cases, or_parts, or_from, not_from_false, cond_both}
 use Rattle.std.proofs.lemmas.Slice.Eq.{bytes_eq-Decides}
 use Rattle.std.specs.Str.{bytes_eq}
 use Rattle.ft_base.specs.Reading.{◌>>=◌}
@@ -12,7 +12,8 @@ use Rattle.query_lex.specs.Bytes.{begins_word, comes, is_at}
 use Rattle.token_text.specs.Tokens.{is_separator}
 use Rattle.query_lex.specs.Escaping.{escaped_word}
 use Rattle.query_lex.specs.Reading.{Read, Next, fault}
-use Rattle.query_lex.specs.Spelling.{is_among}
+use Rattle.query_lex.specs.Spelling.{is_among, foreign_forms}
+use Rattle.query_lex.specs.Spells.{goes_on_word}
 use Rattle.query_lex.specs.Words.{Found, escaped_at, letter_at, next_letter, is_w, word_with, word_at}
 use Rattle.query_lex.proofs.Standing.{Stands, StandsSo, took, at-next, with-next}
 use Rattle.query_lex.proofs.Taken.{Step, Run, Steps, as_next, some-next, first_then}
@@ -83,9 +84,17 @@ letters-end (b ∷ rest) last = by_test (begins_word b) last
     by_test true e = absurd (some-next (letter_at b rest) e)
     by_test false e = refl
 
+-- and where no `*` does either, nothing goes on with it
+word-ends : (behind : List ℕ) → comes begins_word behind ≡ false → is_at 42 behind ≡ false
+    → comes goes_on_word behind ≡ false
+word-ends [] none no_star = refl
+word-ends (b ∷ rest) none no_star =
+    let parts = or_parts (eqb b 92) (not (is_separator b)) none in
+    or_from (not (is_separator b)) (eqb b 92 || eqb b 42) parts.1 (or_from (eqb b 92) (eqb b 42) parts.0 no_star)
+
 -- `w` and `W` are no separators, and are forms that are left out
 abbrev IsForm : List ℕ → Type 0
-IsForm word = (escaped_word word ≡ word) × (is_among (codes "%" ∷ codes "*" ∷ codes "w" ∷ codes "W" ∷ []) word ≡ true)
+IsForm word = (escaped_word word ≡ word) × (is_among foreign_forms word ≡ true)
 
 w-form : (word : List ℕ) → is_w word ≡ true → IsForm word
 w-form word e =
@@ -114,10 +123,9 @@ word-found b rest word behind run some =
     let form : IsForm word = w-form word (and_parts (is_w word) (is_at 39 behind) mark).0 in
     took false bytes (Foreign word) behind run.taken (omega arith) run.whole (run.spells ∙ form.0, form.1) refl)
     (λ no_mark.
-    let none : comes begins_word behind ≡ false = letters-end behind run.last in
+    let ends : comes goes_on_word behind ≡ false = word-ends behind (letters-end behind run.last) no_star in
     took false bytes (Word word) behind run.taken (omega arith) run.whole run.spells
-    (not_from_false (comes begins_word behind || is_at 42 behind)
-    (or_from (comes begins_word behind) (is_at 42 behind) none no_star))))
+    (not_from_false (comes goes_on_word behind) ends)))
 
 abbrev as_word : List ℕ × List ℕ → Read (Option LexKind)
 as_word run = Ok (word_with run.0 run.1)

@@ -5,8 +5,8 @@ use Rattle.query_lex.specs.declared.lexeme.LexKind.{LexKind}
 use Rattle.query_lex.specs.declared.lexeme.LexKind.TheVariants as kinds
 use Rattle.query_lex.specs.declared.lexeme.Lexeme.{Lexeme}
 use Rattle.query_lex.specs.declared.lexeme.Sign.TheVariants.{TagOpen, TagClose, Stray}
-use Rattle.query_lex.specs.Bytes.{begins_word, is_of_name, comes, is_at}
-use Rattle.query_lex.specs.Spelling.{IsSpelling}
+use Rattle.query_lex.specs.Bytes.{comes, is_at}
+use Rattle.query_lex.specs.Spelling.{is_name_byte, IsSpelling}
 use Rattle.token_text.specs.Tokens.{is_separator}
 
 -- bytes that are of a lexeme wherever they stand outside the braces of tags
@@ -18,7 +18,7 @@ is_kept b = list_any (nat_eq b) (codes "\"%()*-:@[\\]{|}~")
 abbrev pub only_separates : Bool → ℕ → List ℕ → Bool
 only_separates in_tags b rest =
     if in_tags then (b == 32) || (b == 124)
-    else (if b == 36 then not (comes is_of_name rest)
+    else (if b == 36 then not (comes is_name_byte rest)
     else (if b == 61 then not (is_at 62 rest)
     else is_separator b && not (is_kept b)))
 
@@ -27,6 +27,10 @@ abbrev pub in_tags_behind : Bool → LexKind → Bool
 in_tags_behind in_tags (kinds.Sign TagOpen) = true
 in_tags_behind in_tags (kinds.Sign TagClose) = false
 in_tags_behind in_tags other = in_tags
+
+-- bytes that go on with a word: those that part no words, a backslash and `*`
+abbrev pub goes_on_word : ℕ → Bool
+goes_on_word b = not (is_separator b) || ((b == 92) || (b == 42))
 
 -- bytes that go on with a run of raw bytes
 abbrev pub goes_on_raw : ℕ → Bool
@@ -48,8 +52,8 @@ is_piece other rest = false
 -- Elsewhere stand no tags, and the rest does not go on with a word, a name or a run of raw bytes.
 abbrev pub is_longest : LexKind → List ℕ → Bool
 is_longest (kinds.Tag tag prefix) rest = false
-is_longest (kinds.Word word) rest = not (comes begins_word rest || is_at 42 rest)
-is_longest (kinds.Param name) rest = not (comes is_of_name rest)
+is_longest (kinds.Word word) rest = not (comes goes_on_word rest)
+is_longest (kinds.Param name) rest = not (comes is_name_byte rest)
 is_longest (kinds.Raw run) rest = not (comes goes_on_raw rest)
 is_longest other rest = true
 
@@ -62,7 +66,8 @@ is_whole in_tags kind rest = if in_tags then is_piece kind rest else is_longest 
 pub data SpellsIn : Bool → ℕ → List ℕ → List Lexeme → Type 0 where
   no_more : {in_tags : Bool} {at : ℕ} → SpellsIn in_tags at [] []
   separator : {in_tags : Bool} {at b : ℕ} {text : List ℕ} {found : List Lexeme}
-      → IsTrue (only_separates in_tags b text) → SpellsIn in_tags (suc at) text found → SpellsIn in_tags at (b ∷ text) found
+      → IsTrue (only_separates in_tags b text) → SpellsIn in_tags (suc at) text found
+      → SpellsIn in_tags at (b ∷ text) found
   lexeme : {in_tags : Bool} {at : ℕ} {kind : LexKind} (bytes : List ℕ) {text : List ℕ} {found : List Lexeme}
       → 0 < length bytes → IsSpelling kind bytes → IsTrue (is_whole in_tags kind text)
       → SpellsIn (in_tags_behind in_tags kind) (at + length bytes) text found
