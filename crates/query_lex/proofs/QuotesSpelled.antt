@@ -6,7 +6,7 @@ use Rattle.ft_base.specs.Reading.{◌>>=◌}
 use Rattle.query_lex.specs.declared.lexeme.LexKind.{LexKind}
 use Rattle.query_lex.specs.declared.lexeme.LexKind.TheVariants.{Quote}
 use Rattle.query_lex.specs.declared.text_byte.TextByte.{TextByte}
-use Rattle.token_text.specs.Tokens.{is_separator}
+use Rattle.ft_base.specs.Separators.{is_separator}
 use Rattle.query_lex.specs.Quotes.{plain, escaped, spelled, lone_or_open, quoted_escape_at, next_quoted, quote_at}
 use Rattle.query_lex.specs.Reading.{Read, Next, run_at}
 use Rattle.query_lex.specs.Spelling.{IsQuoted, quoted_end, quoted_byte, quoted_escape}

@@ -10,7 +10,7 @@ use Rattle.query_lex.specs.declared.fault.Cause.TheVariants.{LoneEscape}
 use Rattle.query_lex.specs.declared.lexeme.LexKind.{LexKind}
 use Rattle.query_lex.specs.declared.lexeme.LexKind.TheVariants as kinds
 use Rattle.query_lex.specs.Bytes.{comes}
-use Rattle.token_text.specs.Tokens.{is_separator}
+use Rattle.ft_base.specs.Separators.{is_separator}
 use Rattle.query_lex.specs.Raw.{raw_byte_at, next_raw, raw_at}
 use Rattle.query_lex.specs.Reading.{Read, Next, fault}
 use Rattle.query_lex.specs.Roles.{sign_role, text_role, range_role, tag_role, attribute_role, is_raw}

@@ -15,7 +15,7 @@ use Rattle.query_lex.specs.Lexemes.{lexeme_with, lexeme_at}
 use Rattle.query_lex.specs.Roles.{bracket_in, brace_in, sign_role, text_role, range_role, tag_role, attribute_role, is_raw_role}
 use Rattle.query_lex.specs.Spelling.{IsSpelling}
 use Rattle.query_lex.specs.Spells.{only_separates, goes_on_raw}
-use Rattle.token_text.specs.Tokens.{is_separator}
+use Rattle.ft_base.specs.Separators.{is_separator}
 use Rattle.query_lex.proofs.InTags.{in_tags}
 use Rattle.query_lex.proofs.ParamsSpelled.{param-stands}
 use Rattle.query_lex.proofs.PiecesSpelled.{piece-stands}

@@ -9,7 +9,7 @@ use Rattle.query_lex.specs.declared.fault.Cause.TheVariants.{LoneEscape}
 use Rattle.query_lex.specs.declared.lexeme.LexKind.{LexKind}
 use Rattle.query_lex.specs.declared.lexeme.LexKind.TheVariants.{Word, Prefix, Foreign}
 use Rattle.query_lex.specs.Bytes.{begins_word, comes, is_at}
-use Rattle.token_text.specs.Tokens.{is_separator}
+use Rattle.ft_base.specs.Separators.{is_separator}
 use Rattle.query_lex.specs.Escaping.{escaped_word}
 use Rattle.query_lex.specs.Reading.{Read, Next, fault}
 use Rattle.query_lex.specs.Spelling.{is_among, foreign_forms}

@@ -7,7 +7,7 @@ use Rattle.query_lex.specs.declared.lexeme.LexKind.TheVariants as kinds
 use Rattle.query_lex.specs.declared.lexeme.Sign.{Sign}
 use Rattle.query_lex.specs.declared.lexeme.Sign.TheVariants as signs
 use Rattle.query_lex.specs.Escaping.{escaped_word}
-use Rattle.token_text.specs.Tokens.{is_separator}
+use Rattle.ft_base.specs.Separators.{is_separator}
 
 -- one of these texts
 abbrev pub is_among : List (List ℕ) → List ℕ → Bool

@@ -7,7 +7,7 @@ use Rattle.query_lex.specs.declared.lexeme.Lexeme.{Lexeme}
 use Rattle.query_lex.specs.declared.lexeme.Sign.TheVariants.{TagOpen, TagClose, Stray}
 use Rattle.query_lex.specs.Bytes.{comes, is_at}
 use Rattle.query_lex.specs.Spelling.{is_name_byte, IsSpelling}
-use Rattle.token_text.specs.Tokens.{is_separator}
+use Rattle.ft_base.specs.Separators.{is_separator}
 
 -- bytes that are of a lexeme wherever they stand outside the braces of tags
 abbrev pub is_kept : ℕ → Bool
