@@ -10,8 +10,8 @@ mod tags;
 /// Posting lists by word, of any kind of hit.
 pub use dictionary::Dictionary;
 /// Posting lists by field and tag.
-pub use tags::TagLists;
 use posting_block::TextHit;
+pub use tags::TagLists;
 
 /// The posting lists of the words of an index.
 pub type Terms = Dictionary<TextHit>;
