@@ -9,8 +9,8 @@ mod tags;
 
 /// Posting lists by word, of any kind of hit.
 pub use dictionary::Dictionary;
-/// Posting lists by field and tag.
 use posting_block::TextHit;
+/// Posting lists by field and tag.
 pub use tags::TagLists;
 
 /// The posting lists of the words of an index.
