@@ -63,8 +63,7 @@ impl DocTable {
         ensures ok { OnOk result (self.new ≡ record self.old { ready = Some (id, key.now); last = id }) }
         ensures err { OnErr result (self.new ≡ self.old) }
     {
-        let key = Bytes::from_slice(self.alloc, key)?;
-        put_in(&mut self.docs, &mut self.ids, id, key)?;
+        put_copy(self.alloc, &mut self.docs, &mut self.ids, id, key)?;
         // What was abandoned goes only now, so that want of memory leaves all as it was.
         take_out(&mut self.docs, &mut self.ids, self.pending);
         self.pending = Some(id);
@@ -177,6 +176,24 @@ impl DocTable {
     {
         self.docs.len() - usize::from(self.pending.is_some())
     }
+}
+
+// Takes a row of a copy of the key in with its bit, behind all others.
+fn put_copy(
+    alloc: Global,
+    docs: &mut BTreeMap<u64, Bytes>,
+    ids: &mut IdPages,
+    id: u64,
+    key: &[u8],
+) -> Result<(), NoMemory>
+    requires below { Below id docs.old.entries }
+    requires bound { Rises 0 (id / 64 + 1) ids.old }
+    ensures rows { OnOk result (docs.new.entries ≡ docs.old.entries ++ (id, key.now) ∷ []) }
+    ensures ids { OnOk result ((other : ℕ) → has_id ids.new other ≡ with_id id (has_id ids.old) other) }
+    ensures err { OnErr result ((docs.new.entries ≡ docs.old.entries) × (ids.new ≡ ids.old)) }
+    ensures bound { Rises 0 (id / 64 + 1) ids.new }
+{
+    put_in(docs, ids, id, Bytes::from_slice(alloc, key)?)
 }
 
 // Takes a row in with its bit, behind all others.
