@@ -7,18 +7,39 @@
 #![tactic(auto)]
 
 mod clock;
+mod counted_pace;
+mod door;
+mod held_pace;
 mod link;
+mod mem_door;
 mod mem_link;
+mod mem_spawner;
+mod pace;
 mod scripted_clock;
+mod spawner;
 
 /// Moments in milliseconds.
 pub use clock::Clock;
+/// A pace that stops after a number of answers.
+pub use counted_pace::CountedPace;
+/// Where links come in.
+pub use door::Door;
+/// A pace that holds back whoever asks it until a test says so.
+pub use held_pace::HeldPace;
 /// A stream of bytes in both directions, a call of it that failed, and a whole piece written to it.
 pub use link::{Failed, Link, write_all};
+/// A door in memory.
+pub use mem_door::MemDoor;
 /// A link in memory, and what it is made of.
 pub use mem_link::{ListOfCalls, ListOfPieces, MemLink};
+/// A spawner without threads, and a job that it did.
+pub use mem_spawner::{MemSpawner, Ran};
+/// Whether work goes on.
+pub use pace::Pace;
 /// A clock that gives the moments of a list.
 pub use scripted_clock::ScriptedClock;
+/// Work for a thread, and what starts it and waits for it.
+pub use spawner::{Job, Spawner};
 
 #[cfg(test)]
 mod tests;
