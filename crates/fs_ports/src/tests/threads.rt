@@ -49,7 +49,7 @@ impl Job for Doubled {
 }
 
 // The double of the number, where its job is started.
-fn doubled<R: Threads + Wait + Sync>(
+fn double_of<R: Threads + Wait + Sync>(
     rt: &R,
     spawner: &mut MemSpawner<R>,
     number: u32,
@@ -62,7 +62,7 @@ fn doubled<R: Threads + Wait + Sync>(
 fn listed_starts_fail(rt: HostRuntime) -> Result<(), Fail> {
     let mut spawner = MemSpawner::new(rt, ListOf::from_vec([2].to_vec(rt.alloc())?));
     for (number, want) in [(4, Some(8)), (5, None), (6, Some(12))] {
-        assert!(rt; doubled(&rt, &mut spawner, number) == want);
+        assert!(rt; double_of(&rt, &mut spawner, number) == want);
     }
     Ok(())
 }
