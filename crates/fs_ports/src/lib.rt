@@ -3,6 +3,8 @@
 //! Each trait says what a caller may rely on and why a call may fail: a call answers `Failed` only
 //! where a count of its object rose in that call. The fakes tell all that they gave and took, so a
 //! clause over a trait says something of a test too.
+//! Beside links and clocks there are doors where links come in, paces that stop work in the
+//! background, and spawners that do jobs in threads.
 //! Read `link.rt` and `clock.rt` first, then `specs/Tape.antt`, which says what `MemLink` does.
 #![tactic(auto)]
 

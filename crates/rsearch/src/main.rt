@@ -4,7 +4,13 @@
 //! `ft_server`, which carries the promise of the whole.
 #![tactic(auto)]
 
+mod sleep_pace;
 mod std_link;
+mod tcp;
+mod threads;
+
+#[cfg(test)]
+mod tests;
 
 ghost use Rattle.std.specs.Prelude.{◌≡◌};
 ghost use Rattle.std.specs.Process.{exit_status};
