@@ -1,7 +1,8 @@
 #!/usr/bin/env python3
 """Runs the gate and tells what it cost: processor minutes of each crate's proof, tests and wrong bodies, and of the whole.
 
-    tools/gate_minutes.py [LOG]     at the top of the repository; what `rt ci` prints goes to LOG (/tmp/gate.log)
+    tools/gate_minutes.py [--anew] [LOG]     at the top of the repository; what `rt ci` prints goes to LOG (/tmp/gate.log);
+                                             with --anew from nothing, else over what earlier gates kept
 
 For so many processors alone: `taskset -c 0,1 tools/gate_minutes.py`. Run nothing else beside it. A process is looked at
 twice a second, so the crates together lack a little of the whole, which is the system's own count.
@@ -34,10 +35,12 @@ def looked_at(process):
 
 
 def main():
-    log = pathlib.Path(sys.argv[1] if len(sys.argv) > 1 else "/tmp/gate.log")
+    logs = [word for word in sys.argv[1:] if word != "--anew"]
+    anew = ["--anew"] if "--anew" in sys.argv[1:] else []
+    log = pathlib.Path(logs[0] if logs else "/tmp/gate.log")
     begun, seen = time.monotonic(), {}
     with log.open("w") as out:
-        gate = subprocess.Popen(["rt", "ci"], stdin=subprocess.DEVNULL, stdout=out, stderr=subprocess.STDOUT)
+        gate = subprocess.Popen(["rt", "ci", *anew], stdin=subprocess.DEVNULL, stdout=out, stderr=subprocess.STDOUT)
         while gate.poll() is None:
             for process in pathlib.Path("/proc").iterdir():
                 found = looked_at(process) if process.name.isdigit() else None

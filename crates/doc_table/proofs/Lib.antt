@@ -1,3 +1,8 @@
--- What the rows of the table obey.
+-- What the rows of the table and the bits of its ids obey.
 pub mod TableLaws
 pub mod FindLaws
+pub mod MarkLaws
+pub mod WordLaws
+pub mod PlaceLaws
+pub mod PagesLaws
+pub mod NextLaws

@@ -1,3 +1,4 @@
--- What contracts see of the documents of an index, and how the code's rows stand for it.
+-- What contracts see of the documents of an index, and how the code's rows and bits stand for it.
 pub mod Table
 pub mod Rows
+pub mod Pages

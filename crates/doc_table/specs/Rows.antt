@@ -1,11 +1,13 @@
 -- How one map's rows stand for the live documents and the one that waits.
-use Rattle.std.specs.Prelude.{ℕ, Option, None, Some, List, nat_eq}
+use Rattle.std.specs.Prelude.{◌≡◌, ℕ, ◌+◌, ◌/◌, Option, None, Some, List, nat_eq, is_some}
 use Rattle.std.specs.Option.{option_map}
 use Rattle.std.specs.Ordering.{nat_cmp}
 use Rattle.std.specs.List.Sorted.{IsStrictlySortedBy}
 use Rattle.std.specs.Map.{keys_of, lookup}
 use Rattle.ft_base.specs.Rows.{Rows, live_rows, AtMost, IsLast}
 use Rattle.doc_table.specs.Table.{Table}
+use Rattle.doc_table.specs.declared.page.Page.{Page}
+use Rattle.doc_table.specs.Pages.{has_id, Rises}
 
 -- the document that waits; a row's value is its key
 abbrev pub ready_row : Option ℕ → Rows (List ℕ) → Option (ℕ × List ℕ)
@@ -21,3 +23,8 @@ pub record IsTable (pending : Option ℕ) (last : ℕ) (rows : Rows (List ℕ)) 
   pub ordered : IsStrictlySortedBy nat_cmp (keys_of rows)
   pub bounded : AtMost last rows
   pub waits : IsLast pending last rows
+
+-- an id is in the pages where it has a row, and no page is behind that of the last id
+pub record AreMarked (last : ℕ) (ids : List Page) (rows : Rows (List ℕ)) : Type 0 where
+  pub marks : (id : ℕ) → has_id ids id ≡ is_some (lookup (nat_eq id) rows)
+  pub bound : Rises 0 (last / 64 + 1) ids

@@ -1,12 +1,15 @@
-//! One map from ids to keys, whose last row may wait to be committed. So a look-up walks nothing, and
-//! a document that is killed leaves no row.
-ghost use Rattle.std.specs.Prelude.{◌≡◌, ◌<◌, ◌++◌, ◌∷◌, [], None, Some, nat_eq, nat_le, is_some, length, map, find, take, IfOk, IfSome, OnOk, OnErr};
+//! One map from ids to keys, whose last row may wait to be committed, and a bit for each id that has a
+//! row. So a search that asks whether an id is live reads a bit and no row, and a document that is
+//! killed leaves neither.
+ghost use Rattle.std.specs.Prelude.{◌≡◌, ℕ, ◌+◌, ◌/◌, ◌<◌, ◌++◌, ◌∷◌, [], None, Some, nat_eq, nat_le, is_some, length, map, find, take, IfOk, IfSome, OnOk, OnErr};
 ghost use Rattle.std.specs.Option.{option_map};
 ghost use Rattle.std.specs.List.Sorted.{IsStrictlyIncreasing};
 ghost use Rattle.std.specs.BTreeMap.{keys};
 ghost use Rattle.std.specs.Map.{lookup, remove_entry};
-ghost use Rattle.ft_base.specs.Rows.{live_rows};
+ghost use Rattle.ft_base.specs.Rows.{live_rows, Below};
+ghost use Rattle.doc_table.specs.Pages.{has_id, Rises, with_id, without_waiting};
 
+use crate::pages::IdPages;
 use ft_base::{Bytes, ListOf, NoMemory};
 use std::alloc::Global;
 use std::collections::BTreeMap;
@@ -20,6 +23,8 @@ pub type IdList = ListOf<u64>;
 pub struct DocTable {
     alloc: Global,
     docs: BTreeMap<u64, Bytes>,
+    // The ids of all rows.
+    ids: IdPages,
     // The id of the row that still waits to be committed.
     pending: Option<u64>,
     last: u64,
@@ -30,11 +35,11 @@ impl Model for DocTable {
 
     ghost Value = { Table };
 
-    ghost use Rattle.doc_table.specs.Rows.{table_of, IsTable};
+    ghost use Rattle.doc_table.specs.Rows.{table_of, IsTable, AreMarked};
 
     ghost view = { λ t. table_of t.pending t.last t.docs.entries };
 
-    ghost invariant = { λ t. IsTable t.pending t.last t.docs.entries };
+    ghost invariant = { λ t. IsTable t.pending t.last t.docs.entries × AreMarked t.last t.ids t.docs.entries };
 }
 
 impl DocTable {
@@ -45,6 +50,7 @@ impl DocTable {
         DocTable {
             alloc,
             docs: BTreeMap::new(alloc),
+            ids: IdPages::new(alloc),
             pending: None,
             last: 0,
         }
@@ -58,9 +64,9 @@ impl DocTable {
         ensures err { OnErr result (self.new ≡ self.old) }
     {
         let key = Bytes::from_slice(self.alloc, key)?;
-        self.docs.insert(id, key)?;
+        put_in(&mut self.docs, &mut self.ids, id, key)?;
         // What was abandoned goes only now, so that want of memory leaves all as it was.
-        take_out(&mut self.docs, self.pending);
+        take_out(&mut self.docs, &mut self.ids, self.pending);
         self.pending = Some(id);
         self.last = id;
         Ok(())
@@ -83,27 +89,56 @@ impl DocTable {
         ensures gone { self.new ≡ record self.old { live = remove_entry (nat_eq id) self.old.live } }
     {
         if self.pending == Some(id) {
-            return false;
+            return false; // It was never live.
         }
-        self.docs.remove(&id).is_some()
+        let key = self.docs.remove(&id);
+        self.ids.remove(id);
+        key.is_some()
     }
 
     /// Whether a document is live.
+    #[inline]
     pub fn is_live(&self, id: u64) -> bool
         ensures { result ≡ is_some (lookup (nat_eq id) self.now.live) }
     {
-        self.key_of(id).is_some()
+        if self.pending == Some(id) {
+            return false;
+        }
+        self.ids.contains(id)
+    }
+
+    /// Whether a document is live, for a reader that walks from id to id. `near` is where it found the
+    /// id before, and any value will do: no answer depends on it.
+    #[inline]
+    pub fn is_live_near(&self, id: u64, near: &mut usize) -> bool
+        ensures { result ≡ is_some (lookup (nat_eq id) self.now.live) }
+    {
+        if self.pending == Some(id) {
+            return false;
+        }
+        self.ids.contains_near(id, near)
     }
 
     /// The least live id from `from` on.
     pub fn next_live(&self, from: u64) -> Option<u64>
         ensures { result ≡ find (λ id. nat_le from id) (map (λ row. row.0) self.now.live) }
     {
-        let (id, _) = self.docs.range(from..).next()?;
-        if self.pending == Some(*id) {
+        let id = self.ids.next_from(from)?;
+        if self.pending == Some(id) {
             return None;
         }
-        Some(*id)
+        Some(id)
+    }
+
+    /// The least live id from `from` on, for a reader that walks as for `is_live_near`.
+    pub fn next_live_near(&self, from: u64, near: &mut usize) -> Option<u64>
+        ensures { result ≡ find (λ id. nat_le from id) (map (λ row. row.0) self.now.live) }
+    {
+        let id = self.ids.next_from_near(from, near)?;
+        if self.pending == Some(id) {
+            return None;
+        }
+        Some(id)
     }
 
     /// The key of a live document.
@@ -127,11 +162,13 @@ impl DocTable {
         Ok(ListOf::from_vec(ids))
     }
 
-    /// Takes a document out that was prepared and never committed.
+    /// Takes a document out that was prepared and never committed. It goes over all pages of ids, and
+    /// gives back what they do not need.
     pub fn compact(&mut self)
         ensures { self.new ≡ record self.old { ready = None } }
     {
-        take_out(&mut self.docs, self.pending.take());
+        take_out(&mut self.docs, &mut self.ids, self.pending.take());
+        self.ids.compact();
     }
 
     /// The number of live documents.
@@ -142,12 +179,37 @@ impl DocTable {
     }
 }
 
-// Takes the row that waits out, if there is one.
-fn take_out(docs: &mut BTreeMap<u64, Bytes>, pending: Option<u64>)
-    ensures { docs.new.entries ≡ live_rows pending docs.old.entries }
+// Takes a row in with its bit, behind all others.
+fn put_in(
+    docs: &mut BTreeMap<u64, Bytes>,
+    ids: &mut IdPages,
+    id: u64,
+    key: Bytes,
+) -> Result<(), NoMemory>
+    requires below { Below id docs.old.entries }
+    requires bound { Rises 0 (id / 64 + 1) ids.old }
+    ensures rows { OnOk result (docs.new.entries ≡ docs.old.entries ++ (id, key) ∷ []) }
+    ensures ids { OnOk result ((other : ℕ) → has_id ids.new other ≡ with_id id (has_id ids.old) other) }
+    ensures err { OnErr result ((docs.new.entries ≡ docs.old.entries) × (ids.new ≡ ids.old)) }
+    ensures bound { Rises 0 (id / 64 + 1) ids.new }
+{
+    docs.insert(id, key)?;
+    if let Err(fault) = ids.push(id) {
+        docs.remove(&id); // Want of memory for the bit leaves the rows as they were too.
+        return Err(fault);
+    }
+    Ok(())
+}
+
+// Takes the row that waits out with its bit, if there is one.
+fn take_out(docs: &mut BTreeMap<u64, Bytes>, ids: &mut IdPages, pending: Option<u64>)
+    ensures rows { docs.new.entries ≡ live_rows pending docs.old.entries }
+    ensures ids { (other : ℕ) → has_id ids.new other ≡ without_waiting pending (has_id ids.old) other }
+    ensures bound { (high : ℕ) → Rises 0 high ids.old → Rises 0 high ids.new }
 {
     if let Some(id) = pending {
         docs.remove(&id);
+        ids.remove(id);
     }
 }
 

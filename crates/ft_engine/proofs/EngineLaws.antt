@@ -1,5 +1,5 @@
 -- What an engine keeps, and what its callers are told.
-use Rattle.std.specs.Prelude.{◌≡◌, ◌<◌, ◌≤◌, ◌+◌, ℕ, Bool, true, false, List, map, max, refl}
+use Rattle.std.specs.Prelude.{◌≡◌, ◌≤◌, ℕ, Bool, true, false, List, map, max, refl}
 use Rattle.std.proofs.Common.{arith, sym, subst}
 use Rattle.std.specs.List.{IsDistinct}
 use Rattle.std.specs.Str.{bytes_eq}
@@ -7,10 +7,7 @@ use Rattle.cmd_parse.specs.Read.{Plain}
 use Rattle.cmd_parse.specs.declared.command.Verb.{Verb}
 use Rattle.ft_base.specs.declared.doc.Doc.{Doc}
 use Rattle.ft_machine.specs.Step.{Does, last_number, next_number}
-use Rattle.indexed_store.proofs.PreparingLaws.{prepares-read}
 use Rattle.indexed_store.specs.Holding.{AllStand, Holding, state_at}
-use Rattle.indexed_store.specs.Preparing.{OnlyReads, Prepares}
-use Rattle.indexed_store.specs.declared.change.Change.TheVariants.{Nothing}
 use Rattle.ft_engine.specs.Stands.{IsIndexed, stands_of, unused}
 
 -- what is held is what an engine's callers are told
@@ -30,10 +27,10 @@ pub no-later : (latest : ℕ) → max 0 latest ≡ latest
 no-later latest = omega arith
 
 -- what is done of a plain command is done of that which the verb is
-pub done-by : (verb other : Verb) (args : List (List ℕ)) (old new : Holding) (written : List ℕ) → verb ≡ other
+pub done-by : (verb other : Verb) (args : List (List ℕ)) (old : Holding) (written : List ℕ) → verb ≡ other
     → ((latest : ℕ) → Does (Plain other args) old.next (state_at latest old) written (state_at latest old))
     → (latest : ℕ) → Does (Plain verb args) old.next (state_at latest old) written (state_at latest old)
-done-by verb other args old new written is does latest =
+done-by verb other args old written is does latest =
     subst (λ (v : Verb). Does (Plain v args) old.next (state_at latest old) written (state_at latest old)) (sym is) (does latest)
 
 -- where no event is prepared, what is held is before the next one

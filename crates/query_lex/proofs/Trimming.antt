@@ -1,9 +1,11 @@
 -- Taking the blanks off a piece's end, one after another.
-use Rattle.std.proofs.Common.{◌≡◌, ℕ, suc, ◌-◌, Bool, true, false, cond, List, [], ◌∷◌, length, take, drop, refl, ap, sym, ◌∙◌, arith}
+use Rattle.std.proofs.Common.{◌≡◌, ℕ, suc, ◌-◌, Bool, true, false, cond, List, [], ◌∷◌, ◌++◌, length, take, drop, refl, ap, sym, ◌∙◌, arith}
 use Rattle.std.specs.Prelude.{◌||◌}
 use Rattle.std.specs.List.{list_any}
 use Rattle.query_lex.specs.declared.text_byte.TextByte.{TextByte}
 use Rattle.query_lex.specs.Pieces.{is_plain, trimmed_with, trimmed, front_of, ends_in}
+use Rattle.query_lex.specs.Quotes.{spelled}
+use Rattle.query_lex.proofs.SpelledLemmas.{spelled-behind, spelled-is_plain}
 
 or-false : (x : Bool) → (x || false) ≡ x
 or-false true = refl
@@ -43,3 +45,12 @@ pub trims-not : (piece : List TextByte) → ends_in 32 piece ≡ false → trimm
 trims-not [] blank = refl
 trims-not (b ∷ []) blank = ap (λ is. cond is [] (b ∷ [])) (sym (ends-one 32 b) ∙ blank)
 trims-not (b ∷ c ∷ piece) blank = ap (trimmed_with b) (trims-not (c ∷ piece) (sym (ends-behind 32 b c piece) ∙ blank))
+
+-- a piece that ends in a byte is spelled by what is before it, and by it
+pub ends-spelled : (byte : ℕ) (piece : List TextByte) → ends_in byte piece ≡ true → spelled piece ≡ spelled (front_of piece) ++ byte ∷ []
+ends-spelled byte [] ends = absurd cc
+ends-spelled byte (b ∷ []) ends =
+    spelled-is_plain byte b [] (sym (ends-one byte b) ∙ ends) ∙ sym (ap (λ (front : List TextByte). spelled front ++ byte ∷ []) (front-one b))
+ends-spelled byte (b ∷ c ∷ piece) ends =
+    let behind = ends-spelled byte (c ∷ piece) (sym (ends-behind byte b c piece) ∙ ends) in
+    spelled-behind b (c ∷ piece) (front_of (c ∷ piece)) (byte ∷ []) behind ∙ sym (ap (λ (front : List TextByte). spelled front ++ byte ∷ []) (front-behind b c piece))

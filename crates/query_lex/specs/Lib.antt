@@ -9,4 +9,6 @@ pub mod Quotes
 pub mod Raw
 pub mod Reading
 pub mod Roles
+pub mod Spelling
+pub mod Spells
 pub mod Words

@@ -9,9 +9,9 @@ mod tags;
 
 /// Posting lists by word, of any kind of hit.
 pub use dictionary::Dictionary;
+use posting_block::TextHit;
 /// Posting lists by field and tag.
 pub use tags::TagLists;
-use posting_block::TextHit;
 
 /// The posting lists of the words of an index.
 pub type Terms = Dictionary<TextHit>;

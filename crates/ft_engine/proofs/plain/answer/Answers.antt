@@ -3,10 +3,10 @@ use Rattle.ft_engine.proofs.EngineLaws.{done-by}
 use Rattle.ft_engine.proofs.plain.answer.Goals as goal
 
 pub returns-in-ListIndexes-clause-does : goal.returns-in-ListIndexes-clause-does
-returns-in-ListIndexes-clause-does c = done-by c.args.verb ListIndexes c.args.args.now _ _ _ c.in-ListIndexes.is c.answer_names.ensures.does
+returns-in-ListIndexes-clause-does c = done-by c.args.verb ListIndexes c.args.args.now c.args.held.now _ c.in-ListIndexes.is c.answer_names.ensures.does
 
 pub returns-in-Info-clause-does : goal.returns-in-Info-clause-does
-returns-in-Info-clause-does c = done-by c.args.verb Info c.args.args.now _ _ _ c.in-Info.is c.answer_info.ensures.does
+returns-in-Info-clause-does c = done-by c.args.verb Info c.args.args.now c.args.held.now _ c.in-Info.is c.answer_info.ensures.does
 
 pub returns-in-TagVals-clause-does : goal.returns-in-TagVals-clause-does
-returns-in-TagVals-clause-does c = done-by c.args.verb TagVals c.args.args.now _ _ _ c.in-TagVals.is c.answer_tag_vals.ensures.does
+returns-in-TagVals-clause-does c = done-by c.args.verb TagVals c.args.args.now c.args.held.now _ c.in-TagVals.is c.answer_tag_vals.ensures.does

@@ -1,0 +1,4 @@
+pub mod SortingLaws
+pub mod OrderLaws
+pub mod HeldLaws
+mod Examples

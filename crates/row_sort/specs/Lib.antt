@@ -1,0 +1,5 @@
+pub mod Order
+pub mod Sorting
+pub mod First
+pub mod Seen
+pub mod Held
