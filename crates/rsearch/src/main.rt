@@ -7,10 +7,9 @@
 mod sleep_pace;
 mod std_link;
 mod tcp;
-mod threads;
-
 #[cfg(test)]
 mod tests;
+mod threads;
 
 ghost use Rattle.std.specs.Prelude.{◌≡◌};
 ghost use Rattle.std.specs.Process.{exit_status};

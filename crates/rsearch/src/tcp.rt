@@ -3,7 +3,6 @@
 //! A peer that vanishes shows as a read or a write that fails, and nowhere else. The standard
 //! library writes to sockets so that a peer that is gone raises no signal.
 ghost use Rattle.std.specs.Prelude.{◌≡◌, None, false, IfOk};
-ghost use Rattle.fs_ports.specs.Doors.{AtDoor};
 
 use fs_ports::{Door, Failed, Link};
 use std::io;

@@ -67,8 +67,8 @@ fn connect<R: Net<Listener = TcpListener, Stream = TcpStream>>(
 
 // Whether the door takes this client, which then vanishes.
 fn outlives(door: &mut TcpDoor, client: TcpStream) -> bool
-    requires { ⟦<TcpDoor as Door>⟧.at door.old.out ≡ false }
-    ensures { ⟦<TcpDoor as Door>⟧.at door.new.out ≡ false }
+    requires { (⟦<TcpDoor as Door>⟧.at door.old).out ≡ false }
+    ensures { (⟦<TcpDoor as Door>⟧.at door.new).out ≡ false }
 {
     let Ok(Some(mut link)) = door.accept() else {
         return false;
@@ -80,8 +80,8 @@ fn outlives(door: &mut TcpDoor, client: TcpStream) -> bool
 
 // Whether the door takes this client, and answers it to the end.
 fn answers(door: &mut TcpDoor, client: &mut TcpStream) -> bool
-    requires { ⟦<TcpDoor as Door>⟧.at door.old.out ≡ false }
-    ensures { ⟦<TcpDoor as Door>⟧.at door.new.out ≡ false }
+    requires { (⟦<TcpDoor as Door>⟧.at door.old).out ≡ false }
+    ensures { (⟦<TcpDoor as Door>⟧.at door.new).out ≡ false }
 {
     let Ok(Some(mut link)) = door.accept() else {
         return false;
@@ -96,8 +96,8 @@ fn is_visited<R: Net<Listener = TcpListener, Stream = TcpStream>>(
     rt: &R,
     door: &mut TcpDoor,
 ) -> bool
-    requires { ⟦<TcpDoor as Door>⟧.at door.old.out ≡ false }
-    ensures { ⟦<TcpDoor as Door>⟧.at door.new.out ≡ false }
+    requires { (⟦<TcpDoor as Door>⟧.at door.old).out ≡ false }
+    ensures { (⟦<TcpDoor as Door>⟧.at door.new).out ≡ false }
 {
     let Some(first) = connect(rt, door) else {
         return false;
@@ -121,7 +121,7 @@ fn are_visited<R: Net<Listener = TcpListener, Stream = TcpStream>>(
     rt: &R,
     mut first: TcpDoor,
 ) -> bool
-    requires { ⟦<TcpDoor as Door>⟧.at first.out ≡ false }
+    requires { (⟦<TcpDoor as Door>⟧.at first).out ≡ false }
 {
     let Ok(mut second) = first.another() else {
         return false;
