@@ -2,6 +2,9 @@
 //! the fakes: calls numbered from 0, an empty piece taken for the end, a cut piece that loses its
 //! rest, a moment skipped. The check would pass it, since the code would be wrong in the same way.
 //! It also shows that each call succeeds where memory is ample.
+mod doors;
+mod threads;
+
 use super::*;
 use ft_base::{Bytes, ListOf, NoMemory};
 use std::alloc::Global;

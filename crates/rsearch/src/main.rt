@@ -4,7 +4,12 @@
 //! `ft_server`, which carries the promise of the whole.
 #![tactic(auto)]
 
+mod sleep_pace;
 mod std_link;
+mod tcp;
+#[cfg(test)]
+mod tests;
+mod threads;
 
 ghost use Rattle.std.specs.Prelude.{◌≡◌};
 ghost use Rattle.std.specs.Process.{exit_status};
