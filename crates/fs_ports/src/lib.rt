@@ -1,4 +1,4 @@
-//! The outside as traits, a link of bytes and a clock, with their fakes in memory.
+//! The outside as traits (a link of bytes, a clock, doors, paces and threads), with their fakes in memory.
 //!
 //! Each trait says what a caller may rely on and why a call may fail: a call answers `Failed` only
 //! where a count of its object rose in that call. The fakes tell all that they gave and took, so a
