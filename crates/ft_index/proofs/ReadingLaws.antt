@@ -47,10 +47,12 @@ pub meets-at : (rows : Rows) (place : ℕ) (low high number : ℤ) → int_le lo
     → (place < length rows) × (meets rows place low high ≡ true)
 meets-at [] place low high number from to lies = absurd (false≢true lies)
 meets-at (row ∷ rows) zero low high number from to lies =
-    let here = and_parts (int_le row.0 number) (list_all (int_lt number) (keys_of rows)) lies in
-    (omega arith, and_from (int_le low high && int_le row.0 high) (is_below (low_of rows) low)
-    (and_from (int_le low high) (int_le row.0 high) (le_trans low number high from to) (le_trans row.0 number high here.0 to))
-    (first rows here.1))
+    let here = and_parts (int_le row.0 number) (list_all (int_lt number) (keys_of rows)) lies in (
+      omega arith,
+      and_from (int_le low high && int_le row.0 high) (is_below (low_of rows) low)
+          (and_from (int_le low high) (int_le row.0 high) (le_trans low number high from to) (le_trans row.0 number high here.0 to))
+          (first rows here.1),
+    )
   where
     first : (rs : Rows) → list_all (int_lt number) (keys_of rs) ≡ true → is_below (low_of rs) low ≡ true
     first [] all = refl

@@ -9,6 +9,7 @@ use posting_block::{NumHit, TagHit, TextHit};
 
 impl Lists for FtIndex {
     ghost held = { λ index. held_of index.lists index.table.live };
+
     ghost named = { λ index. named_of index.lists index.table.live };
 
     fn text(&self, word: &[u8]) -> Option<&List<TextHit>> {

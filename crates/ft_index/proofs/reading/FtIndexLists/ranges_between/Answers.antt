@@ -12,7 +12,7 @@ use Rattle.ft_index.proofs.reading.FtIndexLists.ranges_between.Goals as goal
 pub returns-in-Some-clause-met : goal.returns-in-Some-clause-met
 returns-in-Some-clause-met c = λ place number from to lies.
     let there : rows_of c.args.self.now.lists.ranges c.args.field ≡ Some c.in-Some.ranges.now =
-        ap (λ (lists : AllLists). rows_of lists.ranges c.args.field) (sym c.lists.ensures) ∙ sym c.ranges_of.ensures ∙ ap option_copied c.in-Some.is in
+    ap (λ (lists : AllLists). rows_of lists.ranges c.args.field) (sym c.lists.ensures) ∙ sym c.ranges_of.ensures ∙ ap option_copied c.in-Some.is in
     let here = subst (λ (rows : Option Rows). lies_at (lows_of rows) place number ≡ true) there lies in
     let at = meets-at c.in-Some.ranges.now place c.args.low c.args.high number from to here in
     let from_low = subst (λ (n : ℤ). meets c.in-Some.ranges.now place n c.args.high ≡ true) (sym (to_z-of_z w64 c.args.low c.ranges.low)) at.1 in
