@@ -1,12 +1,13 @@
 -- What a contract sees of the lists of one index.
-use Rattle.std.specs.Prelude.{ℕ, ℤ, List, Bool, Option, Some, None, nat_eq, is_some, slice_get}
-use Rattle.std.specs.Map.{lookup}
+use Rattle.std.specs.Prelude.{ℕ, ℤ, List, [], Bool, Option, Some, None, nat_eq, is_some, slice_get}
+use Rattle.std.specs.Map.{keys_of, lookup}
 use Rattle.id_iters.specs.Held.{Held}
+use Rattle.id_iters.specs.Named.{Named}
 use Rattle.inverted_list.specs.Listing.{Listing}
 use Rattle.numeric_ranges.specs.Ranges.{Rows, list_at}
 use Rattle.posting_block.specs.declared.hits.NumHit.{NumHit}
 use Rattle.posting_block.specs.declared.hits.TextHit.{TextHit}
-use Rattle.term_dict.specs.Tags.{FieldTags, list_in}
+use Rattle.term_dict.specs.Tags.{FieldTags, list_in, tags_of}
 use Rattle.term_dict.specs.Terms.{Lists, list_of}
 
 pub record AllLists : Type 0 where
@@ -31,6 +32,11 @@ abbrev pub list_from : Option Rows → ℤ → Option (Listing NumHit)
 list_from None low = None
 list_from (Some rows) low = list_at rows low
 
+-- where the ranges begin, in their order; without ranges nowhere
+abbrev pub lows_of : Option Rows → List ℤ
+lows_of None = []
+lows_of (Some rows) = keys_of rows
+
 -- whether an id is among rows of ids and keys
 abbrev pub has_id : List (ℕ × List ℕ) → ℕ → Bool
 has_id live id = is_some (lookup (nat_eq id) live)
@@ -42,4 +48,13 @@ held_of lists live = record {
   tags = λ field tag. list_in lists.tags field tag;
   ranges = λ field low. list_from (rows_of lists.ranges field) low;
   live = has_id live;
+}
+
+-- the names of the lists, and the key of each live id
+abbrev pub named_of : AllLists → List (ℕ × List ℕ) → Named
+named_of lists live = record {
+  words = keys_of lists.words;
+  tags = λ field. keys_of (tags_of lists.tags field);
+  lows = λ field. lows_of (rows_of lists.ranges field);
+  keys = λ id. lookup (nat_eq id) live;
 }

@@ -17,7 +17,7 @@ mod ready;
 mod tags;
 mod words;
 
-/// One index. It is what iterators of ids read.
+/// One index. It is what plans, searches and iterators of ids read.
 pub use index::FtIndex;
 /// Its posting lists: of its words, of its tags, and of the ranges of its numbers.
 pub use lists::IndexLists;

@@ -3,6 +3,7 @@ pub mod Fitting
 pub mod Held
 pub mod Least
 pub mod Leaves
+pub mod Named
 pub mod Places
 pub mod Ready
 pub mod Sample

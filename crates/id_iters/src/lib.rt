@@ -23,7 +23,7 @@ pub use iter::{Ahead, Iter};
 pub use leaf::Leaf;
 /// Which list of an index.
 pub use list_name::ListName;
-/// What an iterator reads.
+/// What plans, searches and their iterators read of an index.
 pub use lists::Lists;
 /// The ids where words stand together.
 pub use phrase::PhraseIter;

@@ -12,7 +12,9 @@ use Rattle.ft_base.specs.declared.doc.Doc.{Doc}
 use Rattle.ft_base.specs.declared.query.Query.{Query}
 use Rattle.ft_base.specs.declared.reply.Reply.{Reply}
 use Rattle.ft_base.specs.declared.reply.Reply.TheVariants.{Fault}
-use Rattle.ft_index.specs.Index.{Index, IsIndex}
+use Rattle.ft_index.specs.Has.{Has}
+use Rattle.ft_index.specs.Index.{Index, Indexes, IsIndex}
+use Rattle.ft_index.specs.Lists.{held_of, named_of}
 use Rattle.ft_meaning.specs.Holds.{found_of}
 use Rattle.ft_meaning.specs.Meaning.{ValuesFit}
 use Rattle.ft_meaning.specs.Member.{member, members}
@@ -24,7 +26,7 @@ use Rattle.indexed_store.proofs.NamedLaws.{index_of-named}
 use Rattle.query_grammar.specs.Answer.{IsAnswer}
 use Rattle.query_grammar.specs.declared.fault.QueryFault.{QueryFault}
 use Rattle.query_grammar.specs.declared.fault.QueryFault.TheVariants.{Syntax, UnknownField, WrongKind, NoParam, TooDeep, OutOfScope, NoMemory}
-use Rattle.query_plan.specs.Finds.{IsKept}
+use Rattle.query_plan.specs.Finds.{AreOf, IsKept}
 use Rattle.ft_machine.specs.Searching.{found_reply, IsAnswered, searched}
 use Rattle.ft_machine.specs.Indexes.{unknown_index}
 use Rattle.ft_machine.specs.Machine.{State, answered}
@@ -100,11 +102,22 @@ searches-fault_of indexes index def state number what written (NoParam at) same 
 searches-fault_of indexes index def state number what written (TooDeep at) same there its is said = searches-fault indexes index def state number what written (TooDeep at) same there its (λ wrong. cc) is said
 searches-fault_of indexes index def state number what written (OutOfScope at) same there its is said = searches-fault indexes index def state number what written (OutOfScope at) same there its (λ wrong. cc) is said
 
--- what a plan asks of the documents of an index
-pub index-kept : (index : Index) (docs : List Doc) → IsIndex index → index.table.last < 2 ^ 62 → All (λ (doc : Doc). ValuesFit doc.hash) docs
+index-kept : (index : Index) (docs : List Doc) → IsIndex index → index.table.last < 2 ^ 62 → All (λ (doc : Doc). ValuesFit doc.hash) docs
     → IsKept index.table.live (members index.def docs)
 index-kept index docs sound few fit = record {
   rise = sound.kept.rise;
   end = omega (arith, sound.kept.end, few);
   fit = All-filter (member index.def) (λ (doc : Doc). ValuesFit doc.hash) docs fit;
+}
+
+-- what a plan reads of an index is its lists, and those are of its members
+pub index-read : (index : Index) (def : IndexDef) (docs : List Doc) → def ≡ index.def → Indexes index docs → IsIndex index → index.table.last < 2 ^ 62 → All (λ (doc : Doc). ValuesFit doc.hash) docs
+    → AreOf def (held_of index.lists index.table.live) (named_of index.lists index.table.live) (members index.def docs)
+index-read index def docs same stands sound few fit = record {
+  lists = index.lists;
+  live = index.table.live;
+  same = refl;
+  names = refl;
+  kept = index-kept index docs sound few fit;
+  has = subst (λ (d : IndexDef). Has d index.table.live index.lists (members index.def docs)) (sym same) stands;
 }

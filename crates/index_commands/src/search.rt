@@ -145,21 +145,14 @@ fn found_in<L: Ledger>(
     let mut steps = Steps::<L>::new(blank);
     let iter = plan(
         alloc,
+        index.def(),
         index,
         query,
         &Hints(ListOf::new(alloc)),
         0,
         &mut steps,
     )?;
-    let found = search_index(
-        alloc,
-        index,
-        index.table(),
-        store,
-        iter,
-        no_content,
-        &mut steps,
-    );
+    let found = search_index(alloc, index, store, iter, no_content, &mut steps);
     drop(steps);
     found
 }

@@ -10,7 +10,7 @@ use Rattle.ft_base.specs.declared.query.Query.{Query}
 use Rattle.ft_meaning.specs.Holds.{holds}
 use Rattle.id_iters.specs.Held.{Held}
 use Rattle.id_iters.specs.Least.{IsLeastAt, NoneFrom}
-use Rattle.ft_index.specs.Lists.{AllLists}
+use Rattle.id_iters.specs.Named.{Named}
 use Rattle.inverted_list.specs.Listing.{RisesAbove}
 use Rattle.query_plan.specs.Finds.{AreOf, finds, found_from, found_ids}
 use Rattle.query_plan.proofs.EntryLaws.{Rise, eqb_itself, missed, rise_from}
@@ -104,7 +104,7 @@ module _ (query : Query) (def : IndexDef) (docs : List Doc) (rise : Rise 0 docs)
 
 -- ---- a reader that asks a set of ids for its least id, again and again
 
-module _ (query : Query) (def : IndexDef) (lists : AllLists) (held : Held) (live : List (ℕ × List ℕ)) (docs : List Doc) (are : AreOf def lists held live docs)
+module _ (query : Query) (def : IndexDef) (held : Held) (named : Named) (docs : List Doc) (are : AreOf def held named docs)
     (ids : ℕ → Bool) (same : (id : ℕ) → ids id ≡ finds query def docs id) where
   rise : Rise 0 docs
   rise = rise_from 0 docs (subst (RisesAbove 0) are.has.live are.kept.rise)

@@ -1,11 +1,9 @@
--- Going from word to word of a dictionary, and from range to range.
+-- Going from word to word of those that have lists, and from range to range.
 use Rattle.std.proofs.Common.{◌≡◌, ℕ, ℤ, zero, suc, ◌≤◌, ◌+◌, Bool, true, ◌&&◌, List, [], ◌∷◌, ◌++◌, append-nil, append_assoc, add-one, map, filter, find, Option, Some, None, refl, sym, ap, ◌∙◌, subst, inl, inr, arith}
 use Rattle.std.specs.Cmp.{tied_itself}
 use Rattle.std.specs.Cmp.Lexicographic.{nat_list_cmp_total}
 use Rattle.std.specs.List.{AllByRecursion, slice_get}
 use Rattle.std.specs.List.Sorted.{IsStrictlySortedBy}
-use Rattle.std.specs.Map.{keys_of}
-use Rattle.std.specs.Option.{option_map}
 use Rattle.std.specs.Ordering.{is_lt, ordering_reverse}
 use Rattle.std.specs.declared.cmp.Ordering.{Ordering}
 use Rattle.std.specs.declared.cmp.Ordering.TheVariants.{Less, Equal, Greater}
@@ -14,11 +12,8 @@ use Rattle.std.proofs.lemmas.Map.Keys.{sorted_head, sorted_tail}
 use Rattle.ft_meaning.specs.Holds.{begins}
 use Rattle.id_iters.specs.declared.list_name.ListName.{ListName}
 use Rattle.id_iters.specs.declared.list_name.ListName.TheVariants as names
-use Rattle.inverted_list.specs.Listing.{Listing}
-use Rattle.numeric_ranges.specs.Ranges.{Rows}
-use Rattle.posting_block.specs.declared.hits.NumHit.{NumHit}
-use Rattle.term_dict.specs.Terms.{Lists, WordsRise, is_after, next_word, word_cmp}
-use Rattle.query_plan.specs.Sought.{rows_from, words_with}
+use Rattle.inverted_list.specs.Names.{NamesRise, is_after, next_name, word_cmp}
+use Rattle.query_plan.specs.Sought.{section_of, words_with}
 
 -- ---- words
 
@@ -26,8 +21,8 @@ abbrev comes : List ℕ → Option (List ℕ) → List ℕ → Bool
 comes text after word = begins text word && is_after after word
 
 -- the words that begin with a text and are above another one
-abbrev pub words_after : {P : Type 0} → List ℕ → Option (List ℕ) → Lists P → List (List ℕ)
-words_after text after lists = filter (comes text after) (keys_of lists)
+abbrev pub words_after : List ℕ → Option (List ℕ) → List (List ℕ) → List (List ℕ)
+words_after text after words = filter (comes text after) words
 
 lt_is : (o : Ordering) → is_lt o ≡ true → o ≡ Less
 lt_is Less h = refl
@@ -93,24 +88,24 @@ none_of test (word ∷ words) none =
           rw n (none_of test words rest)
     ]
 
-module _ {P : Type 0} (lists : Lists P) (text : List ℕ) where
-  pub next_after : (after : Option (List ℕ)) (word : List ℕ) → WordsRise lists → next_word lists text after ≡ Some word
-      → words_after text after lists ≡ word ∷ words_after text (Some word) lists
-  next_after after word rise found = next_of text after (keys_of lists) word rise found
+module _ (words : List (List ℕ)) (text : List ℕ) where
+  pub next_after : (after : Option (List ℕ)) (word : List ℕ) → NamesRise words → next_name words text after ≡ Some word
+      → words_after text after words ≡ word ∷ words_after text (Some word) words
+  next_after after word rise found = next_of text after words word rise found
 
-  pub none_after : (after : Option (List ℕ)) → next_word lists text after ≡ None → words_after text after lists ≡ []
-  none_after after none = none_of (comes text after) (keys_of lists) none
+  pub none_after : (after : Option (List ℕ)) → next_name words text after ≡ None → words_after text after words ≡ []
+  none_after after none = none_of (comes text after) words none
 
   -- at first all words with the text are to come
-  pub all_after : words_after text None lists ≡ words_with text lists
-  all_after = all (keys_of lists)
+  pub all_after : words_after text None words ≡ words_with text words
+  all_after = all words
     where
-      all : (words : List (List ℕ)) → filter (comes text None) words ≡ filter (begins text) words
+      all : (ws : List (List ℕ)) → filter (comes text None) ws ≡ filter (begins text) ws
       all [] = refl
-      all (word ∷ words) =
+      all (word ∷ ws) =
           elim (cases_Bool (begins text word)) [
-            | inl y ↦ rw y (ap (λ rest. word ∷ rest) (all words))
-            | inr n ↦ rw n (all words)
+            | inl y ↦ rw y (ap (λ rest. word ∷ rest) (all ws))
+            | inr n ↦ rw n (all ws)
           ]
 
 -- ---- names that are gathered
@@ -126,26 +121,39 @@ gathered_all name old left all before none = sym (append-nil old) ∙ (ap (λ xs
 
 -- ---- ranges
 
-abbrev pub range_name : ℕ → ℤ × Listing NumHit → ListName
-range_name field row = names.Range field row.0
+abbrev pub range_name : ℕ → ℤ → ListName
+range_name field low = names.Range field low
 
-pub rows_none : (rows : Rows) (at : ℕ) → rows_from rows at at ≡ []
-rows_none [] zero = refl
-rows_none [] (suc at) = refl
-rows_none (row ∷ rows) zero = refl
-rows_none (row ∷ rows) (suc at) = rows_none rows at
+pub lows_none : (lows : List ℤ) (at : ℕ) → section_of lows at at ≡ []
+lows_none [] zero = refl
+lows_none [] (suc at) = refl
+lows_none (low ∷ lows) zero = refl
+lows_none (low ∷ lows) (suc at) = lows_none lows at
 
-rows_further : (field : ℕ) (rows : Rows) (from at : ℕ) (low : ℤ) → from ≤ at → option_map (λ (row : ℤ × Listing NumHit). row.0) (slice_get rows at) ≡ Some low
-    → map (range_name field) (rows_from rows from (suc at)) ≡ map (range_name field) (rows_from rows from at) ++ names.Range field low ∷ []
-rows_further field [] from at low within is = absurd (cc (is))
-rows_further field (row ∷ rows) zero zero low within is =
-    let same : row.0 ≡ low = cc (is) in
-    ap (λ (n : ℤ). names.Range field n ∷ []) same
-rows_further field (row ∷ rows) (suc from) zero low within is = absurd (omega (arith, within))
-rows_further field (row ∷ rows) zero (suc at) low within is =
-    ap (λ rest. range_name field row ∷ rest) (rows_further field rows zero at low (omega arith) is)
-rows_further field (row ∷ rows) (suc from) (suc at) low within is = rows_further field rows from at low (omega (arith, within)) is
+lows_further : (field : ℕ) (lows : List ℤ) (from at : ℕ) (low : ℤ) → from ≤ at → slice_get lows at ≡ Some low
+    → map (range_name field) (section_of lows from (suc at)) ≡ map (range_name field) (section_of lows from at) ++ names.Range field low ∷ []
+lows_further field [] from at low within is = absurd (cc (is))
+lows_further field (n ∷ lows) zero zero low within is =
+    let same : n ≡ low = cc (is) in
+    ap (λ (m : ℤ). names.Range field m ∷ []) same
+lows_further field (n ∷ lows) (suc from) zero low within is = absurd (omega (arith, within))
+lows_further field (n ∷ lows) zero (suc at) low within is =
+    ap (λ rest. range_name field n ∷ rest) (lows_further field lows zero at low (omega arith) is)
+lows_further field (n ∷ lows) (suc from) (suc at) low within is = lows_further field lows from at low (omega (arith, within)) is
 
-pub rows_more : (field : ℕ) (rows : Rows) (from at : ℕ) (low : ℤ) → from ≤ at → option_map (λ (row : ℤ × Listing NumHit). row.0) (slice_get rows at) ≡ Some low
-    → map (range_name field) (rows_from rows from (at + 1)) ≡ map (range_name field) (rows_from rows from at) ++ names.Range field low ∷ []
-rows_more field rows from at low within is = rw add-one (rows_further field rows from at low within is)
+pub lows_more : (field : ℕ) (lows : List ℤ) (from at : ℕ) (low : ℤ) → from ≤ at → slice_get lows at ≡ Some low
+    → map (range_name field) (section_of lows from (at + 1)) ≡ map (range_name field) (section_of lows from at) ++ names.Range field low ∷ []
+lows_more field lows from at low within is = rw add-one (lows_further field lows from at low within is)
+
+lows_over : (lows : List ℤ) (from at : ℕ) → slice_get lows at ≡ None → section_of lows from (suc at) ≡ section_of lows from at
+lows_over [] zero zero none = refl
+lows_over [] zero (suc at) none = refl
+lows_over [] (suc from) zero none = refl
+lows_over [] (suc from) (suc at) none = refl
+lows_over (low ∷ lows) from zero none = absurd (cc (none))
+lows_over (low ∷ lows) zero (suc at) none = ap (λ rest. low ∷ rest) (lows_over lows zero at none)
+lows_over (low ∷ lows) (suc from) (suc at) none = lows_over lows from at none
+
+-- behind the last range there is none
+pub lows_ended : (lows : List ℤ) (from at : ℕ) → slice_get lows at ≡ None → section_of lows from (at + 1) ≡ section_of lows from at
+lows_ended lows from at none = rw add-one (lows_over lows from at none)

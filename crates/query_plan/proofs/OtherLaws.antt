@@ -10,7 +10,7 @@ use Rattle.ft_base.specs.declared.query.Query.TheViews.{out-Query, roll-Query, r
 use Rattle.ft_base.specs.declared.query.TagPart.{TagPart}
 use Rattle.ft_meaning.specs.Holds.{holds}
 use Rattle.id_iters.specs.Held.{Held}
-use Rattle.ft_index.specs.Lists.{AllLists}
+use Rattle.id_iters.specs.Named.{Named}
 use Rattle.query_plan.specs.Plans.{Tells}
 use Rattle.query_plan.specs.Sought.{asks_other_step, asks_other}
 use Rattle.query_plan.proofs.PlanLaws.{all_tell, optional_tells}
@@ -30,15 +30,15 @@ pub other : (whole : Query) → ((looked : Fields) (text : List ℕ) → whole �
     → asks_other whole ≡ true
 other whole not_word not_prefix not_and not_or not_not = other_at (out-Query whole) whole (sym (roll-out-Query whole)) not_word not_prefix not_and not_or not_not
 
-module _ (def : IndexDef) (lists : AllLists) (held : Held) (ids : ℕ → Bool) (all : ids ≡ (λ id. true)) where
+module _ (def : IndexDef) (held : Held) (named : Named) (ids : ℕ → Bool) (all : ids ≡ (λ id. true)) where
   rest_at : (d : layer.Query-F Query) (whole : Query) → whole ≡ roll-Query d → asks_other whole ≡ true
       → (whole ≡ query.Empty → ⊥)
       → ((looked : Fields) (words : List (List ℕ)) (slop : Option ℕ) (in_order : Bool) → whole ≡ query.Phrase looked words slop in_order → ⊥)
       → ((field : ℕ) (tags : List TagPart) → whole ≡ query.Tags field tags → ⊥)
       → ((field : ℕ) (low high : ℤ) → whole ≡ query.Range field low high → ⊥)
-      → Tells def lists held (λ doc. holds whole def doc) ids
+      → Tells def held named (λ doc. holds whole def doc) ids
   rest_at layer.Empty whole is single no_empty no_phrase no_tags no_range = absurd (no_empty (is ∙ query.rolls-Empty))
-  rest_at layer.All whole is single no_empty no_phrase no_tags no_range = all_tell def lists held whole ids (is ∙ query.rolls-All) all
+  rest_at layer.All whole is single no_empty no_phrase no_tags no_range = all_tell def held named whole ids (is ∙ query.rolls-All) all
   rest_at (layer.Word looked text) whole is single no_empty no_phrase no_tags no_range =
       let e : false ≡ true = sym (ap asks_other is ∙ fold-roll-Query Bool asks_other_step (layer.Word looked text)) ∙ single in
       absurd (cc)
@@ -51,7 +51,7 @@ module _ (def : IndexDef) (lists : AllLists) (held : Held) (ids : ℕ → Bool) 
   rest_at (layer.Range field low high) whole is single no_empty no_phrase no_tags no_range =
       absurd (no_range field low high (is ∙ query.rolls-Range field low high))
   rest_at (layer.Optional part) whole is single no_empty no_phrase no_tags no_range =
-      optional_tells def lists held part whole ids (is ∙ query.rolls-Optional part) all
+      optional_tells def held named part whole ids (is ∙ query.rolls-Optional part) all
   rest_at (layer.And parts) whole is single no_empty no_phrase no_tags no_range =
       let e : false ≡ true = sym (ap asks_other is ∙ fold-roll-Query Bool asks_other_step (layer.And parts)) ∙ single in
       absurd (cc)
@@ -68,5 +68,5 @@ module _ (def : IndexDef) (lists : AllLists) (held : Held) (ids : ℕ → Bool) 
       → ((looked : Fields) (words : List (List ℕ)) (slop : Option ℕ) (in_order : Bool) → whole ≡ query.Phrase looked words slop in_order → ⊥)
       → ((field : ℕ) (tags : List TagPart) → whole ≡ query.Tags field tags → ⊥)
       → ((field : ℕ) (low high : ℤ) → whole ≡ query.Range field low high → ⊥)
-      → Tells def lists held (λ doc. holds whole def doc) ids
+      → Tells def held named (λ doc. holds whole def doc) ids
   rest_tells whole = rest_at (out-Query whole) whole (sym (roll-out-Query whole))

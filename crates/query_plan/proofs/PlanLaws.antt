@@ -14,106 +14,95 @@ use Rattle.ft_base.specs.declared.query.Query.{Query}
 use Rattle.ft_base.specs.declared.query.Query.TheVariants as query
 use Rattle.ft_base.specs.declared.query.TagPart.{TagPart}
 use Rattle.ft_base.proofs.AnyLaws.{any_filter_and, any_map}
-use Rattle.ft_meaning.specs.Holds.{has_of, has_phrase, holds, named, searched}
+use Rattle.ft_meaning.specs.Holds.{has_of, has_phrase, holds, named as fields_named, searched}
 use Rattle.ft_meaning.specs.Meaning.{field_tokens, has_words}
 use Rattle.ft_meaning.proofs.HoldsLaws.{holds-All, holds-And, holds-Empty, holds-Not, holds-Optional, holds-Or}
 use Rattle.id_iters.specs.Entries.{codes_at, phrase_has, stand_together}
 use Rattle.id_iters.specs.Held.{Held, codes_of}
 use Rattle.id_iters.specs.Leaves.{list_has, list_names, phrase_ids, word_entries}
+use Rattle.id_iters.specs.Named.{Named, lies_at}
 use Rattle.id_iters.specs.Ready.{Ready}
 use Rattle.id_iters.specs.declared.list_name.ListName.{ListName}
 use Rattle.id_iters.specs.declared.list_name.ListName.TheVariants as names
 use Rattle.id_iters.specs.declared.phrase.PhraseIter.{PhraseIter}
-use Rattle.ft_index.specs.Lists.{AllLists, rows_of}
-use Rattle.numeric_ranges.specs.Ranges.{IsPartition, Rows, meets}
 use Rattle.phrase_match.specs.Phrase.{within}
-use Rattle.term_dict.specs.Tags.{tags_of}
 use Rattle.query_plan.specs.Plans.{AllReady, AllTell, Joins, Tells, ids_of, some_has}
-use Rattle.query_plan.specs.Sought.{all_sought, rows_from, words_with}
+use Rattle.query_plan.specs.Sought.{all_sought, section_of, words_with}
 use Rattle.query_plan.specs.declared.size.Planned.{Planned}
 use Rattle.query_plan.proofs.AnyLaws.{any_cong}
-use Rattle.query_plan.proofs.MeetLaws.{no_range_meets, phrase_meets, prefix_meets, range_meets, tags_meet, word_meets}
+use Rattle.query_plan.proofs.MeetLaws.{phrase_meets, prefix_meets, range_meets, tags_meet, word_meets}
 use Rattle.query_plan.proofs.NameLaws.{range_name}
 
-module _ (def : IndexDef) (lists : AllLists) (held : Held) where
+module _ (def : IndexDef) (held : Held) (named : Named) where
   -- ---- parts that read lists
 
   pub word_tells : (looked : Fields) (text : List ℕ) (low high : ℤ) (ids : ℕ → Bool) → ids ≡ list_has held (names.Word text) looked low high
-      → Tells def lists held (λ doc. (has_of def doc).word looked text) ids
+      → Tells def held named (λ doc. (has_of def doc).word looked text) ids
   word_tells looked text low high ids same = record {
-    at = λ live docs doc are among.
-        ap (λ (set : ℕ → Bool). set doc.id) same ∙ word_meets def lists held live docs are doc among looked text;
+    at = λ docs doc are among.
+        ap (λ (set : ℕ → Bool). set doc.id) same ∙ word_meets def held named docs are doc among looked text;
   }
 
   pub prefix_tells : (looked : Fields) (text : List ℕ) (low high : ℤ) (found : List ListName) (ids : ℕ → Bool)
-      → ids ≡ some_has held found looked low high → found ≡ map (λ word. names.Word word) (words_with text lists.words)
-      → Tells def lists held (λ doc. (has_of def doc).prefix looked text) ids
-  prefix_tells looked text low high found ids same named = record {
-    at = λ live docs doc are among.
+      → ids ≡ some_has held found looked low high → found ≡ map (λ word. names.Word word) (words_with text named.words)
+      → Tells def held named (λ doc. (has_of def doc).prefix looked text) ids
+  prefix_tells looked text low high found ids same are_named = record {
+    at = λ docs doc are among.
         ap (λ (set : ℕ → Bool). set doc.id) same
-        ∙ ap (λ ns. some_has held ns looked low high doc.id) named
-        ∙ any_map (λ name. list_has held name looked low high doc.id) (λ word. names.Word word) (words_with text lists.words)
-        ∙ prefix_meets def lists held live docs are doc among looked text;
+        ∙ ap (λ ns. some_has held ns looked low high doc.id) are_named
+        ∙ any_map (λ name. list_has held name looked low high doc.id) (λ word. names.Word word) (words_with text named.words)
+        ∙ prefix_meets def held named docs are doc among looked text;
   }
 
   pub tags_tell : (field : ℕ) (parts : List TagPart) (looked : Fields) (low high : ℤ) (found : List ListName) (ids : ℕ → Bool)
-      → ids ≡ some_has held found looked low high → found ≡ map (λ tag. names.Tag field tag) (all_sought (tags_of lists.tags field) parts)
-      → Tells def lists held (λ doc. (has_of def doc).tags field parts) ids
-  tags_tell field parts looked low high found ids same named = record {
-    at = λ live docs doc are among.
+      → ids ≡ some_has held found looked low high → found ≡ map (λ tag. names.Tag field tag) (all_sought (named.tags field) parts)
+      → Tells def held named (λ doc. (has_of def doc).tags field parts) ids
+  tags_tell field parts looked low high found ids same are_named = record {
+    at = λ docs doc are among.
         ap (λ (set : ℕ → Bool). set doc.id) same
-        ∙ ap (λ ns. some_has held ns looked low high doc.id) named
-        ∙ any_map (λ name. list_has held name looked low high doc.id) (λ tag. names.Tag field tag) (all_sought (tags_of lists.tags field) parts)
-        ∙ tags_meet def lists held live docs are doc among field parts;
+        ∙ ap (λ ns. some_has held ns looked low high doc.id) are_named
+        ∙ any_map (λ name. list_has held name looked low high doc.id) (λ tag. names.Tag field tag) (all_sought (named.tags field) parts)
+        ∙ tags_meet def held named docs are doc among field parts;
   }
 
-  pub range_tells : (field : ℕ) (low high : ℤ) (looked : Fields) (rows : Rows) (from to : ℕ) (found : List ListName) (ids : ℕ → Bool)
-      → ids ≡ some_has held found looked low high → found ≡ map (range_name field) (rows_from rows from to)
-      → rows_of lists.ranges field ≡ Some rows → IsPartition rows → int_le (negsuc 9223372036854775807) low ≡ true
-      → ((i : ℕ) → i < length rows → ((from ≤ i) × (i < to)) ↔ IsTrue (meets rows i low high))
-      → Tells def lists held (λ doc. (has_of def doc).range field low high) ids
-  range_tells field low high looked rows from to found ids same named there partition bound met = record {
-    at = λ live docs doc are among.
+  pub range_tells : (field : ℕ) (low high : ℤ) (looked : Fields) (from to : ℕ) (found : List ListName) (ids : ℕ → Bool)
+      → ids ≡ some_has held found looked low high → found ≡ map (range_name field) (section_of (named.lows field) from to)
+      → int_le (negsuc 9223372036854775807) low ≡ true
+      → ((place : ℕ) (number : ℤ) → int_le low number ≡ true → int_le number high ≡ true → lies_at (named.lows field) place number ≡ true → (from ≤ place) × (place < to))
+      → Tells def held named (λ doc. (has_of def doc).range field low high) ids
+  range_tells field low high looked from to found ids same are_named bound met = record {
+    at = λ docs doc are among.
         ap (λ (set : ℕ → Bool). set doc.id) same
-        ∙ ap (λ ns. some_has held ns looked low high doc.id) named
-        ∙ any_map (λ name. list_has held name looked low high doc.id) (range_name field) (rows_from rows from to)
-        ∙ range_meets def lists held live docs are doc among field low high rows from to there partition bound met;
+        ∙ ap (λ ns. some_has held ns looked low high doc.id) are_named
+        ∙ any_map (λ name. list_has held name looked low high doc.id) (range_name field) (section_of (named.lows field) from to)
+        ∙ range_meets def held named docs are doc among field low high from to bound met;
   }
 
   -- the same where the ends are known by equations
-  pub range_tells_as : (field : ℕ) (low high l h : ℤ) (looked : Fields) (rows : Rows) (from to : ℕ) (found : List ListName) (ids : ℕ → Bool) → l ≡ low → h ≡ high
-      → ids ≡ some_has held found looked l h → found ≡ map (range_name field) (rows_from rows from to)
-      → rows_of lists.ranges field ≡ Some rows → IsPartition rows → int_le (negsuc 9223372036854775807) low ≡ true
-      → ((i : ℕ) → i < length rows → ((from ≤ i) × (i < to)) ↔ IsTrue (meets rows i l h))
-      → Tells def lists held (λ doc. (has_of def doc).range field low high) ids
-  range_tells_as field low high l h looked rows from to found ids is_low is_high same named there partition bound met =
-      range_tells field low high looked rows from to found ids
-      (same ∙ ap (λ n. some_has held found looked n h) is_low ∙ ap (λ n. some_has held found looked low n) is_high)
-      named there partition bound
-      (λ i within. subst (λ (n : ℤ). ((from ≤ i) × (i < to)) ↔ IsTrue (meets rows i low n)) is_high
-      (subst (λ (n : ℤ). ((from ≤ i) × (i < to)) ↔ IsTrue (meets rows i n h)) is_low (met i within)))
-
-  pub no_range_tells : (field : ℕ) (low high : ℤ) (ids : ℕ → Bool) → ids ≡ (λ id. false) → rows_of lists.ranges field ≡ None
-      → Tells def lists held (λ doc. (has_of def doc).range field low high) ids
-  no_range_tells field low high ids same none = record {
-    at = λ live docs doc are among.
-        ap (λ (set : ℕ → Bool). set doc.id) same ∙ no_range_meets def lists held live docs are doc among field low high none;
-  }
+  pub range_tells_as : (field : ℕ) (low high l h : ℤ) (looked : Fields) (from to : ℕ) (found : List ListName) (ids : ℕ → Bool) → l ≡ low → h ≡ high
+      → ids ≡ some_has held found looked l h → found ≡ map (range_name field) (section_of (named.lows field) from to)
+      → int_le (negsuc 9223372036854775807) low ≡ true
+      → ((place : ℕ) (number : ℤ) → int_le l number ≡ true → int_le number h ≡ true → lies_at (named.lows field) place number ≡ true → (from ≤ place) × (place < to))
+      → Tells def held named (λ doc. (has_of def doc).range field low high) ids
+  range_tells_as field low high l h looked from to found ids is_low is_high same are_named bound met =
+      range_tells field low high looked from to found ids
+      (same ∙ ap (λ n. some_has held found looked n h) is_low ∙ ap (λ n. some_has held found looked low n) is_high) are_named bound
+      (λ place number above below. met place number (ap (λ (n : ℤ). int_le n number) is_low ∙ above) (ap (int_le number) is_high ∙ below))
 
   pub phrase_tells : (phrase : PhraseIter) (looked : Fields) (words : List (List ℕ)) (slop : Option ℕ) (in_order : Bool) (ids : ℕ → Bool)
       → 0 < length words → ids ≡ phrase_ids held phrase → list_names phrase.words ≡ map (λ word. names.Word word) words
       → phrase.fields ≡ looked → phrase.slop ≡ slop → phrase.in_order ≡ in_order
-      → Tells def lists held (λ doc. (has_of def doc).phrase looked words slop in_order) ids
-  phrase_tells phrase looked [] slop in_order ids some same named is_looked is_slop is_order = absurd (omega (arith, some))
-  phrase_tells phrase looked (word ∷ words) slop in_order ids some same named is_looked is_slop is_order = record {
-    at = λ live docs doc are among.
+      → Tells def held named (λ doc. (has_of def doc).phrase looked words slop in_order) ids
+  phrase_tells phrase looked [] slop in_order ids some same are_named is_looked is_slop is_order = absurd (omega (arith, some))
+  phrase_tells phrase looked (word ∷ words) slop in_order ids some same are_named is_looked is_slop is_order = record {
+    at = λ docs doc are among.
         ap (λ (set : ℕ → Bool). set doc.id) same
-        ∙ ap (λ ns. phrase_has phrase.fields phrase.slop phrase.in_order (map (word_entries held) ns) doc.id) named
+        ∙ ap (λ ns. phrase_has phrase.fields phrase.slop phrase.in_order (map (word_entries held) ns) doc.id) are_named
         ∙ ap (λ l. phrase_has l phrase.slop phrase.in_order (map (word_entries held) (map (λ w. names.Word w) (word ∷ words))) doc.id) is_looked
         ∙ ap (λ s. phrase_has looked s phrase.in_order (map (word_entries held) (map (λ w. names.Word w) (word ∷ words))) doc.id) is_slop
         ∙ ap (λ o. phrase_has looked slop o (map (word_entries held) (map (λ w. names.Word w) (word ∷ words))) doc.id) is_order
         ∙ ap (λ cs. stand_together looked slop in_order cs) (codes_are doc.id (word ∷ words))
-        ∙ phrase_meets def lists held live docs are doc among looked word words slop in_order;
+        ∙ phrase_meets def held named docs are doc among looked word words slop in_order;
   }
     where
       codes_are : (id : ℕ) (ws : List (List ℕ)) → map (λ entries. codes_at entries id) (map (word_entries held) (map (λ w. names.Word w) ws)) ≡ map (λ w. codes_of held w id) ws
@@ -122,11 +111,11 @@ module _ (def : IndexDef) (lists : AllLists) (held : Held) where
 
   -- without a word a phrase stands in each field that is searched
   pub no_words_tell : (looked : Fields) (words : List (List ℕ)) (slop : Option ℕ) (in_order : Bool) (ids : ℕ → Bool) → length words ≡ 0
-      → ids ≡ (λ id. list_any has_words (named def looked))
-      → Tells def lists held (λ doc. (has_of def doc).phrase looked words slop in_order) ids
+      → ids ≡ (λ id. list_any has_words (fields_named def looked))
+      → Tells def held named (λ doc. (has_of def doc).phrase looked words slop in_order) ids
   no_words_tell looked (word ∷ words) slop in_order ids none same = absurd (omega (arith, none))
   no_words_tell looked [] slop in_order ids none same = record {
-    at = λ live docs doc are among. ap (λ (set : ℕ → Bool). set doc.id) same ∙ each doc;
+    at = λ docs doc are among. ap (λ (set : ℕ → Bool). set doc.id) same ∙ each doc;
   }
     where
       stands : (s : Option ℕ) (o : Bool) → within [] s o ≡ true
@@ -135,42 +124,42 @@ module _ (def : IndexDef) (lists : AllLists) (held : Held) where
       stands (Some s) true = rw (le-leb 0 s (omega arith)) refl
       stands (Some s) false = rw (le-leb 0 s (omega arith)) refl
 
-      each : (doc : Doc) → list_any has_words (named def looked)
+      each : (doc : Doc) → list_any has_words (fields_named def looked)
           ≡ list_any (λ (field : Field). has_phrase [] slop in_order (field_tokens def doc field)) (searched def looked)
       each doc =
-          any_cong has_words (λ field. has_words field && has_phrase [] slop in_order (field_tokens def doc field)) (named def looked)
+          any_cong has_words (λ field. has_words field && has_phrase [] slop in_order (field_tokens def doc field)) (fields_named def looked)
           (λ field. sym (and-true (has_words field)) ∙ ap (λ b. has_words field && b) (sym (stands slop in_order)))
-          ∙ sym (any_filter_and (λ (field : Field). has_phrase [] slop in_order (field_tokens def doc field)) has_words (named def looked))
+          ∙ sym (any_filter_and (λ (field : Field). has_phrase [] slop in_order (field_tokens def doc field)) has_words (fields_named def looked))
 
   -- what is told of a query is told of one that is the same
   pub tells_same : {E : Type 0} (whole query : Query) (made : Result Planned E) → whole ≡ query
-      → IfOk made (λ planned. Tells def lists held (λ doc. holds query def doc) (ids_of held planned))
-      → IfOk made (λ planned. Tells def lists held (λ doc. holds whole def doc) (ids_of held planned))
+      → IfOk made (λ planned. Tells def held named (λ doc. holds query def doc) (ids_of held planned))
+      → IfOk made (λ planned. Tells def held named (λ doc. holds whole def doc) (ids_of held planned))
   tells_same {E} whole query made is tells =
-      subst (λ (q : Query). IfOk made (λ planned. Tells def lists held (λ doc. holds q def doc) (ids_of held planned))) (sym is) tells
+      subst (λ (q : Query). IfOk made (λ planned. Tells def held named (λ doc. holds q def doc) (ids_of held planned))) (sym is) tells
 
   -- ---- parts made of others
 
-  pub every_tells : (queries : List Query) (whole : Query) (plans : List Planned) (ids : ℕ → Bool) → whole ≡ query.And queries → AllTell def lists held queries plans
-      → ((id : ℕ) → ids id ≡ list_all (λ planned. ids_of held planned id) plans) → Tells def lists held (λ doc. holds whole def doc) ids
+  pub every_tells : (queries : List Query) (whole : Query) (plans : List Planned) (ids : ℕ → Bool) → whole ≡ query.And queries → AllTell def held named queries plans
+      → ((id : ℕ) → ids id ≡ list_all (λ planned. ids_of held planned id) plans) → Tells def held named (λ doc. holds whole def doc) ids
   every_tells queries whole plans ids is tell set = record {
-    at = λ live docs doc are among.
+    at = λ docs doc are among.
         set doc.id
         ∙ sym (list_all-map (λ b. b) (λ planned. ids_of held planned doc.id) plans)
-        ∙ ap (list_all (λ b. b)) (tell.at live docs doc are among)
+        ∙ ap (list_all (λ b. b)) (tell.at docs doc are among)
         ∙ list_all-map (λ b. b) (λ q. holds q def doc) queries
         ∙ sym (holds-And (has_of def doc) queries)
         ∙ ap (λ q. holds q def doc) (sym is);
   }
 
-  pub some_tells : (queries : List Query) (whole : Query) (plans : List Planned) (made : Planned) → whole ≡ query.Or queries → AllTell def lists held queries plans
-      → Joins plans (made ∷ []) → Tells def lists held (λ doc. holds whole def doc) (ids_of held made)
+  pub some_tells : (queries : List Query) (whole : Query) (plans : List Planned) (made : Planned) → whole ≡ query.Or queries → AllTell def held named queries plans
+      → Joins plans (made ∷ []) → Tells def held named (λ doc. holds whole def doc) (ids_of held made)
   some_tells queries whole plans made is tell joins = record {
-    at = λ live docs doc are among.
+    at = λ docs doc are among.
         sym (or-false (ids_of held made doc.id))
         ∙ joins.set held doc.id
         ∙ sym (any_map (λ b. b) (λ planned. ids_of held planned doc.id) plans)
-        ∙ ap (list_any (λ b. b)) (tell.at live docs doc are among)
+        ∙ ap (list_any (λ b. b)) (tell.at docs doc are among)
         ∙ any_map (λ b. b) (λ q. holds q def doc) queries
         ∙ sym (holds-Or (has_of def doc) queries)
         ∙ ap (λ q. holds q def doc) (sym is);
@@ -179,45 +168,45 @@ module _ (def : IndexDef) (lists : AllLists) (held : Held) where
   pub some_ready : (plans : List Planned) (made : Planned) (from : ℕ) → Joins plans (made ∷ []) → AllReady held plans from → Ready held made.iter from
   some_ready plans made from joins all = (joins.ready held from all).0
 
-  pub none_tells : (whole : Query) (ids : ℕ → Bool) → whole ≡ query.Empty → ids ≡ (λ id. false) → Tells def lists held (λ doc. holds whole def doc) ids
+  pub none_tells : (whole : Query) (ids : ℕ → Bool) → whole ≡ query.Empty → ids ≡ (λ id. false) → Tells def held named (λ doc. holds whole def doc) ids
   none_tells whole ids is same = record {
-    at = λ live docs doc are among.
+    at = λ docs doc are among.
         ap (λ (set : ℕ → Bool). set doc.id) same ∙ sym (ap (λ q. holds q def doc) is ∙ holds-Empty (has_of def doc));
   }
 
-  pub all_tell : (whole : Query) (ids : ℕ → Bool) → whole ≡ query.All → ids ≡ (λ id. true) → Tells def lists held (λ doc. holds whole def doc) ids
+  pub all_tell : (whole : Query) (ids : ℕ → Bool) → whole ≡ query.All → ids ≡ (λ id. true) → Tells def held named (λ doc. holds whole def doc) ids
   all_tell whole ids is same = record {
-    at = λ live docs doc are among.
+    at = λ docs doc are among.
         ap (λ (set : ℕ → Bool). set doc.id) same ∙ sym (ap (λ q. holds q def doc) is ∙ holds-All (has_of def doc));
   }
 
-  pub optional_tells : (part whole : Query) (ids : ℕ → Bool) → whole ≡ query.Optional part → ids ≡ (λ id. true) → Tells def lists held (λ doc. holds whole def doc) ids
+  pub optional_tells : (part whole : Query) (ids : ℕ → Bool) → whole ≡ query.Optional part → ids ≡ (λ id. true) → Tells def held named (λ doc. holds whole def doc) ids
   optional_tells part whole ids is same = record {
-    at = λ live docs doc are among.
+    at = λ docs doc are among.
         ap (λ (set : ℕ → Bool). set doc.id) same ∙ sym (ap (λ q. holds q def doc) is ∙ holds-Optional (has_of def doc) part);
   }
 
-  pub other_tells : (part whole : Query) (ids others : ℕ → Bool) → whole ≡ query.Not part → Tells def lists held (λ doc. holds part def doc) ids
-      → ((id : ℕ) → others id ≡ not (ids id)) → Tells def lists held (λ doc. holds whole def doc) others
+  pub other_tells : (part whole : Query) (ids others : ℕ → Bool) → whole ≡ query.Not part → Tells def held named (λ doc. holds part def doc) ids
+      → ((id : ℕ) → others id ≡ not (ids id)) → Tells def held named (λ doc. holds whole def doc) others
   other_tells part whole ids others is tells set = record {
-    at = λ live docs doc are among.
-        set doc.id ∙ ap not (tells.at live docs doc are among)
+    at = λ docs doc are among.
+        set doc.id ∙ ap not (tells.at docs doc are among)
         ∙ sym (ap (λ q. holds q def doc) is ∙ holds-Not (has_of def doc) part);
   }
 
   -- ---- plans that are gathered
 
-  pub none_tell : AllTell def lists held [] []
-  none_tell = record { at = λ live docs doc are among. refl }
+  pub none_tell : AllTell def held named [] []
+  none_tell = record { at = λ docs doc are among. refl }
 
   pub one_more_tells : (queries more : List Query) (one : Query) (plans new : List Planned) (planned : Planned)
       → more ≡ queries ++ one ∷ [] → new ≡ plans ++ planned ∷ []
-      → AllTell def lists held queries plans → Tells def lists held (λ doc. holds one def doc) (ids_of held planned) → AllTell def lists held more new
+      → AllTell def held named queries plans → Tells def held named (λ doc. holds one def doc) (ids_of held planned) → AllTell def held named more new
   one_more_tells queries more one plans new planned is_more is_new tell tells = record {
-    at = λ live docs doc are among.
+    at = λ docs doc are among.
         ap (map (λ p. ids_of held p doc.id)) is_new
         ∙ map-append _ _ _
-        ∙ ap (λ xs. xs ++ ids_of held planned doc.id ∷ []) (tell.at live docs doc are among)
-        ∙ ap (λ b. map (λ q. holds q def doc) queries ++ b ∷ []) (tells.at live docs doc are among)
+        ∙ ap (λ xs. xs ++ ids_of held planned doc.id ∷ []) (tell.at docs doc are among)
+        ∙ ap (λ b. map (λ q. holds q def doc) queries ++ b ∷ []) (tells.at docs doc are among)
         ∙ sym (ap (map (λ q. holds q def doc)) is_more ∙ map-append _ _ _);
   }

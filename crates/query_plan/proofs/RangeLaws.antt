@@ -1,9 +1,10 @@
 -- The numbers of an interval, in the ranges of a field and in a document.
 use mir.Syntax.{w64}
 use mir.Val.{SFits}
-use Rattle.std.proofs.Common.{◌≡◌, ◌⊎◌, ℕ, ℤ, zero, suc, ◌<◌, ◌≤◌, Bool, true, false, ◌&&◌, ◌||◌, List, [], ◌∷◌, length, get_or, Option, Some, None, IsTrue, ◌↔◌, refl, sym, ap, ◌∙◌, inl, inr, arith}
+use Rattle.std.proofs.Common.{◌≡◌, ◌⊎◌, ℕ, ℤ, zero, suc, ◌<◌, ◌≤◌, Bool, true, false, ◌&&◌, ◌||◌, List, [], ◌∷◌, map, get_or, Option, Some, None, IsTrue, refl, sym, ap, ◌∙◌, inl, inr, arith}
 use Rattle.std.specs.Prelude.{nat_eq, int_le, int_lt, negsuc, pos}
-use Rattle.std.specs.List.{AllByRecursion, list_any, slice_get}
+use Rattle.std.specs.List.{AllByRecursion, list_all, list_any, slice_get}
+use Rattle.std.specs.Map.{keys_of}
 use Rattle.std.proofs.lemmas.Bool.{cases_Bool, false≢true, le-leb, and_parts, and_from, and_right, or_from, or_left, or_right, false_from_ne_true}
 use Rattle.std.proofs.lemmas.Int.{ints}
 use Rattle.std.proofs.lemmas.Option.{slice_get_within, get_or_from_slice_get}
@@ -16,15 +17,16 @@ use Rattle.ft_meaning.specs.Holds.{field_number, has_number, is_between}
 use Rattle.ft_meaning.proofs.HoldsLaws.{value_number-none}
 use Rattle.id_iters.specs.Entries.{lies_in, range_has, wanted}
 use Rattle.id_iters.specs.Held.{entries_of}
+use Rattle.id_iters.specs.Named.{lies_at}
 use Rattle.ft_index.specs.Entries.{is_ranged, searched_number}
 use Rattle.inverted_list.specs.Listing.{Listing}
 use Rattle.numeric_ranges.specs.Ranges as ranges
-use Rattle.numeric_ranges.specs.Ranges.{AreParted, EntriesLie, IsPartition, Rows, is_below, list_at, low_of, meets}
+use Rattle.numeric_ranges.specs.Ranges.{AreParted, EntriesLie, IsPartition, LowsRise, Rows, is_below, list_at, low_of}
 use Rattle.numeric_ranges.specs.Values.{Entries}
 use Rattle.numeric_ranges.proofs.ReachLaws.{list_here}
 use Rattle.numeric_ranges.proofs.ValueLaws.{le_from_not_lt, le_trans}
 use Rattle.posting_block.specs.declared.hits.NumHit.{NumHit}
-use Rattle.query_plan.specs.Sought.{rows_from}
+use Rattle.query_plan.specs.Sought.{section_of}
 use Rattle.query_plan.proofs.AnyLaws.{any_cong, any_none, any_or, or_and}
 use Rattle.query_plan.proofs.WordLaws.{num_hit}
 
@@ -55,10 +57,27 @@ unranged low high doc (Some field) none =
 
 -- ---- the ranges of an interval
 
+-- of nothing there is no section
+pub nothing_of : {X : Type 0} (from to : ℕ) → section_of {X = X} [] from to ≡ []
+nothing_of zero zero = refl
+nothing_of zero (suc to) = refl
+nothing_of (suc from) zero = refl
+nothing_of (suc from) (suc to) = refl
+
+pub section_map : {X Y : Type 0} (f : X → Y) (xs : List X) (from to : ℕ) → section_of (map f xs) from to ≡ map f (section_of xs from to)
+section_map f [] zero zero = refl
+section_map f [] zero (suc to) = refl
+section_map f [] (suc from) zero = refl
+section_map f [] (suc from) (suc to) = refl
+section_map f (x ∷ xs) zero zero = refl
+section_map f (x ∷ xs) (suc from) zero = refl
+section_map f (x ∷ xs) zero (suc to) = ap (λ rest. f x ∷ rest) (section_map f xs zero to)
+section_map f (x ∷ xs) (suc from) (suc to) = section_map f xs from to
+
 -- what no row outside of two places passes
 any_within : (test : ℤ × Listing NumHit → Bool) (rows : Rows) (from to : ℕ)
     → ((k : ℕ) (row : ℤ × Listing NumHit) → slice_get rows k ≡ Some row → (k < from) ⊎ (to ≤ k) → test row ≡ false)
-    → list_any test (rows_from rows from to) ≡ list_any test rows
+    → list_any test (section_of rows from to) ≡ list_any test rows
 any_within test [] zero zero none = refl
 any_within test [] (suc from) zero none = refl
 any_within test [] zero (suc to) none = refl
@@ -88,9 +107,15 @@ any_there : {X : Type 0} (f g : X → Bool) (xs : List X) → ((k : ℕ) (x : X)
 any_there f g [] same = refl
 any_there f g (x ∷ xs) same = ap (λ b. b || list_any f xs) (same 0 x refl) ∙ ap (λ b. g x || b) (any_there f g xs (λ k y at. same (suc k) y at))
 
-below_trans : (next : Option ℤ) (a b : ℤ) → int_le a b ≡ true → is_below next b ≡ true → is_below next a ≡ true
-below_trans None a b le below = refl
-below_trans (Some bound) a b le below = grind (arith, ints)
+less_trans : (next : Option ℤ) (a b : ℤ) → int_lt a b ≡ true → is_below next b ≡ true → is_below next a ≡ true
+less_trans None a b less below = refl
+less_trans (Some bound) a b less below = grind (arith, ints)
+
+-- a number before the next row is before all behind it
+below_all : (rows : Rows) (v : ℤ) → LowsRise rows → is_below (low_of rows) v ≡ true → list_all (int_lt v) (keys_of rows) ≡ true
+below_all [] v rise below = refl
+below_all (row ∷ rows) v rise below =
+    and_from (int_lt v row.0) (list_all (int_lt v) (keys_of rows)) below (below_all rows v rise.1 (less_trans (low_of rows) v row.0 below rise.0))
 
 -- a row that a number lies in, or one behind it
 rows_lie : Rows → ℤ → Bool
@@ -109,25 +134,25 @@ covered row (next ∷ rows) v from =
 module _ (low high : ℤ) (id : ℕ) where
   -- the entries of a row that no number of the interval lies in have none of its numbers
   row_none : (row : ℤ × Listing NumHit) (next : Option ℤ) (es : Entries) → AllByRecursion (λ e. IsTrue (ranges.lies_in row.0 next e.1.value)) es
-      → (int_le low high && int_le row.0 high && is_below next low) ≡ false → range_has low high es id ≡ false
+      → ((v : ℤ) → ranges.lies_in row.0 next v ≡ true → int_le low v ≡ true → int_le v high ≡ true → ⊥) → range_has low high es id ≡ false
   row_none row next [] lie out = refl
   row_none row next (e ∷ es) lie out =
       or_from (nat_eq id e.0 && lies_in low high e.1) (range_has low high es id)
       (and_right (nat_eq id e.0) (lies_in low high e.1) (false_from_ne_true (lies_in low high e.1) (λ within.
       let ends = and_parts (int_le low e.1.value) (int_le e.1.value high) within in
-      let here = and_parts (int_le row.0 e.1.value) (is_below next e.1.value) lie.0 in
-      false≢true (sym out ∙ and_from (int_le low high && int_le row.0 high) (is_below next low)
-      (and_from (int_le low high) (int_le row.0 high) (le_trans low e.1.value high ends.0 ends.1) (le_trans row.0 e.1.value high here.0 ends.1))
-      (below_trans next low e.1.value ends.0 here.1)))))
+      out e.1.value lie.0 ends.0 ends.1)))
       (row_none row next es lie.1 out)
 
-  rows_none : (rows : Rows) (k : ℕ) (row : ℤ × Listing NumHit) → EntriesLie rows → slice_get rows k ≡ Some row → meets rows k low high ≡ false
-      → range_has low high row.1.entries id ≡ false
-  rows_none [] k row lie at out = absurd (cc (at))
-  rows_none (first ∷ rows) zero row lie at out =
+  rows_none : (rows : Rows) (k : ℕ) (row : ℤ × Listing NumHit) → LowsRise rows → EntriesLie rows → slice_get rows k ≡ Some row
+      → ((v : ℤ) → lies_at (keys_of rows) k v ≡ true → int_le low v ≡ true → int_le v high ≡ true → ⊥) → range_has low high row.1.entries id ≡ false
+  rows_none [] k row rise lie at out = absurd (cc (at))
+  rows_none (first ∷ rows) zero row rise lie at out =
       let same : first ≡ row = cc (at) in
-      ap (λ (r : ℤ × Listing NumHit). range_has low high r.1.entries id) (sym same) ∙ row_none first (low_of rows) first.1.entries lie.0 out
-  rows_none (first ∷ rows) (suc k) row lie at out = rows_none rows k row lie.1 at out
+      ap (λ (r : ℤ × Listing NumHit). range_has low high r.1.entries id) (sym same)
+      ∙ row_none first (low_of rows) first.1.entries lie.0 (λ v here.
+      let ends = and_parts (int_le first.0 v) (is_below (low_of rows) v) here in
+      out v (and_from (int_le first.0 v) (list_all (int_lt v) (keys_of rows)) ends.0 (below_all rows v rise.1 ends.1)))
+  rows_none (first ∷ rows) (suc k) row rise lie at out = rows_none rows k row rise.1 lie.1 at out
 
   parted_any : (es : Entries) (rows : Rows) → AreParted es rows
       → list_any (λ (row : ℤ × Listing NumHit). range_has low high row.1.entries id) rows
@@ -168,11 +193,11 @@ module _ (low high : ℤ) (id : ℕ) where
 
     -- The ranges in which some number of the interval lies have the numbers that all entries have.
     pub ranges_have : (es : Entries) (from to : ℕ) → AreParted es rows
-        → ((i : ℕ) → i < length rows → ((from ≤ i) × (i < to)) ↔ IsTrue (meets rows i low high))
-        → list_any (λ (row : ℤ × Listing NumHit). range_has low high (entries_of (list_at rows row.0)) id) (rows_from rows from to) ≡ range_has low high es id
+        → ((place : ℕ) (number : ℤ) → int_le low number ≡ true → int_le number high ≡ true → lies_at (keys_of rows) place number ≡ true → (from ≤ place) × (place < to))
+        → list_any (λ (row : ℤ × Listing NumHit). range_has low high (entries_of (list_at rows row.0)) id) (section_of rows from to) ≡ range_has low high es id
     ranges_have es from to parts met =
         any_within (λ (row : ℤ × Listing NumHit). range_has low high (entries_of (list_at rows row.0)) id) rows from to
-        (λ k row at out. own k row at ∙ rows_none rows k row partition.lie at (out_of k (slice_get_within rows k row at) out))
+        (λ k row at out. own k row at ∙ rows_none rows k row partition.lows partition.lie at (λ v lies above below. never k out (met k v above below lies)))
         ∙ any_there _ (λ (row : ℤ × Listing NumHit). range_has low high row.1.entries id) rows own
         ∙ rows_have es parts
       where
@@ -183,12 +208,9 @@ module _ (low high : ℤ) (id : ℕ) where
             (list_here row.0 rows k row partition.lows (slice_get_within rows k row at) (ap (λ (r : ℤ × Listing NumHit). r.0) here)
             ∙ ap (λ (r : ℤ × Listing NumHit). Some r.1) here)
 
-        out_of : (k : ℕ) → k < length rows → (k < from) ⊎ (to ≤ k) → meets rows k low high ≡ false
-        out_of k within out = false_from_ne_true (meets rows k low high) (λ yes. never out ((met k within).1 yes))
-          where
-            never : (k < from) ⊎ (to ≤ k) → (from ≤ k) × (k < to) → ⊥
-            never (inl h) both = omega (arith, h, both.0)
-            never (inr h) both = omega (arith, h, both.1)
+        never : (k : ℕ) → (k < from) ⊎ (to ≤ k) → (from ≤ k) × (k < to) → ⊥
+        never k (inl h) both = omega (arith, h, both.0)
+        never k (inr h) both = omega (arith, h, both.1)
 
 -- no number of 64 bits is below the least
 pub above_least : (n : ℤ) → SFits w64 n → int_le (negsuc 9223372036854775807) n ≡ true

@@ -1,7 +1,6 @@
 -- The tags that a query looks for, in a document.
 use Rattle.std.proofs.Common.{◌≡◌, ℕ, Bool, true, cond, List, Option, Some, None, refl, ◌∙◌, inl, inr}
 use Rattle.std.specs.List.{list_any, slice_get}
-use Rattle.std.specs.Map.{keys_of}
 use Rattle.std.specs.Str.{bytes_eq}
 use Rattle.std.proofs.Math.Bool.{or-false}
 use Rattle.std.proofs.lemmas.Bool.{cases_Bool}
@@ -12,8 +11,6 @@ use Rattle.ft_base.specs.declared.query.TagPart.{TagPart}
 use Rattle.ft_meaning.specs.Holds as holds
 use Rattle.ft_meaning.specs.Holds.{begins, is_sought}
 use Rattle.ft_index.specs.Entries.{searched_tags}
-use Rattle.posting_block.specs.declared.hits.TagHit.{TagHit}
-use Rattle.term_dict.specs.Terms.{Lists}
 use Rattle.query_plan.specs.Sought.{sought_by, all_sought}
 use Rattle.query_plan.proofs.AnyLaws.{any_cong, any_swap}
 use Rattle.query_plan.proofs.PrefixLaws.{any_flat, begins_among}
@@ -31,11 +28,11 @@ searched_sought doc parts (Some field) =
 abbrev looks_for : TagPart → List ℕ → Bool
 looks_for part tag = cond part.prefix (begins part.text tag) (bytes_eq part.text tag)
 
-module _ (tags : Lists TagHit) (found : List (List ℕ)) (named : (tag : List ℕ) → list_any (bytes_eq tag) found ≡ true → list_any (bytes_eq tag) (keys_of tags) ≡ true) where
+module _ (tags : List (List ℕ)) (found : List (List ℕ)) (named : (tag : List ℕ) → list_any (bytes_eq tag) found ≡ true → list_any (bytes_eq tag) tags ≡ true) where
   sought_here : (part : TagPart) → list_any (λ tag. list_any (bytes_eq tag) found) (sought_by tags part) ≡ list_any (looks_for part) found
   sought_here part =
       elim (cases_Bool part.prefix) [
-        | inl y ↦ rw y (begins_among part.text (keys_of tags) found named)
+        | inl y ↦ rw y (begins_among part.text tags found named)
         | inr n ↦ rw n (or-false (list_any (bytes_eq part.text) found))
       ]
 
@@ -46,8 +43,8 @@ module _ (tags : Lists TagHit) (found : List (List ℕ)) (named : (tag : List �
       ∙ any_cong (λ part. list_any (λ tag. list_any (bytes_eq tag) found) (sought_by tags part)) (λ part. list_any (looks_for part) found) parts sought_here
       ∙ any_swap looks_for parts found
 
-pub tags_are : (def : IndexDef) (doc : Doc) (field : ℕ) (parts : List TagPart) (tags : Lists TagHit)
-    → ((tag : List ℕ) → list_any (bytes_eq tag) (searched_tags (slice_get def.fields field) doc) ≡ true → list_any (bytes_eq tag) (keys_of tags) ≡ true)
+pub tags_are : (def : IndexDef) (doc : Doc) (field : ℕ) (parts : List TagPart) (tags : List (List ℕ))
+    → ((tag : List ℕ) → list_any (bytes_eq tag) (searched_tags (slice_get def.fields field) doc) ≡ true → list_any (bytes_eq tag) tags ≡ true)
     → list_any (λ tag. list_any (bytes_eq tag) (searched_tags (slice_get def.fields field) doc)) (all_sought tags parts)
     ≡ holds.has_tag doc parts (slice_get def.fields field)
 tags_are def doc field parts tags named =

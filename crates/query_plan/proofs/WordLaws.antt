@@ -9,9 +9,10 @@ use Rattle.ft_base.specs.declared.definition.IndexDef.{IndexDef}
 use Rattle.ft_base.specs.declared.doc.Doc.{Doc}
 use Rattle.id_iters.specs.Entries.{has_entry, wanted, hit_codes}
 use Rattle.id_iters.specs.Held.{Held, entries_of, codes_of}
+use Rattle.id_iters.specs.Named.{Named}
 use Rattle.ft_index.specs.Entries.{codes, entry, word_entries, has_tag, tag_entries, number_entries, searched_number}
 use Rattle.ft_index.specs.Has.{alive}
-use Rattle.ft_index.specs.Lists.{AllLists, has_id}
+use Rattle.ft_index.specs.Lists.{has_id}
 use Rattle.inverted_list.specs.Listing.{Listing, RisesAbove}
 use Rattle.posting_block.specs.declared.hits.NumHit.{NumHit}
 use Rattle.posting_block.specs.declared.hits.TagHit.{TagHit}
@@ -72,26 +73,26 @@ entries_are : {P : Type 0} (list : Option (Listing P)) → entries_of list ≡ u
 entries_are None = refl
 entries_are (Some list) = refl
 
-module _ (def : IndexDef) (lists : AllLists) (held : Held) (live : List (ℕ × List ℕ)) (docs : List Doc) (are : AreOf def lists held live docs)
+module _ (def : IndexDef) (held : Held) (named : Named) (docs : List Doc) (are : AreOf def held named docs)
     (doc : Doc) (among : IsIn doc docs) where
   rise : Rise 0 docs
   rise = rise_from 0 docs (subst (RisesAbove 0) are.has.live are.kept.rise)
 
-  lives : has_id live doc.id ≡ true
+  lives : has_id are.live doc.id ≡ true
   lives = ap (λ (rows : List (ℕ × List ℕ)). has_id rows doc.id) are.has.live ∙ is_live doc docs among
 
   -- entries of which the live ones come of the documents
-  pub has_at : {P : Type 0} (of : Doc → Option P) (wants : P → Bool) (es : List (ℕ × P)) → alive live es ≡ all_entries of docs
+  pub has_at : {P : Type 0} (of : Doc → Option P) (wants : P → Bool) (es : List (ℕ × P)) → alive are.live es ≡ all_entries of docs
       → has_entry wants es doc.id ≡ wanted wants (of doc)
   has_at {P = P} of wants es same =
-      sym (entry_alive live wants doc.id es lives)
+      sym (entry_alive are.live wants doc.id es lives)
       ∙ ap (λ (found : List (ℕ × P)). has_entry wants found doc.id) same
       ∙ has_entries of wants 0 doc docs rise among
 
-  words_alive : (word : List ℕ) → alive live (entries_of (held.words word)) ≡ all_entries (λ (d : Doc). text_hit (codes def word d)) docs
+  words_alive : (word : List ℕ) → alive are.live (entries_of (held.words word)) ≡ all_entries (λ (d : Doc). text_hit (codes def word d)) docs
   words_alive word =
-      ap (λ (h : Held). alive live (entries_of (h.words word))) are.same
-      ∙ ap (alive live) (entries_are (terms.list_of lists.words word))
+      ap (λ (h : Held). alive are.live (entries_of (h.words word))) are.same
+      ∙ ap (alive are.live) (entries_are (terms.list_of are.lists.words word))
       ∙ are.has.words word
       ∙ word_entries_are def word docs
 
@@ -101,7 +102,7 @@ module _ (def : IndexDef) (lists : AllLists) (held : Held) (live : List (ℕ × 
   -- the codes of a word's entry are those of the word
   pub codes_are : (word : List ℕ) → codes_of held word doc.id ≡ codes def word doc
   codes_are word =
-      ap hit_codes (sym (lookup_alive live doc.id (entries_of (held.words word)) lives)
+      ap hit_codes (sym (lookup_alive are.live doc.id (entries_of (held.words word)) lives)
       ∙ ap (λ (found : List (ℕ × TextHit)). lookup (nat_eq doc.id) found) (words_alive word)
       ∙ lookup_entries (λ (d : Doc). text_hit (codes def word d)) 0 doc docs rise among)
       ∙ codes_back (codes def word doc)
@@ -113,8 +114,8 @@ module _ (def : IndexDef) (lists : AllLists) (held : Held) (live : List (ℕ × 
   pub tag_at : (field : ℕ) (tag : List ℕ) → has_entry (λ hit. true) (entries_of (held.tags field tag)) doc.id ≡ has_tag def field tag doc
   tag_at field tag =
       has_at (λ (d : Doc). tag_hit (has_tag def field tag d)) (λ hit. true) (entries_of (held.tags field tag))
-      (ap (λ (h : Held). alive live (entries_of (h.tags field tag))) are.same
-      ∙ ap (alive live) (entries_are (list_in lists.tags field tag))
+      (ap (λ (h : Held). alive are.live (entries_of (h.tags field tag))) are.same
+      ∙ ap (alive are.live) (entries_are (list_in are.lists.tags field tag))
       ∙ are.has.tags field tag
       ∙ tag_entries_are def field tag docs)
       ∙ back (has_tag def field tag doc)
@@ -123,7 +124,7 @@ module _ (def : IndexDef) (lists : AllLists) (held : Held) (live : List (ℕ × 
       back true = refl
       back false = refl
 
-  pub number_at : (wants : NumHit → Bool) (field : ℕ) (es : List (ℕ × NumHit)) → alive live es ≡ number_entries def field docs
+  pub number_at : (wants : NumHit → Bool) (field : ℕ) (es : List (ℕ × NumHit)) → alive are.live es ≡ number_entries def field docs
       → has_entry wants es doc.id ≡ wanted wants (num_hit (searched_number (slice_get def.fields field) doc))
   number_at wants field es same =
       has_at (λ (d : Doc). num_hit (searched_number (slice_get def.fields field) d)) wants es (same ∙ number_entries_are def field docs)

@@ -7,8 +7,9 @@ use Rattle.ft_base.specs.declared.query.Query.{Query}
 use Rattle.ft_meaning.specs.Holds.{holds}
 use Rattle.ft_meaning.specs.Meaning.{ValuesFit}
 use Rattle.id_iters.specs.Held.{Held}
+use Rattle.id_iters.specs.Named.{Named}
 use Rattle.ft_index.specs.Has.{Has}
-use Rattle.ft_index.specs.Lists.{AllLists, held_of}
+use Rattle.ft_index.specs.Lists.{AllLists, held_of, named_of}
 use Rattle.inverted_list.specs.Listing.{RisesAbove, last_id}
 
 -- whether the document of an id is there and meets the query
@@ -29,8 +30,11 @@ pub record IsKept (live : List (ℕ × List ℕ)) (docs : List Doc) : Type 0 whe
   pub end : last_id 0 live < 2 ^ 62
   pub fit : All (λ (doc : Doc). ValuesFit doc.hash) docs
 
--- What is read is the lists of an index that has just these documents.
-pub record AreOf (def : IndexDef) (lists : AllLists) (held : Held) (live : List (ℕ × List ℕ)) (docs : List Doc) : Type 0 where
+-- What is read is the lists of an index that has just these documents, and their names.
+pub record AreOf (def : IndexDef) (held : Held) (named : Named) (docs : List Doc) : Type 0 where
+  pub lists : AllLists
+  pub live : List (ℕ × List ℕ)
   pub same : held ≡ held_of lists live
+  pub names : named ≡ named_of lists live
   pub kept : IsKept live docs
   pub has : Has def live lists docs

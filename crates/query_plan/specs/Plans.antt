@@ -9,13 +9,13 @@ use Rattle.ft_meaning.specs.Holds.{holds}
 use Rattle.id_iters.specs.Fitting.{IsOpenAt, leaves_of}
 use Rattle.id_iters.specs.Held.{Held}
 use Rattle.id_iters.specs.Leaves.{list_has}
+use Rattle.id_iters.specs.Named.{Named}
 use Rattle.id_iters.specs.Places.{FitsList}
 use Rattle.id_iters.specs.Ready.{Ready}
 use Rattle.id_iters.specs.Sets.{about}
 use Rattle.id_iters.specs.declared.hint.Hint.{Hint}
 use Rattle.id_iters.specs.declared.leaf.Leaf.{Leaf}
 use Rattle.id_iters.specs.declared.list_name.ListName.{ListName}
-use Rattle.ft_index.specs.Lists.{AllLists}
 use Rattle.inverted_list.specs.declared.place.Place.{Place}
 use Rattle.query_plan.specs.Finds.{AreOf}
 use Rattle.query_plan.specs.declared.size.Planned.{Planned}
@@ -25,17 +25,17 @@ abbrev pub IsIn : Doc → List Doc → Type 0
 IsIn doc [] = ⊥
 IsIn doc (first ∷ docs) = (doc ≡ first) ⊎ IsIn doc docs
 
--- At the documents of an index with these lists a set of ids has the ids of those that pass a test.
-pub record Tells (def : IndexDef) (lists : AllLists) (held : Held) (test : Doc → Bool) (ids : ℕ → Bool) : Type 0 where
-  pub at : (live : List (ℕ × List ℕ)) (docs : List Doc) (doc : Doc) → AreOf def lists held live docs → IsIn doc docs → ids doc.id ≡ test doc
+-- At the documents of an index with these lists and names a set of ids has the ids of those that pass a test.
+pub record Tells (def : IndexDef) (held : Held) (named : Named) (test : Doc → Bool) (ids : ℕ → Bool) : Type 0 where
+  pub at : (docs : List Doc) (doc : Doc) → AreOf def held named docs → IsIn doc docs → ids doc.id ≡ test doc
 
 -- the ids of a planned part
 abbrev pub ids_of : Held → Planned → ℕ → Bool
 ids_of held planned = (about held planned.iter).has
 
 -- the parts tell of queries, in their order
-pub record AllTell (def : IndexDef) (lists : AllLists) (held : Held) (queries : List Query) (plans : List Planned) : Type 0 where
-  pub at : (live : List (ℕ × List ℕ)) (docs : List Doc) (doc : Doc) → AreOf def lists held live docs → IsIn doc docs
+pub record AllTell (def : IndexDef) (held : Held) (named : Named) (queries : List Query) (plans : List Planned) : Type 0 where
+  pub at : (docs : List Doc) (doc : Doc) → AreOf def held named docs → IsIn doc docs
       → map (λ planned. ids_of held planned doc.id) plans ≡ map (λ query. holds query def doc) queries
 
 -- each part may be asked from a number on

@@ -1,31 +1,27 @@
 -- Which words, tags and ranges a part of a query looks for among those that have lists.
 use Rattle.std.specs.Prelude.{ℕ, Bool, true, false, List, [], ◌∷◌, filter, take, drop, Option, None, Some, if◌then◌else◌}
 use Rattle.std.specs.List.{flat_map}
-use Rattle.std.specs.Map.{keys_of}
 use Rattle.ft_base.specs.declared.query.Query.{Query}
 use Rattle.ft_base.specs.declared.query.Query.TheFolds.{fold-Query}
 use Rattle.ft_base.specs.declared.query.Query.TheOpen as layer
 use Rattle.ft_base.specs.declared.query.TagPart.{TagPart}
 use Rattle.ft_meaning.specs.Holds.{begins}
-use Rattle.numeric_ranges.specs.Ranges.{Rows}
-use Rattle.posting_block.specs.declared.hits.TagHit.{TagHit}
-use Rattle.term_dict.specs.Terms.{Lists}
 
--- the words of a dictionary that begin with a text
-abbrev pub words_with : {P : Type 0} → List ℕ → Lists P → List (List ℕ)
-words_with text lists = filter (begins text) (keys_of lists)
+-- those of some words that begin with a text
+abbrev pub words_with : List ℕ → List (List ℕ) → List (List ℕ)
+words_with text words = filter (begins text) words
 
 -- the tags of a field that a part looks for: one, or each that begins with it
-abbrev pub sought_by : Lists TagHit → TagPart → List (List ℕ)
+abbrev pub sought_by : List (List ℕ) → TagPart → List (List ℕ)
 sought_by tags part = if part.prefix then words_with part.text tags else part.text ∷ []
 
 -- the tags of a field that some part looks for
-abbrev pub all_sought : Lists TagHit → List TagPart → List (List ℕ)
+abbrev pub all_sought : List (List ℕ) → List TagPart → List (List ℕ)
 all_sought tags parts = flat_map (sought_by tags) parts
 
--- the ranges from one place on and before another one
-abbrev pub rows_from : Rows → ℕ → ℕ → Rows
-rows_from rows from to = drop from (take to rows)
+-- what stands from one place on and before another one
+abbrev pub section_of : {X : Type 0} → List X → ℕ → ℕ → List X
+section_of xs from to = drop from (take to xs)
 
 -- whether there is something and it passes a test
 abbrev pub passes : {X : Type 0} → (X → Bool) → Option X → Bool

@@ -2,14 +2,14 @@
 //!
 //! Each part of the query becomes a set: a word a leaf, a prefix the union of the leaves of its words, an And what
 //! its parts have in common. `specs/Finds.antt` says which ids the whole has.
-//! Read `specs/Finds.antt` first, then `planner.rt`.
+//! Read `specs/Finds.antt` first, then `planner.rt` and `query_tree.rt`.
 #![tactic(auto)]
 
-mod index_plan;
 mod known;
 mod leaves;
 mod phrases;
 mod planner;
+mod query_tree;
 mod ranges;
 mod size;
 mod sources;
@@ -17,7 +17,5 @@ mod tags;
 mod union;
 mod words;
 
-/// The plan of a query over an index.
-pub use index_plan::plan;
 /// The plan of a query over the lists of an index.
-pub use planner::plan_in;
+pub use planner::plan;

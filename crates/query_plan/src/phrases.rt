@@ -37,7 +37,7 @@ pub fn plan_phrase<T: Lists, L: Ledger>(
 ) -> Result<Planned, NoMemory>
     requires { KnownFit (T.held sources.now.lists.now) sources.now.after (place_of sources.now.known.now) }
     ensures set { IfOk result (λ planned.
-        Tells sources.now.def.now sources.now.parts.now (T.held sources.now.lists.now)
+        Tells sources.now.def.now (T.held sources.now.lists.now) (T.named sources.now.lists.now)
         (λ doc. (has_of sources.now.def.now doc).phrase phrase.now.fields.now phrase.now.words.now phrase.now.slop phrase.now.in_order)
         (ids_of (T.held sources.now.lists.now) planned)) }
     ensures ready { IfOk result (λ planned.

@@ -1,38 +1,28 @@
-//! The tree of a query as a tree of iterators.
-ghost use Rattle.std.specs.Prelude.{◌≡◌, ◌≤◌, ◌+◌, [], ℕ, List, true, IfOk, OnOk};
+//! The plan of a query over the lists of an index.
+ghost use Rattle.std.specs.Prelude.{◌≡◌, ◌≤◌, ◌+◌, ℕ, List, IfOk};
 ghost use Rattle.std.specs.List.{All};
 ghost use Rattle.ft_base.specs.declared.doc.Doc.{Doc};
-ghost use Rattle.ft_base.specs.declared.query.Query.TheVariants as tree;
-ghost use Rattle.ft_meaning.specs.Holds.{holds};
 ghost use Rattle.id_iters.specs.Fitting.{HasFitting, IsPlaced, leaves_of};
 ghost use Rattle.id_iters.specs.Held.{AreLists};
 ghost use Rattle.id_iters.specs.Ready.{Ready};
 ghost use Rattle.id_iters.specs.Sets.{in_set};
 ghost use Rattle.query_plan.specs.Finds.{AreOf, finds};
-ghost use Rattle.query_plan.specs.Known.{KnownFit, place_of};
-ghost use Rattle.query_plan.specs.Plans.{AllKnown, AllOpen, AllReady, AllTell, HintsFit, PartsKnown, PartsOpen, Tells, ids_of};
-ghost use Rattle.query_plan.specs.Sought.{asks_other};
+ghost use Rattle.query_plan.specs.Plans.{HintsFit};
 
 use crate::known::known_places;
-use crate::phrases::{Phrase, plan_phrase};
-use crate::ranges::plan_range;
-use crate::size::{Planned, add_planned};
+use crate::query_tree::plan_part;
 use crate::sources::Sources;
-use crate::tags::plan_tags;
-use crate::union::{every_of, other_of, some_of};
-use crate::words::{plan_prefix, plan_word};
 use ft_base::{IndexDef, NoMemory, Query, Steps};
-use ft_index::IndexLists;
 use id_iters::{Hints, Iter, Lists};
 use std::alloc::Global;
 use std::sync::ledger::Ledger;
 
 /// The iterator of the ids above `after` of the documents that meet the query, and of no others. A leaf stands at the
-/// place of each hint that fits it; where each leaf has one, no list is searched.
-pub fn plan_in<T: Lists, L: Ledger>(
+/// place of each hint that fits it; where each leaf has one, no list is searched. Which hints there are makes no
+/// difference to the ids.
+pub fn plan<T: Lists, L: Ledger>(
     alloc: Global,
     def: &IndexDef,
-    parts: &IndexLists,
     lists: &T,
     query: &Query,
     hints: &Hints,
@@ -40,201 +30,30 @@ pub fn plan_in<T: Lists, L: Ledger>(
     steps: &mut Steps<L>,
 ) -> Result<Iter, NoMemory>
     requires hints { HintsFit (T.held lists.now) hints.now.0 }
-    ensures set { IfOk result (λ iter. (live : List (ℕ × List ℕ)) (docs : List Doc)
-        → AreOf def.now parts.now (T.held lists.now) live docs
+    ensures set { IfOk result (λ iter. (docs : List Doc)
+        → AreOf def.now (T.held lists.now) (T.named lists.now) docs
         → (id : ℕ) → in_set (T.held lists.now) iter id ≡ finds query.now def.now docs id) }
     ensures ready { IfOk result (λ iter. Ready (T.held lists.now) iter (after + 1)) }
+    // Each leaf's list is open behind `after`, at the place of each hint that fits the leaf.
     ensures placed { IfOk result (λ iter.
         All (λ leaf. IsPlaced (T.held lists.now) after hints.now.0 leaf) (leaves_of iter)) }
     // What hints save.
     ensures free { IfOk result (λ iter.
         All (λ leaf. HasFitting (T.held lists.now) after hints.now.0 leaf) (leaves_of iter)
         → steps.new ≡ steps.old) }
-    ensures lists { (live : List (ℕ × List ℕ)) (docs : List Doc)
-        → AreOf def.now parts.now (T.held lists.now) live docs → AreLists (T.held lists.now) }
+    // What an iterator asks of the lists that it reads.
+    ensures lists { (docs : List Doc) → AreOf def.now (T.held lists.now) (T.named lists.now) docs
+        → AreLists (T.held lists.now) }
     ensures counts { steps.old ≤ steps.new }
 {
     let known = known_places(alloc, lists, hints.0.as_slice(), after)?;
     let sources = Sources {
         alloc,
         def,
-        parts,
         lists,
         known: &known,
         after,
     };
-    let planned = plan(&sources, query, steps)?;
+    let planned = plan_part(&sources, query, steps)?;
     Ok(planned.iter)
-}
-
-// The plan of a part.
-#[cycle(plan)]
-fn plan<T: Lists, L: Ledger>(
-    sources: &Sources<T>,
-    query: &Query,
-    steps: &mut Steps<L>,
-) -> Result<Planned, NoMemory>
-    requires { KnownFit (T.held sources.now.lists.now) sources.now.after (place_of sources.now.known.now) }
-    ensures set { IfOk result (λ planned.
-        Tells sources.now.def.now sources.now.parts.now (T.held sources.now.lists.now)
-        (λ doc. holds query.now sources.now.def.now doc)
-        (ids_of (T.held sources.now.lists.now) planned)) }
-    ensures ready { IfOk result (λ planned.
-        Ready (T.held sources.now.lists.now) planned.iter (sources.now.after + 1)) }
-    ensures placed { IfOk result (λ planned.
-        AllOpen (T.held sources.now.lists.now) sources.now.after (leaves_of planned.iter)) }
-    ensures free { IfOk result (λ planned.
-        AllKnown (place_of sources.now.known.now) (leaves_of planned.iter) → steps.new ≡ steps.old) }
-    ensures counts { steps.old ≤ steps.new }
-{
-    match query {
-        Query::Word { fields, text } => plan_word(sources, fields, text, steps),
-        Query::Prefix { fields, text } => plan_prefix(sources, fields, text, steps),
-        Query::And(parts) => plan_every(sources, parts.as_slice(), steps),
-        Query::Or(parts) => plan_some(sources, parts.as_slice(), steps),
-        Query::Not(part) => plan_other(sources, part.get(), steps),
-        _ => plan_other_leaf(sources, query, steps),
-    }
-}
-
-// The plan of a part that asks neither for words nor for what other parts find.
-fn plan_other_leaf<T: Lists, L: Ledger>(
-    sources: &Sources<T>,
-    query: &Query,
-    steps: &mut Steps<L>,
-) -> Result<Planned, NoMemory>
-    requires known { KnownFit (T.held sources.now.lists.now) sources.now.after (place_of sources.now.known.now) }
-    requires other { asks_other query.now ≡ true }
-    ensures set { IfOk result (λ planned.
-        Tells sources.now.def.now sources.now.parts.now (T.held sources.now.lists.now)
-        (λ doc. holds query.now sources.now.def.now doc)
-        (ids_of (T.held sources.now.lists.now) planned)) }
-    ensures ready { IfOk result (λ planned.
-        Ready (T.held sources.now.lists.now) planned.iter (sources.now.after + 1)) }
-    ensures placed { IfOk result (λ planned.
-        AllOpen (T.held sources.now.lists.now) sources.now.after (leaves_of planned.iter)) }
-    ensures free { IfOk result (λ planned.
-        AllKnown (place_of sources.now.known.now) (leaves_of planned.iter) → steps.new ≡ steps.old) }
-    ensures counts { steps.old ≤ steps.new }
-{
-    match query {
-        Query::Phrase {
-            fields,
-            words,
-            slop,
-            in_order,
-        } => {
-            let phrase = Phrase {
-                fields,
-                words: words.as_slice(),
-                slop: *slop,
-                in_order: *in_order,
-            };
-            plan_phrase(sources, &phrase, steps)
-        }
-        Query::Tags { field, tags } => plan_tags(sources, *field, tags, steps),
-        Query::Range { field, low, high } => plan_range(sources, *field, *low, *high, steps),
-        Query::Empty => Ok(Planned::none()),
-        _ => Ok(Planned::all()),
-    }
-}
-
-// The plan of parts that all have to be met.
-#[cycle(plan)]
-fn plan_every<T: Lists, L: Ledger>(
-    sources: &Sources<T>,
-    queries: &[Query],
-    steps: &mut Steps<L>,
-) -> Result<Planned, NoMemory>
-    requires { KnownFit (T.held sources.now.lists.now) sources.now.after (place_of sources.now.known.now) }
-    ensures set { IfOk result (λ planned.
-        Tells sources.now.def.now sources.now.parts.now (T.held sources.now.lists.now)
-        (λ doc. holds (tree.And queries.now) sources.now.def.now doc)
-        (ids_of (T.held sources.now.lists.now) planned)) }
-    ensures ready { IfOk result (λ planned.
-        Ready (T.held sources.now.lists.now) planned.iter (sources.now.after + 1)) }
-    ensures placed { IfOk result (λ planned.
-        AllOpen (T.held sources.now.lists.now) sources.now.after (leaves_of planned.iter)) }
-    ensures free { IfOk result (λ planned.
-        AllKnown (place_of sources.now.known.now) (leaves_of planned.iter) → steps.new ≡ steps.old) }
-    ensures counts { steps.old ≤ steps.new }
-{
-    let mut plans = Vec::new(sources.alloc);
-    plan_each(sources, queries, &mut plans, steps)?;
-    Ok(every_of(sources.alloc, plans)?)
-}
-
-// The plan of parts one of which has to be met.
-#[cycle(plan)]
-fn plan_some<T: Lists, L: Ledger>(
-    sources: &Sources<T>,
-    queries: &[Query],
-    steps: &mut Steps<L>,
-) -> Result<Planned, NoMemory>
-    requires { KnownFit (T.held sources.now.lists.now) sources.now.after (place_of sources.now.known.now) }
-    ensures set { IfOk result (λ planned.
-        Tells sources.now.def.now sources.now.parts.now (T.held sources.now.lists.now)
-        (λ doc. holds (tree.Or queries.now) sources.now.def.now doc)
-        (ids_of (T.held sources.now.lists.now) planned)) }
-    ensures ready { IfOk result (λ planned.
-        Ready (T.held sources.now.lists.now) planned.iter (sources.now.after + 1)) }
-    ensures placed { IfOk result (λ planned.
-        AllOpen (T.held sources.now.lists.now) sources.now.after (leaves_of planned.iter)) }
-    ensures free { IfOk result (λ planned.
-        AllKnown (place_of sources.now.known.now) (leaves_of planned.iter) → steps.new ≡ steps.old) }
-    ensures counts { steps.old ≤ steps.new }
-{
-    let mut plans = Vec::new(sources.alloc);
-    plan_each(sources, queries, &mut plans, steps)?;
-    Ok(some_of(sources.alloc, plans)?)
-}
-
-// The plan of a part that must not be met.
-#[cycle(plan)]
-fn plan_other<T: Lists, L: Ledger>(
-    sources: &Sources<T>,
-    query: &Query,
-    steps: &mut Steps<L>,
-) -> Result<Planned, NoMemory>
-    requires { KnownFit (T.held sources.now.lists.now) sources.now.after (place_of sources.now.known.now) }
-    ensures set { IfOk result (λ planned.
-        Tells sources.now.def.now sources.now.parts.now (T.held sources.now.lists.now)
-        (λ doc. holds (tree.Not query.now) sources.now.def.now doc)
-        (ids_of (T.held sources.now.lists.now) planned)) }
-    ensures ready { IfOk result (λ planned.
-        Ready (T.held sources.now.lists.now) planned.iter (sources.now.after + 1)) }
-    ensures placed { IfOk result (λ planned.
-        AllOpen (T.held sources.now.lists.now) sources.now.after (leaves_of planned.iter)) }
-    ensures free { IfOk result (λ planned.
-        AllKnown (place_of sources.now.known.now) (leaves_of planned.iter) → steps.new ≡ steps.old) }
-    ensures counts { steps.old ≤ steps.new }
-{
-    let planned = plan(sources, query, steps)?;
-    Ok(other_of(sources.alloc, planned)?)
-}
-
-// The plans of parts, in their order, go into a vector that has none.
-#[cycle(plan)]
-fn plan_each<T: Lists, L: Ledger>(
-    sources: &Sources<T>,
-    queries: &[Query],
-    plans: &mut Vec<Planned>,
-    steps: &mut Steps<L>,
-) -> Result<(), NoMemory>
-    requires known { KnownFit (T.held sources.now.lists.now) sources.now.after (place_of sources.now.known.now) }
-    requires empty { plans.old.items ≡ [] }
-    ensures set { OnOk result
-        (AllTell sources.now.def.now sources.now.parts.now (T.held sources.now.lists.now) queries.now plans.new.items) }
-    ensures ready { OnOk result
-        (AllReady (T.held sources.now.lists.now) plans.new.items (sources.now.after + 1)) }
-    ensures placed { OnOk result
-        (PartsOpen (T.held sources.now.lists.now) sources.now.after plans.new.items) }
-    ensures free { OnOk result
-        (PartsKnown (place_of sources.now.known.now) plans.new.items → steps.new ≡ steps.old) }
-    ensures counts { steps.old ≤ steps.new }
-{
-    'queries: for query in queries {
-        add_planned(plans, plan(sources, query, steps))?;
-    }
-    Ok(())
 }

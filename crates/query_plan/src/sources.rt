@@ -1,16 +1,14 @@
 //! What a plan is made from.
 use crate::known::Known;
 use ft_base::{Fields, IndexDef};
-use ft_index::IndexLists;
 use std::alloc::Global;
 
-/// An index by its definition; its lists, which `parts` finds by prefix and by interval and `lists` has as iterators
-/// read them; and where a reader starts: behind an id, in some lists at places that are known.
+/// The definition of an index and its lists, and where a reader starts: behind an id, in some lists at places that are
+/// known.
 #[derive(Drop)]
 pub struct Sources<'a, 'h, T> {
     pub alloc: Global,
     pub def: &'a IndexDef,
-    pub parts: &'a IndexLists,
     pub lists: &'a T,
     pub known: &'a Known<'h>,
     pub after: u64,

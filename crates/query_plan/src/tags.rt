@@ -6,7 +6,6 @@ ghost use Rattle.id_iters.specs.Ready.{Ready};
 ghost use Rattle.query_plan.specs.Known.{KnownFit, place_of};
 ghost use Rattle.query_plan.specs.Plans.{AllKnown, AllOpen, Tells, ids_of};
 ghost use Rattle.query_plan.specs.Sought.{all_sought, sought_by, words_with};
-ghost use Rattle.term_dict.specs.Tags.{tags_of};
 
 use crate::leaves::plan_lists;
 use crate::size::Planned;
@@ -15,7 +14,6 @@ use ft_base::{Bytes, Fields, ListOf, NoMemory, Steps, TagPart};
 use id_iters::{ListName, Lists};
 use std::alloc::Global;
 use std::sync::ledger::Ledger;
-use term_dict::TagLists;
 
 /// The documents that have one of the tags in a field.
 pub fn plan_tags<T: Lists, L: Ledger>(
@@ -26,7 +24,7 @@ pub fn plan_tags<T: Lists, L: Ledger>(
 ) -> Result<Planned, NoMemory>
     requires { KnownFit (T.held sources.now.lists.now) sources.now.after (place_of sources.now.known.now) }
     ensures set { IfOk result (λ planned.
-        Tells sources.now.def.now sources.now.parts.now (T.held sources.now.lists.now)
+        Tells sources.now.def.now (T.held sources.now.lists.now) (T.named sources.now.lists.now)
         (λ doc. (has_of sources.now.def.now doc).tags field parts.now)
         (ids_of (T.held sources.now.lists.now) planned)) }
     ensures ready { IfOk result (λ planned.
@@ -37,72 +35,65 @@ pub fn plan_tags<T: Lists, L: Ledger>(
         AllKnown (place_of sources.now.known.now) (leaves_of planned.iter) → steps.new ≡ steps.old) }
     ensures counts { steps.old ≤ steps.new }
 {
-    let lists = tags_sought(
-        sources.alloc,
-        sources.parts.tag_lists(),
-        field,
-        parts.as_slice(),
-    )?;
+    let found = tags_sought(sources.alloc, sources.lists, field, parts.as_slice())?;
     let wanted = Wanted {
         fields: &Fields::All,
         low: 0,
         high: 0,
     };
-    Ok(plan_lists(sources, lists, &wanted, steps)?)
+    Ok(plan_lists(sources, found, &wanted, steps)?)
 }
 
 // The lists of the tags of a field that some part looks for.
-fn tags_sought(
+fn tags_sought<T: Lists>(
     alloc: Global,
-    tags: &TagLists,
+    lists: &T,
     field: u16,
     parts: &[TagPart],
 ) -> Result<Vec<ListName>, NoMemory>
-    ensures { IfOk result (λ lists. lists.items
-        ≡ map (λ tag. ListName.Tag field tag) (all_sought (tags_of tags.now field) parts.now)) }
+    ensures { IfOk result (λ found. found.items
+        ≡ map (λ tag. ListName.Tag field tag) (all_sought ((T.named lists.now).tags field) parts.now)) }
 {
-    let mut lists = Vec::new(alloc);
+    let mut found = Vec::new(alloc);
     'parts: for part in parts {
-        add_sought(alloc, tags, field, part, &mut lists)?;
+        add_sought(alloc, lists, field, part, &mut found)?;
     }
-    Ok(lists)
+    Ok(found)
 }
 
 // The lists of the tags of a field that a part looks for go behind the others.
-fn add_sought(
+fn add_sought<T: Lists>(
     alloc: Global,
-    tags: &TagLists,
+    lists: &T,
     field: u16,
     part: &TagPart,
-    lists: &mut Vec<ListName>,
+    found: &mut Vec<ListName>,
 ) -> Result<(), NoMemory>
-    ensures { OnOk result (lists.new.items ≡ lists.old.items
-        ++ map (λ tag. ListName.Tag field tag) (sought_by (tags_of tags.now field) part.now)) }
+    ensures { OnOk result (found.new.items ≡ found.old.items
+        ++ map (λ tag. ListName.Tag field tag) (sought_by ((T.named lists.now).tags field) part.now)) }
 {
     if part.prefix {
-        return add_tags_with(alloc, tags, field, part.text.as_slice(), lists);
+        return add_tags_with(alloc, lists, field, part.text.as_slice(), found);
     }
     let text = part.text.clone()?;
-    lists.push(ListName::Tag { field, text })?;
+    found.push(ListName::Tag { field, text })?;
     Ok(())
 }
 
 // The lists of the tags of a field that begin with a text go behind the others.
-fn add_tags_with(
+fn add_tags_with<T: Lists>(
     alloc: Global,
-    tags: &TagLists,
+    lists: &T,
     field: u16,
     text: &[u8],
-    lists: &mut Vec<ListName>,
+    found: &mut Vec<ListName>,
 ) -> Result<(), NoMemory>
-    ensures { OnOk result (lists.new.items ≡ lists.old.items
-        ++ map (λ tag. ListName.Tag field tag) (words_with text.now (tags_of tags.now field))) }
+    ensures { OnOk result (found.new.items ≡ found.old.items
+        ++ map (λ tag. ListName.Tag field tag) (words_with text.now ((T.named lists.now).tags field))) }
 {
-    // Its clause tells that the tags rise.
-    let _ = tags.len();
     let mut after = None;
-    'tags: while let Some(tag) = tags.next_name(field, text, after)? {
-        lists.push(ListName::Tag {
+    'tags: while let Some(tag) = lists.next_tag(field, text, after)? {
+        found.push(ListName::Tag {
             field,
             text: Bytes::from_slice(alloc, tag)?,
         })?;

@@ -1,5 +1,5 @@
 //! Words and prefixes as sets of ids.
-ghost use Rattle.std.specs.Prelude.{◌≡◌, ◌≤◌, ◌+◌, map, IfOk};
+ghost use Rattle.std.specs.Prelude.{◌≡◌, ◌≤◌, ◌+◌, ◌++◌, ◌∷◌, [], map, IfOk, OnOk};
 ghost use Rattle.ft_meaning.specs.Holds.{has_of};
 ghost use Rattle.id_iters.specs.Fitting.{leaves_of};
 ghost use Rattle.id_iters.specs.Ready.{Ready};
@@ -14,7 +14,6 @@ use ft_base::{Bytes, Fields, NoMemory, Steps};
 use id_iters::{ListName, Lists};
 use std::alloc::Global;
 use std::sync::ledger::Ledger;
-use term_dict::Terms;
 
 /// The documents that have a word in some of the fields.
 pub fn plan_word<T: Lists, L: Ledger>(
@@ -25,7 +24,7 @@ pub fn plan_word<T: Lists, L: Ledger>(
 ) -> Result<Planned, NoMemory>
     requires { KnownFit (T.held sources.now.lists.now) sources.now.after (place_of sources.now.known.now) }
     ensures set { IfOk result (λ planned.
-        Tells sources.now.def.now sources.now.parts.now (T.held sources.now.lists.now)
+        Tells sources.now.def.now (T.held sources.now.lists.now) (T.named sources.now.lists.now)
         (λ doc. (has_of sources.now.def.now doc).word fields.now word.now)
         (ids_of (T.held sources.now.lists.now) planned)) }
     ensures ready { IfOk result (λ planned.
@@ -54,7 +53,7 @@ pub fn plan_prefix<T: Lists, L: Ledger>(
 ) -> Result<Planned, NoMemory>
     requires { KnownFit (T.held sources.now.lists.now) sources.now.after (place_of sources.now.known.now) }
     ensures set { IfOk result (λ planned.
-        Tells sources.now.def.now sources.now.parts.now (T.held sources.now.lists.now)
+        Tells sources.now.def.now (T.held sources.now.lists.now) (T.named sources.now.lists.now)
         (λ doc. (has_of sources.now.def.now doc).prefix fields.now text.now)
         (ids_of (T.held sources.now.lists.now) planned)) }
     ensures ready { IfOk result (λ planned.
@@ -65,7 +64,7 @@ pub fn plan_prefix<T: Lists, L: Ledger>(
         AllKnown (place_of sources.now.known.now) (leaves_of planned.iter) → steps.new ≡ steps.old) }
     ensures counts { steps.old ≤ steps.new }
 {
-    let lists = words_with(sources.alloc, sources.parts.terms(), text.as_slice())?;
+    let lists = words_with(sources.alloc, sources.lists, text.as_slice())?;
     let wanted = Wanted {
         fields,
         low: 0,
@@ -75,19 +74,24 @@ pub fn plan_prefix<T: Lists, L: Ledger>(
 }
 
 // The lists of the words that begin with a text.
-fn words_with(alloc: Global, terms: &Terms, text: &[u8]) -> Result<Vec<ListName>, NoMemory>
-    ensures { IfOk result (λ lists. lists.items
-        ≡ map (λ word. ListName.Word word) (words_with text.now terms.now)) }
+fn words_with<T: Lists>(alloc: Global, lists: &T, text: &[u8]) -> Result<Vec<ListName>, NoMemory>
+    ensures { IfOk result (λ found. found.items
+        ≡ map (λ word. ListName.Word word) (words_with text.now (T.named lists.now).words)) }
 {
-    // Its clause tells that the words rise, so that each search goes on behind the last one.
-    let _ = terms.len();
-    let mut lists = Vec::new(alloc);
+    let mut found = Vec::new(alloc);
     let mut after = None;
-    'words: while let Some(word) = terms.next_name(text, after)? {
-        lists.push(ListName::Word {
-            text: Bytes::from_slice(alloc, word)?,
-        })?;
+    'words: while let Some(word) = lists.next_word(text, after)? {
+        add_word(alloc, &mut found, word)?;
         after = Some(word);
     }
-    Ok(lists)
+    Ok(found)
+}
+
+// The list of a word goes behind the others.
+fn add_word(alloc: Global, found: &mut Vec<ListName>, word: &[u8]) -> Result<(), NoMemory>
+    ensures { OnOk result (found.new.items ≡ found.old.items ++ ListName.Word word.now ∷ []) }
+{
+    let text = Bytes::from_slice(alloc, word)?;
+    found.push(ListName::Word { text })?;
+    Ok(())
 }

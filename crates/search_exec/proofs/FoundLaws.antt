@@ -172,7 +172,7 @@ some-inside (Some doc) some = refl
 -- Where the live rows of an index are those of its members, an iterator has ids of documents that are known.
 pub members-known : (held : Held) (iter : Iter) (rows : List (ℕ × List ℕ)) (def : IndexDef) (docs : List Doc) → IsStrictlyIncreasing (map (λ (doc : Doc). doc.id) docs)
     → rows ≡ map (λ (doc : Doc). (doc.id, doc.key)) (members def docs) → ((id : ℕ) → held.live id ≡ true → is_some (lookup (nat_eq id) rows) ≡ true)
-    → AreKnown (in_set held iter) rows docs
+    → AreKnown (in_set held iter) (λ id. lookup (nat_eq id) rows) docs
 members-known held iter rows def docs rise are live =
     let key : (id : ℕ) → in_set held iter id ≡ true → lookup (nat_eq id) rows ≡ option_map (λ (doc : Doc). doc.key) (doc_at id docs) =
     λ id has_it.
@@ -180,5 +180,5 @@ members-known held iter rows def docs rise are live =
     ap (λ (rows : List (ℕ × List ℕ)). lookup (nat_eq id) rows) are ∙ key-of (member def) docs id (sorted_from_strictly_increasing (ids docs) rise) some in
     record {
       stored = λ id has_it. some-inside (doc_at id docs) (subst (λ (row : Option (List ℕ)). IsSome row) (key id has_it) (live id (live-first held iter id has_it)));
-      keys = key;
+      key = key;
     }

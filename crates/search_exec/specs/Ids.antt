@@ -1,7 +1,6 @@
 -- What the ids of a set find among documents, and what has to be known of these.
 use Rattle.std.specs.Prelude.{◌≡◌, ℕ, min, nat_eq, Bool, true, false, List, filter, find, Option, IsSome}
 use Rattle.std.specs.Option.{option_map}
-use Rattle.std.specs.Map.{lookup}
 use Rattle.ft_base.specs.declared.doc.Doc.{Doc}
 use Rattle.ft_machine.specs.Searching.{window}
 
@@ -13,10 +12,10 @@ docs_in has docs = filter (λ (doc : Doc). has doc.id) docs
 abbrev pub doc_at : ℕ → List Doc → Option Doc
 doc_at id docs = find (λ (doc : Doc). nat_eq id doc.id) docs
 
--- Each id of a set is that of a document, whose key stands beside the id in rows of ids and keys.
-pub record AreKnown (has : ℕ → Bool) (rows : List (ℕ × List ℕ)) (docs : List Doc) : Type 0 where
+-- Each id of a set is that of a document, whose key is known by the id.
+pub record AreKnown (has : ℕ → Bool) (keys : ℕ → Option (List ℕ)) (docs : List Doc) : Type 0 where
   pub stored : (id : ℕ) → has id ≡ true → IsSome (doc_at id docs)
-  pub keys : (id : ℕ) → has id ≡ true → lookup (nat_eq id) rows ≡ option_map (λ (doc : Doc). doc.key) (doc_at id docs)
+  pub key : (id : ℕ) → has id ≡ true → keys id ≡ option_map (λ (doc : Doc). doc.key) (doc_at id docs)
 
 -- How many documents are read so that so many are shown: none where their fields are left out, else those in the window.
 abbrev pub reads_for : Bool → ℕ → ℕ

@@ -1,7 +1,6 @@
 //! The ids of an iterator, asked for in order: each is counted, and the documents of the first are shown.
-ghost use Rattle.std.specs.Prelude.{◌≡◌, ◌<◌, ◌≤◌, ◌+◌, ◌^◌, ◌∷◌, ◌++◌, [], ℕ, Some, List, length, nat_eq, IfOk, IsSome, IsTrue, OnOk};
+ghost use Rattle.std.specs.Prelude.{◌≡◌, ◌<◌, ◌≤◌, ◌+◌, ◌^◌, ◌∷◌, ◌++◌, [], ℕ, Some, List, length, IfOk, IsSome, IsTrue, OnOk};
 ghost use Rattle.std.specs.Option.{option_map};
-ghost use Rattle.std.specs.Map.{lookup};
 ghost use Rattle.ft_base.specs.Reply.{fits_wire};
 ghost use Rattle.ft_base.specs.declared.doc.Doc.{Doc};
 ghost use Rattle.id_iters.specs.Held.{AreLists};
@@ -13,7 +12,6 @@ ghost use Rattle.search_exec.specs.Pages.{Shows};
 ghost use Rattle.ft_machine.specs.Searching.{found_reply};
 
 use crate::page::Page;
-use doc_table::DocTable;
 use ft_base::{NoMemory, Reply, Steps};
 use hash_store::HashStore;
 use id_iters::{Iter, Lists};
@@ -21,11 +19,10 @@ use std::alloc::Global;
 use std::sync::ledger::Ledger;
 
 /// What an iterator finds among the documents of a store. Only those that are shown with their fields are read, each
-/// once; the keys alone come from the table.
+/// once; the keys alone come from the index.
 pub fn search_index<T: Lists, L: Ledger>(
     alloc: Global,
     lists: &T,
-    table: &DocTable,
     store: &mut HashStore,
     mut iter: Iter,
     no_content: bool,
@@ -33,7 +30,7 @@ pub fn search_index<T: Lists, L: Ledger>(
 ) -> Result<Reply, NoMemory>
     requires lists { AreLists (T.held lists.now) }
     requires ready { Ready (T.held lists.now) iter 1 }
-    requires known { AreKnown (in_set (T.held lists.now) iter) table.now.live store.old.space }
+    requires known { AreKnown (in_set (T.held lists.now) iter) (T.named lists.now).keys store.old.space }
     ensures reply { IfOk result (λ reply. reply
         ≡ found_reply no_content (docs_in (in_set (T.held lists.now) iter) store.old.space)) }
     ensures fits { IfOk result (λ reply. IsTrue (fits_wire reply)) }
@@ -50,7 +47,7 @@ pub fn search_index<T: Lists, L: Ledger>(
     ensures counts { steps.old ≤ steps.new }
 {
     let mut page = Page::new(alloc, no_content);
-    let noted = note_all(&mut page, alloc, lists, table, store, &mut iter, steps);
+    let noted = note_all(&mut page, alloc, lists, store, &mut iter, steps);
     drop(iter);
     noted?;
     page.into_reply()
@@ -61,7 +58,6 @@ fn note_all<T: Lists, L: Ledger>(
     page: &mut Page,
     alloc: Global,
     lists: &T,
-    table: &DocTable,
     store: &mut HashStore,
     iter: &mut Iter,
     steps: &mut Steps<L>,
@@ -69,7 +65,7 @@ fn note_all<T: Lists, L: Ledger>(
     requires none { Shows [] page.old }
     requires lists { AreLists (T.held lists.now) }
     requires ready { Ready (T.held lists.now) iter.old 1 }
-    requires known { AreKnown (in_set (T.held lists.now) iter.old) table.now.live store.old.space }
+    requires known { AreKnown (in_set (T.held lists.now) iter.old) (T.named lists.now).keys store.old.space }
     ensures shown { OnOk result (Shows (docs_in (in_set (T.held lists.now) iter.old) store.old.space) page.new) }
     ensures few { OnOk result (page.new.total < 2 ^ 63) }
     ensures kind { page.new.no_content ≡ page.old.no_content }
@@ -89,24 +85,24 @@ fn note_all<T: Lists, L: Ledger>(
     let _reads = store.reads();
     let mut from = 1;
     'asking: while let Some(id) = iter.seek(lists, from, steps)? {
-        note_id(page, alloc, table, store, id)?;
+        note_id(page, alloc, lists, store, id)?;
         from = id + 1;
     }
     Ok(())
 }
 
 // Notes the document of an id. Past the window it is counted, and neither its key nor the document is asked for.
-fn note_id(
+fn note_id<T: Lists>(
     page: &mut Page,
     alloc: Global,
-    table: &DocTable,
+    lists: &T,
     store: &mut HashStore,
     id: u64,
 ) -> Result<(), NoMemory>
     requires few { page.old.total < 2 ^ 62 }
     requires bits { store.old.reads < 2 ^ 64 }
     requires stored { IsSome (doc_at id store.old.space) }
-    requires key { lookup (nat_eq id) table.now.live
+    requires key { (T.named lists.now).keys id
         ≡ option_map (λ doc. doc.key) (doc_at id store.old.space) }
     ensures shown { OnOk result ((docs : List Doc) (doc : Doc) → doc_at id store.old.space ≡ Some doc
         → Shows docs page.old → Shows (docs ++ doc ∷ []) page.new) }
@@ -128,7 +124,7 @@ fn note_id(
         return Ok(());
     }
     if page.shows_keys_alone() {
-        let key = table.key_of(id).unwrap();
+        let key = lists.key_of(id).unwrap();
         return page.note_key(alloc, key);
     }
     let doc = store.get_by_id(id).unwrap();

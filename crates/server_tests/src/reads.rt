@@ -8,7 +8,7 @@ ghost use Rattle.search_exec.specs.Ids.{doc_at};
 use crate::rows::is_spelled;
 use crate::turns::put;
 use doc_table::DocTable;
-use ft_base::{Bytes, Doc, HashRec, NoMemory, Reply, Steps, put_int, put_reply};
+use ft_base::{Bytes, Doc, HashRec, NoMemory, Reply, Span, Steps, put_int, put_reply};
 use hash_store::HashStore;
 use id_iters::{Iter, Lists};
 use inverted_list::List;
@@ -18,20 +18,29 @@ use std::alloc::Global;
 use std::marker::Brand;
 use std::sync::ledger::{Blank, Ledger};
 
-// No lists; the ids from 1 to the count are live.
+// No lists; the ids from 1 to the count are live, and the table has their keys.
 #[derive(Clone, Copy)]
-struct Bare {
+struct Bare<'a> {
     count: u8,
+    table: &'a DocTable,
 }
 
-impl Lists for Bare {
-    ghost use Rattle.std.specs.Prelude.{None, nat_le, ◌&&◌};
+impl Lists for Bare<'_> {
+    ghost use Rattle.std.specs.Map.{lookup};
+    ghost use Rattle.std.specs.Prelude.{None, [], nat_eq, nat_le, ◌&&◌};
 
     ghost held = { λ s. record {
       words = λ word. None;
       tags = λ field tag. None;
       ranges = λ field low. None;
       live = λ id. nat_le 1 id && nat_le id s.count;
+    } };
+
+    ghost named = { λ s. record {
+      words = [];
+      tags = λ field. [];
+      lows = λ field. [];
+      keys = λ id. lookup (nat_eq id) s.table.now.live;
     } };
 
     fn text(&self, _word: &[u8]) -> Option<&List<TextHit>> {
@@ -57,6 +66,31 @@ impl Lists for Bare {
         } else {
             None
         }
+    }
+
+    fn next_word(&self, _prefix: &[u8], _after: Option<&[u8]>) -> Result<Option<&[u8]>, NoMemory> {
+        Ok(None)
+    }
+
+    fn next_tag(
+        &self,
+        _field: u16,
+        _prefix: &[u8],
+        _after: Option<&[u8]>,
+    ) -> Result<Option<&[u8]>, NoMemory> {
+        Ok(None)
+    }
+
+    fn ranges_between(&self, _field: u16, _low: i64, _high: i64) -> Span {
+        Span { from: 0, to: 0 }
+    }
+
+    fn low_at(&self, _field: u16, _place: usize) -> Option<i64> {
+        None
+    }
+
+    fn key_of(&self, id: u64) -> Option<&[u8]> {
+        self.table.key_of(id)
     }
 }
 
@@ -176,9 +210,12 @@ fn put_found<L: Ledger>(
     ensures rises { store.old.reads ≤ store.new.reads }
 {
     let mut steps = Steps::<L>::new(blank);
-    let lists = Bare { count: row.count };
+    let lists = Bare {
+        count: row.count,
+        table,
+    };
     let (all, no_content) = (Iter::of_all(), row.no_content);
-    let found = search_index(alloc, &lists, table, store, all, no_content, &mut steps);
+    let found = search_index(alloc, &lists, store, all, no_content, &mut steps);
     put_answer(found, out);
 }
 

@@ -20,7 +20,8 @@ use Rattle.std.proofs.lemmas.Map.Keys.{sorted_head, sorted_tail}
 use Rattle.std.proofs.lemmas.Slice.Eq.{starts_is}
 use Rattle.term_dict.specs.Rows.{lists_of}
 use Rattle.term_dict.specs.Starts.{start_of, words_from, first_with}
-use Rattle.term_dict.specs.Terms.{Lists, WordsRise, is_after, next_word, word_cmp}
+use Rattle.inverted_list.specs.Names.{is_after, word_cmp}
+use Rattle.term_dict.specs.Terms.{Lists, WordsRise, next_word}
 use Rattle.term_dict.proofs.TermLaws.{Row, key_cmp, word_at}
 
 pub lt_is : (o : Ordering) → is_lt o ≡ true → o ≡ Less

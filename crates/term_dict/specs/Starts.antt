@@ -5,7 +5,7 @@ use Rattle.std.specs.List.{filter, starts_with}
 use Rattle.std.specs.Ordering.{is_lt}
 use Rattle.std.specs.declared.ops.Bound.{Bound}
 use Rattle.std.specs.declared.ops.Bound.TheVariants.{Included, Excluded}
-use Rattle.term_dict.specs.Terms.{word_cmp}
+use Rattle.inverted_list.specs.Names.{word_cmp}
 
 -- at the prefix, or behind a word that is not below it
 abbrev pub start_of : List ℕ → Option (List ℕ) → Bound (List ℕ)

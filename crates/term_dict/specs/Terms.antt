@@ -1,28 +1,15 @@
 -- What a contract sees of a term dictionary: its words, each with its posting list.
-use Rattle.std.specs.Prelude.{◌≡◌, ◌&&◌, ◌==◌, ℕ, Bool, true, false, List, [], Option, None, Some, eqb, find, length, sum_by, IfSome}
-use Rattle.std.specs.Cmp.Lexicographic.{slice_cmp}
-use Rattle.std.specs.List.{starts_with}
-use Rattle.std.specs.List.Sorted.{IsStrictlySortedBy}
+use Rattle.std.specs.Prelude.{◌≡◌, ◌==◌, ℕ, Bool, false, List, [], Option, None, Some, length, sum_by, IfSome}
 use Rattle.std.specs.Map.{keys_of, lookup, update}
 use Rattle.std.specs.Option.{option_map, unwrap_or}
-use Rattle.std.specs.Ordering.{is_lt, nat_cmp}
 use Rattle.std.specs.Str.{bytes_eq}
-use Rattle.std.specs.declared.cmp.Ordering.{Ordering}
 use Rattle.inverted_list.specs.declared.marker.Markers.{Markers}
 use Rattle.inverted_list.specs.Listing.{Listing, RisesAbove, marker_of}
+use Rattle.inverted_list.specs.Names.{NamesRise, next_name}
 
 -- words and their lists
 abbrev pub Lists : Type 0 → Type 0
 Lists P = List (List ℕ × Listing P)
-
--- the order of words, by their bytes
-abbrev pub word_cmp : List ℕ → List ℕ → Ordering
-word_cmp = slice_cmp nat_cmp
-
--- whether a word is above another one, where there is another one
-abbrev pub is_after : Option (List ℕ) → List ℕ → Bool
-is_after None word = true
-is_after (Some other) word = is_lt (word_cmp other word)
 
 module _ {P : Type 0} where
   -- the list of a word, where it has one
@@ -39,7 +26,7 @@ module _ {P : Type 0} where
 
   -- The words rise, so none is there twice.
   abbrev pub WordsRise : Lists P → Type 0
-  WordsRise lists = IsStrictlySortedBy word_cmp (keys_of lists)
+  WordsRise lists = NamesRise (keys_of lists)
 
   -- the ids of each word's entries rise from 1 on
   abbrev pub IdsRise : Lists P → Type 0
@@ -59,7 +46,7 @@ module _ {P : Type 0} where
 
   -- the first word with the prefix that is above `after`, and so the least, since words rise
   abbrev pub next_word : Lists P → List ℕ → Option (List ℕ) → Option (List ℕ)
-  next_word lists prefix after = find (λ word. starts_with eqb word prefix && is_after after word) (keys_of lists)
+  next_word lists prefix after = next_name (keys_of lists) prefix after
 
   -- the list without its entries
   abbrev pub bare : Listing P → Listing P

@@ -190,7 +190,7 @@ fn plan_of<L: Ledger>(
 {
     let mut steps = Steps::<L>::new(blank);
     let hints = Hints(ListOf::new(alloc));
-    plan(alloc, index, query, &hints, 0, &mut steps)
+    plan(alloc, index.def(), index, query, &hints, 0, &mut steps)
 }
 
 // How many unions lie in one another.

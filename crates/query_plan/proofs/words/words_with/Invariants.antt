@@ -6,9 +6,9 @@ use Rattle.query_plan.proofs.NameLaws.{words_after}
 use Rattle.query_plan.proofs.words.words_with.Given as goal
 
 abbrev pub invariant-words : goal.invariant-words
-invariant-words l =
-    l.lists.items ++ map (λ word. names.Word word) (words_after l.text (option_copied l.after) l.terms)
-    ≡ map (λ word. names.Word word) (words_with l.text l.terms)
+invariant-words g l =
+    l.found.items ++ map (λ word. names.Word word) (words_after l.text (option_copied l.after) (g.T.Lists.named l.lists).words)
+    ≡ map (λ word. names.Word word) (words_with l.text (g.T.Lists.named l.lists).words)
 
 abbrev pub decreases-words : goal.decreases-words
-decreases-words l = length (words_after l.text (option_copied l.after) l.terms)
+decreases-words g l = length (words_after l.text (option_copied l.after) (g.T.Lists.named l.lists).words)

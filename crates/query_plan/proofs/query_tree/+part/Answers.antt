@@ -11,43 +11,43 @@ use Rattle.query_plan.proofs.GainLaws.{all_more, of_item, same_more}
 use Rattle.query_plan.proofs.UnionLaws.{more}
 use Rattle.query_plan.proofs.OtherLaws.{other}
 use Rattle.query_plan.proofs.PlanLaws.{every_tells, one_more_tells, other_tells, some_tells, tells_same}
-use Rattle.query_plan.proofs.planner.+plan.Goals as goal
+use Rattle.query_plan.proofs.query_tree.+part.Goals as goal
 
-pub plan-returns-in-And-clause-set : goal.plan-returns-in-And-clause-set
-plan-returns-in-And-clause-set g t c =
-    tells_same c.args.sources.now.def.now c.args.sources.now.parts.now (g.T.Lists.held c.args.sources.now.lists.now) c.args.query.now _ c.plan_every.result
+pub plan_part-returns-in-And-clause-set : goal.plan_part-returns-in-And-clause-set
+plan_part-returns-in-And-clause-set g t c =
+    tells_same c.args.sources.now.def.now (g.T.Lists.held c.args.sources.now.lists.now) (g.T.Lists.named c.args.sources.now.lists.now) c.args.query.now _ c.plan_every.result
     (c.in-And.is ∙ ap (λ (parts : List Query). query.And parts) (sym c.as_slice.ensures)) c.plan_every.ensures.set
 
-pub plan-returns-in-Or-clause-set : goal.plan-returns-in-Or-clause-set
-plan-returns-in-Or-clause-set g t c =
-    tells_same c.args.sources.now.def.now c.args.sources.now.parts.now (g.T.Lists.held c.args.sources.now.lists.now) c.args.query.now _ c.plan_some.result
+pub plan_part-returns-in-Or-clause-set : goal.plan_part-returns-in-Or-clause-set
+plan_part-returns-in-Or-clause-set g t c =
+    tells_same c.args.sources.now.def.now (g.T.Lists.held c.args.sources.now.lists.now) (g.T.Lists.named c.args.sources.now.lists.now) c.args.query.now _ c.plan_some.result
     (c.in-Or.is ∙ ap (λ (parts : List Query). query.Or parts) (sym c.as_slice-in-Or.ensures)) c.plan_some.ensures.set
 
-pub plan-returns-in-Not-clause-set : goal.plan-returns-in-Not-clause-set
-plan-returns-in-Not-clause-set g t c =
-    tells_same c.args.sources.now.def.now c.args.sources.now.parts.now (g.T.Lists.held c.args.sources.now.lists.now) c.args.query.now _ c.plan_other.result
+pub plan_part-returns-in-Not-clause-set : goal.plan_part-returns-in-Not-clause-set
+plan_part-returns-in-Not-clause-set g t c =
+    tells_same c.args.sources.now.def.now (g.T.Lists.held c.args.sources.now.lists.now) (g.T.Lists.named c.args.sources.now.lists.now) c.args.query.now _ c.plan_other.result
     (c.in-Not.is ∙ ap (λ (part : Query). query.Not part) (sym c.get.ensures)) c.plan_other.ensures.set
 
 pub plan_every-returns-clause-set : goal.plan_every-returns-clause-set
 plan_every-returns-clause-set g t c =
     let held = g.T.Lists.held c.args.sources.now.lists.now in
-    every_tells c.args.sources.now.def.now c.args.sources.now.parts.now held c.args.queries.now _ c.plan_each.new.plans.items
+    every_tells c.args.sources.now.def.now held (g.T.Lists.named c.args.sources.now.lists.now) c.args.queries.now _ c.plan_each.new.plans.items
     (ids_of held c.in_ok-every_of.field-0) refl c.in_ok-plan_each.ensures.set (c.in_ok-every_of.ensures.set held)
 
 pub plan_some-returns-clause-set : goal.plan_some-returns-clause-set
 plan_some-returns-clause-set g t c =
     let held = g.T.Lists.held c.args.sources.now.lists.now in
-    some_tells c.args.sources.now.def.now c.args.sources.now.parts.now held c.args.queries.now _ c.plan_each.new.plans.items c.in_ok-some_of.field-0
+    some_tells c.args.sources.now.def.now held (g.T.Lists.named c.args.sources.now.lists.now) c.args.queries.now _ c.plan_each.new.plans.items c.in_ok-some_of.field-0
     refl c.in_ok-plan_each.ensures.set c.in_ok-some_of.ensures
 
 pub plan_other-returns-clause-set : goal.plan_other-returns-clause-set
 plan_other-returns-clause-set g t c =
     let held = g.T.Lists.held c.args.sources.now.lists.now in
-    other_tells c.args.sources.now.def.now c.args.sources.now.parts.now held c.args.query.now _
+    other_tells c.args.sources.now.def.now held (g.T.Lists.named c.args.sources.now.lists.now) c.args.query.now _
     (ids_of held c.in_ok-planned.planned) (ids_of held c.in_ok-other_of.field-0) refl c.in_ok-planned.ensures.set (c.in_ok-other_of.ensures.set held)
 
-pub plan-plan_other_leaf-requires : goal.plan-plan_other_leaf-requires
-plan-plan_other_leaf-requires g t c = record { known = c.requires; other = other c.args.query.now c.in_default.not-Word c.in_default.not-Prefix c.in_default.not-And c.in_default.not-Or c.in_default.not-Not }
+pub plan_part-plan_other_leaf-requires : goal.plan_part-plan_other_leaf-requires
+plan_part-plan_other_leaf-requires g t c = record { known = c.requires; other = other c.args.query.now c.in_default.not-Word c.in_default.not-Prefix c.in_default.not-And c.in_default.not-Or c.in_default.not-Not }
 
 pub plan_every-returns-clause-placed : goal.plan_every-returns-clause-placed
 plan_every-returns-clause-placed g t c =
@@ -68,22 +68,22 @@ plan_each-queries-preserved g t c =
     let held = g.T.Lists.held c.args.sources.now.lists.now in
     let known = place_of c.args.sources.now.known.now in
     let def = c.args.sources.now.def.now in
-    let parts = c.args.sources.now.parts.now in
-    let tells = of_item c.plan.result c.queries.plans.items c.add_planned.new.plans.items c.in_ok-add_planned.ensures
-    (λ (p : Planned). Tells def parts held (λ doc. holds c.query-item.result def doc) (ids_of held p)) c.plan.ensures.set in
+    let named = g.T.Lists.named c.args.sources.now.lists.now in
+    let tells = of_item c.plan_part.result c.queries.plans.items c.add_planned.new.plans.items c.in_ok-add_planned.ensures
+    (λ (p : Planned). Tells def held named (λ doc. holds c.query-item.result def doc) (ids_of held p)) c.plan_part.ensures.set in
     record {
       set =
-          one_more_tells def parts held (take c.queries.query-index c.args.queries.now) (take (c.queries.query-index + 1) c.args.queries.now) c.query-item.result
+          one_more_tells def held named (take c.queries.query-index c.args.queries.now) (take (c.queries.query-index + 1) c.args.queries.now) c.query-item.result
           c.queries.plans.items _ c.in_ok-add_planned.ensures.item
           (more c.args.queries.now c.queries.query-index c.query-item.result (search rules) c.query-item.is) c.in_ok-add_planned.ensures.items c.queries.invariant.set tells;
       ready =
-          all_more c.plan.result c.queries.plans.items c.add_planned.new.plans.items c.in_ok-add_planned.ensures
-          (λ (p : Planned). Ready held p.iter (c.args.sources.now.after + 1)) c.queries.invariant.ready c.plan.ensures.ready;
+          all_more c.plan_part.result c.queries.plans.items c.add_planned.new.plans.items c.in_ok-add_planned.ensures
+          (λ (p : Planned). Ready held p.iter (c.args.sources.now.after + 1)) c.queries.invariant.ready c.plan_part.ensures.ready;
       placed =
-          all_more c.plan.result c.queries.plans.items c.add_planned.new.plans.items c.in_ok-add_planned.ensures
-          (λ (p : Planned). AllOpen held c.args.sources.now.after (leaves_of p.iter)) c.queries.invariant.placed c.plan.ensures.placed;
+          all_more c.plan_part.result c.queries.plans.items c.add_planned.new.plans.items c.in_ok-add_planned.ensures
+          (λ (p : Planned). AllOpen held c.args.sources.now.after (leaves_of p.iter)) c.queries.invariant.placed c.plan_part.ensures.placed;
       free =
-          same_more c.plan.result c.queries.plans.items c.add_planned.new.plans.items c.in_ok-add_planned.ensures
-          (λ (p : Planned). AllKnown known (leaves_of p.iter)) _ c.queries.steps _ c.queries.invariant.free c.plan.ensures.free;
+          same_more c.plan_part.result c.queries.plans.items c.add_planned.new.plans.items c.in_ok-add_planned.ensures
+          (λ (p : Planned). AllKnown known (leaves_of p.iter)) _ c.queries.steps _ c.queries.invariant.free c.plan_part.ensures.free;
       counts = search rules;
     }
