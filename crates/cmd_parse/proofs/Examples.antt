@@ -1,10 +1,14 @@
 -- What the definition says of a few commands.
-use Rattle.std.proofs.Common.{◌≡◌, ℕ, List, [], ◌∷◌, true, false, Ok, Err, Some, None, refl, pos, lit<}
-use Rattle.std.specs.Prelude.{codes, Bool}
-use Rattle.ft_base.specs.declared.query.Param.{Param}
+use Rattle.std.proofs.Common.{◌≡◌, ℕ, List, [], ◌∷◌, true, Ok, Err, Some, None, refl, pos, lit<}
+use Rattle.std.specs.Prelude.{codes}
 use Rattle.std.proofs.lemmas.Fmt.{decimal_digit}
 use Rattle.ft_base.specs.Number.{int_of}
-use Rattle.cmd_parse.specs.Read.{Asked, Plain, Search, read}
+use Rattle.ft_base.specs.Reading.{parts_at}
+use Rattle.cmd_parse.specs.OptionNames.{option_of}
+use Rattle.cmd_parse.specs.Read.{Plain, Search, read}
+use Rattle.cmd_parse.specs.Given.{nothing_given}
+use Rattle.cmd_parse.specs.Search.{option_at, option_with}
+use Rattle.cmd_parse.specs.Searching.{searching_of}
 use Rattle.cmd_parse.specs.declared.command.CmdFault.TheVariants.{Arity, BadDb, NotBuilt, NotInteger, Syntax, Unknown}
 use Rattle.cmd_parse.specs.declared.command.Verb.TheVariants.{DropIndex, Flushall, Hget, Hset, Hvals, Info, Select}
 
@@ -17,10 +21,6 @@ field = codes "f"
 
 abbrev value : List ℕ
 value = codes "v"
-
--- a search of the index ix
-abbrev searching : List ℕ → Bool → List Param → Asked
-searching query no_content params = Search (record { index = codes "ix"; query = query; no_content = no_content; params = params })
 
 -- a name in small letters, and arguments without it
 small_letters : read 0 (codes "hget" ∷ key ∷ field ∷ []) ≡ Ok (Plain Hget (key ∷ field ∷ []))
@@ -79,20 +79,9 @@ drop_documents = refl
 drop_how : read 0 (codes "FT.DROPINDEX" ∷ codes "ix" ∷ codes "KEEPDOCS" ∷ []) ≡ Err (Syntax 2)
 drop_how = refl
 
--- a search of keys alone, and what is shown otherwise
-capital_query : read 0 (codes "FT.SEARCH" ∷ codes "ix" ∷ codes "World" ∷ codes "nocontent" ∷ []) ≡ Ok (searching (codes "World") true [])
-capital_query = refl
-
-with_content : read 0 (codes "ft.search" ∷ codes "ix" ∷ codes "hello world" ∷ []) ≡ Ok (searching (codes "hello world") false [])
-with_content = refl
-
 -- a search has a query
 no_query : read 0 (codes "FT.SEARCH" ∷ codes "ix" ∷ []) ≡ Err Arity
 no_query = refl
-
--- NOCONTENT stands there once, and before the parameters
-keys_twice : read 0 (codes "FT.SEARCH" ∷ codes "ix" ∷ codes "q" ∷ codes "NOCONTENT" ∷ codes "NOCONTENT" ∷ []) ≡ Err NotBuilt
-keys_twice = refl
 
 -- the numbers of the examples
 digit_0 : int_of (codes "0") ≡ Some (pos 0)
@@ -118,27 +107,12 @@ select_1 = rw digit_1 refl
 lax_increment : read 0 (codes "HINCRBY" ∷ key ∷ field ∷ codes "+5" ∷ []) ≡ Err NotInteger
 lax_increment = rw plus_5 refl
 
-digit_2 : int_of (codes "2") ≡ Some (pos 2)
-unfolding int_of
-digit_2 = rw (decimal_digit 2 (lit< tt)) refl
+-- a search, and the fault of one
+keys_alone : read 0 (codes "ft.search" ∷ codes "ix" ∷ codes "World" ∷ codes "nocontent" ∷ [])
+    ≡ Ok (Search (searching_of (codes "ix") (codes "World") (record nothing_given { no_content = true })))
+unfolding option_of option_with option_at parts_at
+keys_alone = refl
 
-digit_3 : int_of (codes "3") ≡ Some (pos 3)
-unfolding int_of
-digit_3 = rw (decimal_digit 3 (lit< tt)) refl
-
-digit_4 : int_of (codes "4") ≡ Some (pos 4)
-unfolding int_of
-digit_4 = rw (decimal_digit 4 (lit< tt)) refl
-
--- a search with a parameter
-one_param : read 0 (codes "FT.SEARCH" ∷ codes "ix" ∷ codes "$k" ∷ codes "PARAMS" ∷ codes "2" ∷ key ∷ value ∷ [])
-    ≡ Ok (searching (codes "$k") false (record { name = key; value = value } ∷ []))
-one_param = rw digit_2 refl
-
--- the number of words is even
-half_a_param : read 0 (codes "FT.SEARCH" ∷ codes "ix" ∷ codes "$k" ∷ codes "PARAMS" ∷ codes "3" ∷ key ∷ value ∷ field ∷ []) ≡ Err NotBuilt
-half_a_param = rw digit_3 refl
-
--- a name comes once: the fault is at its second word
-name_twice : read 0 (codes "FT.SEARCH" ∷ codes "ix" ∷ codes "$k" ∷ codes "PARAMS" ∷ codes "4" ∷ key ∷ value ∷ key ∷ field ∷ []) ≡ Err (Syntax 7)
-name_twice = rw digit_4 refl
+keys_twice : read 0 (codes "FT.SEARCH" ∷ codes "ix" ∷ codes "q" ∷ codes "NOCONTENT" ∷ codes "NOCONTENT" ∷ []) ≡ Err (Syntax 4)
+unfolding option_of option_with option_at parts_at
+keys_twice = refl

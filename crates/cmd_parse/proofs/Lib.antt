@@ -1,4 +1,10 @@
+pub mod BehindLaws
 pub mod Examples
+pub mod OptionLaws
+pub mod OptionsLaws
 pub mod PairLaws
+pub mod ParamLaws
+pub mod PlaceLaws
+pub mod SearchExamples
 pub mod SearchLaws
 pub mod TableLaws

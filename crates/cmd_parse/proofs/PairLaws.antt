@@ -10,7 +10,7 @@ use Rattle.std.specs.Ordering.{is_eq, nat_cmp}
 use Rattle.std.specs.declared.cmp.Ordering.{Ordering}
 use Rattle.std.specs.Str.{bytes_eq}
 use Rattle.ft_base.specs.declared.query.Param.{Param}
-use Rattle.cmd_parse.specs.Search.{params_of, first_repeat}
+use Rattle.cmd_parse.specs.Params.{params_of, first_repeat}
 
 -- the parameter whose name is the word at a place
 abbrev pub param_at : List (List ℕ) → ℕ → Param

@@ -1,10 +1,8 @@
 -- What a caller may rely on of what is asked.
-use Rattle.std.specs.Prelude.{◌≡◌, ◌+◌, ◌%◌, ◌≤◌, ℕ, List, [], length, drop, map, slice_index_or, IsSome}
-use Rattle.std.specs.List.{All, Contains, IsDistinct}
-use Rattle.std.specs.Str.{bytes_eq}
+use Rattle.std.specs.Prelude.{◌≡◌, ◌+◌, ◌%◌, ◌≤◌, ℕ, List, [], length, drop, slice_index_or, IsSome}
 use Rattle.ft_base.specs.Number.{int_of}
-use Rattle.ft_base.specs.declared.query.Param.{Param}
 use Rattle.ft_schema.specs.Lawful.{IsLawful as AreLawful}
+use Rattle.cmd_parse.specs.LawfulSearch.{IsLawfulSearch}
 use Rattle.cmd_parse.specs.Read.{Asked, Plain, CreateIndex, AlterIndex, Search}
 use Rattle.cmd_parse.specs.declared.command.Verb.{Verb}
 use Rattle.cmd_parse.specs.declared.command.Verb.TheVariants.{Ping, Echo, Select, Quit, Hset, Hsetnx, Hget, Hmget, Hgetall, Hdel, Hlen, Hexists, Hincrby, Hkeys, Hvals, Del, Exists, TypeOf, Dbsize, Rename, Flushall, DropIndex, ListIndexes, Info, TagVals}
@@ -57,19 +55,13 @@ pub record Lawful (verb : Verb) (args : List (List ℕ)) : Type 0 where
   pub number : LawfulNumber verb (length args)
   pub increment : HasNumber verb args
 
--- The names of parameters differ, and each name and value is one of the words.
-pub record AreParams (words : List (List ℕ)) (params : List Param) : Type 0 where
-  pub distinct : IsDistinct bytes_eq (map (λ (param : Param). param.name) params)
-  pub given : All (λ (param : Param). Contains words param.name × Contains words param.value) params
-
 -- What is asked is made of these words: a plain command's arguments are lawful, the fields of a schema keep its limits, and
--- a search has lawful parameters.
+-- a search is lawful.
 abbrev pub IsLawful : List (List ℕ) → Asked → Type 0
 IsLawful words (Plain verb args) = (args ≡ drop 1 words) × Lawful verb args
 IsLawful words (CreateIndex index) = AreLawful index.fields
 IsLawful words (AlterIndex index fields) = (index ≡ slice_index_or words 1 []) × AreLawful fields
-IsLawful words (Search what) =
-    (what.index ≡ slice_index_or words 1 []) × (what.query ≡ slice_index_or words 2 []) × AreParams words what.params
+IsLawful words (Search what) = IsLawfulSearch words what
 
 -- an index that is created has this serial
 abbrev pub HasSerial : ℕ → Asked → Type 0

@@ -1,7 +1,17 @@
 pub mod Asking
 pub mod Commands
+pub mod Filters
+pub mod Given
+pub mod Gives
 pub mod Lawful
+pub mod LawfulSearch
+pub mod OptionNames
+pub mod Options
+pub mod Params
 pub mod Read
 pub mod Reading
 pub mod Refusals
 pub mod Search
+pub mod Searching
+pub mod Seen
+pub mod Words

@@ -1,17 +1,15 @@
 -- What a command asks, in the order of refusals: an unknown name, a command that is not built, a wrong number of words,
--- a form that is not built, and the first fault of the words from the left. An index that is created has a serial, which
--- is not among the words.
-use Rattle.std.specs.Prelude.{ℕ, ℤ, pos, suc, List, [], ◌∷◌, length, Bool, Option, Some, None, Result, Ok, Err, codes, drop, is_none, ◌&&◌, ◌||◌, ◌==◌, ◌%◌, nat_le, slice_index_or, false, if◌then◌else◌}
+-- and the first fault of the words from the left. An index that is created has a serial, which is not among the words.
+use Rattle.std.specs.Prelude.{ℕ, ℤ, pos, suc, List, [], ◌∷◌, length, Bool, Option, Some, None, Result, Ok, Err, codes, is_none, ◌&&◌, ◌||◌, ◌==◌, ◌%◌, nat_le, slice_index_or, false, if◌then◌else◌}
 use Rattle.std.specs.Ordering.{int_eq}
 use Rattle.ft_base.specs.Names.{is_name}
 use Rattle.ft_base.specs.Number.{int_of}
 use Rattle.ft_base.specs.declared.definition.Field.{Field}
 use Rattle.ft_base.specs.declared.definition.IndexDef.{IndexDef}
-use Rattle.ft_base.specs.declared.query.Param.{Param}
 use Rattle.ft_schema.specs.Schema.{alter, create}
 use Rattle.ft_schema.specs.declared.fault.SchemaFault.{SchemaFault}
 use Rattle.cmd_parse.specs.Commands.{form_of}
-use Rattle.cmd_parse.specs.Search.{Searching, has_params, is_no_content, params_behind}
+use Rattle.cmd_parse.specs.Searching.{Searching, search}
 use Rattle.cmd_parse.specs.declared.command.Verb.{Verb}
 use Rattle.cmd_parse.specs.declared.command.Verb.TheVariants.{Select, Hincrby, Flushall, DropIndex}
 use Rattle.cmd_parse.specs.declared.command.CmdFault.{CmdFault}
@@ -66,14 +64,10 @@ abbrev pub altered : List ℕ → Result (List Field) SchemaFault → Result Ask
 altered index (Ok fields) = Ok (AlterIndex index fields)
 altered index (Err fault) = Err (Schema fault)
 
--- FT.SEARCH asks for what its query finds, or has the fault of the words behind it.
-abbrev pub searched : List ℕ → List ℕ → Bool → Result (List Param) CmdFault → Result Asked CmdFault
-searched index query no_content (Ok params) = Ok (Search (record { index = index; query = query; no_content = no_content; params = params }))
-searched index query no_content (Err fault) = Err fault
-
-abbrev pub search : List (List ℕ) → Result Asked CmdFault
-search (index ∷ query ∷ options) = searched index query (is_no_content options) (params_behind options)
-search _ = Err Arity
+-- FT.SEARCH asks for what its query finds, or has the first fault of its words.
+abbrev pub searched : Result Searching CmdFault → Result Asked CmdFault
+searched (Ok what) = Ok (Search what)
+searched (Err fault) = Err fault
 
 -- a command of this form, whose words are its name and arguments
 abbrev pub read_as : Option Form → ℕ → List ℕ → List (List ℕ) → Result Asked CmdFault
@@ -86,7 +80,7 @@ read_as (Some (InPairs verb least)) serial name args =
 read_as (Some Create) serial name args = if nat_le 5 (suc (length args)) then created (create (name ∷ args) serial) else Err Arity
 read_as (Some Alter) serial name args =
     if nat_le 6 (suc (length args)) then altered (slice_index_or args 0 []) (alter (name ∷ args)) else Err Arity
-read_as (Some form.Search) serial name args = search args
+read_as (Some form.Search) serial name args = searched (search (name ∷ args))
 read_as (Some Unbuilt) serial name args = Err NotBuilt
 
 -- What the words of a command ask, where an index that it creates has this serial.
@@ -94,14 +88,14 @@ abbrev pub read : ℕ → List (List ℕ) → Result Asked CmdFault
 read serial [] = Err Unknown
 read serial (name ∷ args) = read_as (form_of name) serial name args
 
--- whether words behind the name are copied: those of a schema are, and the parameters of a search
-abbrev pub copies_words : Option Form → List (List ℕ) → Bool
-copies_words (Some Create) args = nat_le 5 (suc (length args))
-copies_words (Some Alter) args = nat_le 6 (suc (length args))
-copies_words (Some form.Search) args = has_params (drop 2 args)
-copies_words _ args = false
+-- whether words behind the name may want memory: those of a schema do, and the options of a search
+abbrev pub wants_memory : Option Form → List (List ℕ) → Bool
+wants_memory (Some Create) args = nat_le 5 (suc (length args))
+wants_memory (Some Alter) args = nat_le 6 (suc (length args))
+wants_memory (Some form.Search) args = nat_le 4 (suc (length args))
+wants_memory _ args = false
 
 -- whether words are read with memory
 abbrev pub takes_memory : List (List ℕ) → Bool
 takes_memory [] = false
-takes_memory (name ∷ args) = copies_words (form_of name) args
+takes_memory (name ∷ args) = wants_memory (form_of name) args

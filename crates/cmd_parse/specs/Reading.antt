@@ -1,16 +1,11 @@
 -- What a reader of the code answers, against what the words ask.
 use Rattle.std.specs.Prelude.{◌≡◌, ℕ, List, Result, Ok, Err, IsTrue}
 use Rattle.cmd_parse.specs.Read.{Asked, Plain, CreateIndex, AlterIndex, Search, read, takes_memory}
-use Rattle.cmd_parse.specs.Search.{Searching}
+use Rattle.cmd_parse.specs.Seen.{search_of}
 use Rattle.cmd_parse.specs.declared.command.CmdFault.{CmdFault}
 use Rattle.cmd_parse.specs.declared.command.CmdFault.TheVariants.{NoMemory}
 use Rattle.cmd_parse.specs.declared.command.Command.{Command}
 use Rattle.cmd_parse.specs.declared.command.Command.TheVariants as command
-use Rattle.cmd_parse.specs.declared.search.SearchSpec.{SearchSpec}
-
--- what the code's search is among these
-abbrev pub search_of : SearchSpec → Searching
-search_of spec = record { index = spec.index.now; query = spec.query.now; no_content = spec.no_content; params = spec.params }
 
 -- what the code's command is among these
 abbrev pub command_of : Command → Asked

@@ -5,9 +5,9 @@ use Rattle.ft_base.specs.Memory.{want_of_memory}
 use Rattle.ft_schema.specs.Refusals.{schema_refusal}
 use Rattle.std.specs.Str.{str_to_ascii_lowercase}
 use Rattle.cmd_parse.specs.declared.command.CmdFault.{CmdFault}
-use Rattle.cmd_parse.specs.declared.command.CmdFault.TheVariants.{Unknown, Arity, Syntax, NotInteger, BadDb, NotBuilt, Schema, NoMemory}
+use Rattle.cmd_parse.specs.declared.command.CmdFault.TheVariants.{Unknown, Arity, Syntax, Limit, OutOfScope, NotInteger, BadDb, NotBuilt, Schema, NoMemory}
 
--- the text for a form that is not built
+-- the text for a command that is not built
 abbrev pub not_built : List ℕ
 not_built = codes "ERR not built"
 
@@ -16,6 +16,8 @@ abbrev pub refusal : List ℕ → CmdFault → List ℕ
 refusal name Unknown = codes "ERR unknown command"
 refusal name Arity = codes "ERR wrong number of arguments for '" ++ str_to_ascii_lowercase name ++ codes "' command"
 refusal name (Syntax at) = codes "ERR syntax error at word " ++ decimal at
+refusal name (Limit at) = codes "ERR limit exceeded at word " ++ decimal at
+refusal name (OutOfScope at) = codes "ERR not supported at word " ++ decimal at
 refusal name NotInteger = codes "ERR value is not an integer or out of range"
 refusal name BadDb = codes "ERR DB index is out of range"
 refusal name NotBuilt = not_built

@@ -1,72 +1,68 @@
--- What the words of FT.SEARCH ask behind the index and the query: `[NOCONTENT] [PARAMS n name value ..]` (RediSearch).
-use Rattle.std.specs.Prelude.{ℕ, ℤ, pos, List, [], ◌∷◌, length, drop, Bool, false, Option, Some, None, Result, Ok, Err, codes, ◌&&◌, ◌==◌, ◌%◌, ◌+◌, if◌then◌else◌}
-use Rattle.std.specs.List.{list_any}
-use Rattle.std.specs.Ordering.{int_eq}
-use Rattle.std.specs.Str.{bytes_eq}
-use Rattle.ft_base.specs.Names.{is_name}
-use Rattle.ft_base.specs.Number.{int_of}
-use Rattle.ft_base.specs.declared.query.Param.{Param}
-use Rattle.cmd_parse.specs.declared.command.CmdFault.{CmdFault}
-use Rattle.cmd_parse.specs.declared.command.CmdFault.TheVariants.{NotBuilt, Syntax}
+-- The options of FT.SEARCH behind the index and the query, in any order, each once but FILTER (RediSearch).
+use Rattle.std.specs.Prelude.{ℕ, List, [], ◌∷◌, ◌++◌, Bool, true, false, Some, Result, Ok, if◌then◌else◌}
+use Rattle.ft_base.specs.Reading.{◌>>=◌, parts_at}
+use Rattle.cmd_parse.specs.Filters.{filter_at}
+use Rattle.cmd_parse.specs.Given.{Given, is_given, nothing_given}
+use Rattle.cmd_parse.specs.OptionNames.{option_of}
+use Rattle.cmd_parse.specs.Options.{dialect_at, keys_at, names_at, sort_at, window_at}
+use Rattle.cmd_parse.specs.Params.{params_at}
+use Rattle.cmd_parse.specs.Words.{Word, Read, fault, number_at}
+use Rattle.cmd_parse.specs.declared.option_names.SearchOption.{SearchOption}
+use Rattle.cmd_parse.specs.declared.option_names.SearchOption.TheVariants as option
+use Rattle.cmd_parse.specs.declared.stop.Cause.TheVariants.{Syntax, OutOfScope}
+use Rattle.cmd_parse.specs.declared.stop.Stop.{Stop}
 
--- What a search asks (RediSearch, FT.SEARCH).
-pub record Searching : Type 0 where
-  pub index : List ℕ
-  pub query : List ℕ
-  -- whether documents are shown by their keys alone
-  pub no_content : Bool
-  -- the values of the query's parameters
-  pub params : List Param
+-- TIMEOUT, DIALECT and VERBATIM have no effect.
+abbrev pub timeout_at : Given → List Word → Read Given
+timeout_at given words = number_at words >>= λ n. Ok (record given { timeout = true }, n.1)
 
--- whether NOCONTENT comes next
-abbrev pub is_no_content : List (List ℕ) → Bool
-is_no_content [] = false
-is_no_content (option ∷ _) = is_name option (codes "NOCONTENT")
+abbrev pub with_dialect_at : Given → List Word → Read Given
+with_dialect_at given words = dialect_at words >>= λ n. Ok (record given { dialect = true }, n.1)
 
--- the parameters that words give, a name and its value in turn
-abbrev pub params_of : List (List ℕ) → List Param
-params_of (name ∷ value ∷ words) = record { name = name; value = value } ∷ params_of words
-params_of _ = []
+abbrev pub return_at : Given → List Word → Read Given
+return_at given words = names_at words >>= λ names. Ok (record given { fields = Some names.0 }, names.1)
 
--- whether a number is that of the words behind it, which are names and values in turn
-abbrev pub counts_pairs : Option ℤ → ℕ → Bool
-counts_pairs None number = false
-counts_pairs (Some n) number = int_eq n (pos number) && (number % 2 == 0)
+abbrev pub in_keys_at : Given → List Word → Read Given
+in_keys_at given words = keys_at words >>= λ keys. Ok (record given { keys = Some keys.0 }, keys.1)
 
--- The first word that repeats a name, by its number: the names before are given, and the next name is word `at`.
-abbrev pub first_repeat : ℕ → List (List ℕ) → List Param → Option ℕ
-first_repeat at before [] = None
-first_repeat at before (param ∷ params) =
-    if list_any (bytes_eq param.name) before then Some at else first_repeat (at + 2) (param.name ∷ before) params
+-- a filter goes behind those before
+abbrev pub with_filter_at : ℕ → Given → List Word → Read Given
+with_filter_at total given words = filter_at total words >>= λ filter. Ok (record given { filters = given.filters ++ filter.0 ∷ [] }, filter.1)
 
--- the parameters, where no word repeats a name
-abbrev pub unless_repeated : Option ℕ → List Param → Result (List Param) CmdFault
-unless_repeated None params = Ok params
-unless_repeated (Some at) params = Err (Syntax at)
+abbrev pub sort_by_at : ℕ → Given → List Word → Read Given
+sort_by_at total given words = sort_at total words >>= λ sort. Ok (record given { sort = Some sort.0 }, sort.1)
 
--- whether words are PARAMS, the number of the words that follow, and these
-abbrev pub are_params : List ℕ → List ℕ → List (List ℕ) → Bool
-are_params option count words = is_name option (codes "PARAMS") && counts_pairs (int_of count) (length words)
+abbrev pub limit_at : Given → List Word → Read Given
+limit_at given words = window_at words >>= λ window. Ok (record given { window = Some window.0 }, window.1)
 
-abbrev pub gives_params : List (List ℕ) → Bool
-gives_params [] = false
-gives_params (option ∷ []) = false
-gives_params (option ∷ count ∷ words) = are_params option count words
+abbrev pub with_params_at : Given → List Word → Read Given
+with_params_at given words = params_at words >>= λ params. Ok (record given { params = Some params.0 }, params.1)
 
--- whether the words behind the query give parameters, in a form that is built
-abbrev pub has_params : List (List ℕ) → Bool
-has_params words = if is_no_content words then gives_params (drop 1 words) else gives_params words
+-- An option's words, behind its name. `from` are the words from the name on, and the command has `total` words.
+unfoldable pub option_with : ℕ → SearchOption → Given → List Word → List Word → Read Given
+option_with total option.NoContent given from words = Ok (record given { no_content = true }, words)
+option_with total option.Verbatim given from words = Ok (record given { verbatim = true }, words)
+option_with total option.Timeout given from words = timeout_at given words
+option_with total option.Dialect given from words = with_dialect_at given words
+option_with total option.Return given from words = return_at given words
+option_with total option.InKeys given from words = in_keys_at given words
+option_with total option.Filter given from words = with_filter_at total given words
+option_with total option.SortBy given from words = sort_by_at total given words
+option_with total option.Limit given from words = limit_at given words
+option_with total option.Params given from words = with_params_at given words
+option_with total option.LeftOut given from words = fault OutOfScope from
+option_with total option.Other given from words = fault Syntax from
 
--- The parameters that these words give, of which the first is word `at` of the command: no words, or PARAMS, the number
--- of the words that follow, and these. Nothing else is built.
-abbrev pub params_at : ℕ → List (List ℕ) → Result (List Param) CmdFault
-params_at at [] = Ok []
-params_at at (option ∷ []) = Err NotBuilt
-params_at at (option ∷ count ∷ words) =
-    if are_params option count words
-    then unless_repeated (first_repeat (at + 2) [] (params_of words)) (params_of words)
-    else Err NotBuilt
+-- one option behind others
+unfoldable pub option_at : ℕ → Given → List Word → Read Given
+option_at total given [] = fault Syntax []
+option_at total given (word ∷ words) =
+    if is_given given (option_of word) then fault Syntax (word ∷ words) else option_with total (option_of word) given (word ∷ words) words
 
--- the parameters that the words behind the query give, of which the first is word 3 of the command
-abbrev pub params_behind : List (List ℕ) → Result (List Param) CmdFault
-params_behind words = if is_no_content words then params_at 4 (drop 1 words) else params_at 3 words
+abbrev pub is_at_end : List Word → Bool
+is_at_end [] = true
+is_at_end (word ∷ words) = false
+
+-- options up to the end of a command of `total` words
+abbrev pub options_at : ℕ → List Word → Result Given Stop
+options_at total words = parts_at is_at_end (option_at total) nothing_given words >>= λ read. Ok read.0

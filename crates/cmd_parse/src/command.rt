@@ -66,6 +66,10 @@ pub enum CmdFault {
     Arity,
     /// A word's number, the command's name being 0.
     Syntax { at: u32 },
+    /// A number exceeds its limit.
+    Limit { at: u32 },
+    /// An option that is left out.
+    OutOfScope { at: u32 },
     NotInteger,
     BadDb,
     NotBuilt,
@@ -79,20 +83,22 @@ impl Display for CmdFault {
         match self {
             Self::Unknown => f.write_str("no command has this name"),
             Self::Arity => f.write_str("the command does not have this number of words"),
-            Self::Syntax { at } => misfit(f, *at),
+            Self::Syntax { at } => placed(f, *at, "fits no form of the command"),
+            Self::Limit { at } => placed(f, *at, "exceeds a limit"),
+            Self::OutOfScope { at } => placed(f, *at, "asks for what is not supported"),
             Self::NotInteger => f.write_str(
                 "the number of SELECT or the increment of HINCRBY is not a whole number of 64 bits",
             ),
             Self::BadDb => f.write_str("the only data base is 0"),
-            Self::NotBuilt => f.write_str("this form of the command is not built"),
+            Self::NotBuilt => f.write_str("the command is not built"),
             Self::Schema(fault) => fault.fmt(f),
             Self::NoMemory => f.write_str("out of memory"),
         }
     }
 }
 
-fn misfit<W: Write>(f: &mut Formatter<W>, at: u32) -> fmt::Result {
-    write!(f, "word {at} fits no form of the command")
+fn placed<W: Write>(f: &mut Formatter<W>, at: u32, what: &str) -> fmt::Result {
+    write!(f, "word {at} {what}")
 }
 
 impl From<NoMemory> for CmdFault {

@@ -1,12 +1,12 @@
 //! A command from its words, in the order of refusals: an unknown name, a command that is not built,
-//! a wrong number of words, a form that is not built, and the first fault of the words from the left.
+//! a wrong number of words, and the first fault of the words from the left.
 ghost use Rattle.std.specs.Prelude.{◌≡◌, ◌≢◌, ◌<◌, ◌≤◌, ◌+◌, [], length, drop, slice_index_or, Err, Ok, Some, IfOk, IsTrue, MatchResult};
 ghost use Rattle.cmd_parse.specs.Asking.{AreWords, IsAsked};
 ghost use Rattle.cmd_parse.specs.Commands.{form_of};
 ghost use Rattle.cmd_parse.specs.Lawful.{HasSerial, IsLawful, IsLawfulForm, LawfulNumber};
-ghost use Rattle.cmd_parse.specs.Read.{altered, created, first_fault, is_flush_word, plain, search, select_fault};
+ghost use Rattle.cmd_parse.specs.Read.{altered, created, first_fault, is_flush_word, plain, searched, select_fault};
 ghost use Rattle.cmd_parse.specs.Reading.{IsReading, asked_of, command_of};
-ghost use Rattle.cmd_parse.specs.Search.{has_params};
+ghost use Rattle.cmd_parse.specs.Searching.{search};
 ghost use Rattle.cmd_parse.specs.declared.command.CmdFault.TheVariants.{NoMemory};
 ghost use Rattle.ft_base.specs.Number.{int_of};
 ghost use Rattle.ft_base.specs.declared.limits.TheConstants.{MAX_WORDS};
@@ -19,8 +19,8 @@ use ft_base::{Boxed, Words, is_name, read_int};
 use ft_schema::{SchemaFault, read_alter, read_create};
 use std::alloc::Global;
 
-/// Reads a command. An index that it creates gets the serial. Only the words of a schema and a search's
-/// parameters are read with memory; all else is lent from the words.
+/// Reads a command. An index that it creates gets the serial. Only the words of a schema and the options
+/// of a search are read with memory; all else is lent from the words.
 pub fn read_command<'a>(
     alloc: Global,
     words: Words<'a>,
@@ -160,9 +160,9 @@ fn search<'a>(alloc: Global, words: &Words<'a>) -> Result<Command<'a>, CmdFault>
     requires number { 3 ≤ length words.now }
     requires limit { length words.now ≤ MAX_WORDS }
     ensures exact { MatchResult result
-        (λ command. search (drop 1 words.now) ≡ Ok (command_of command))
-        (λ fault. fault ≢ NoMemory → search (drop 1 words.now) ≡ Err fault) }
-    ensures memory { result ≡ Err NoMemory → IsTrue (has_params (drop 3 words.now)) }
+        (λ command. searched (search words.now) ≡ Ok (command_of command))
+        (λ fault. fault ≢ NoMemory → searched (search words.now) ≡ Err fault) }
+    ensures memory { result ≡ Err NoMemory → 4 ≤ length words.now }
     ensures lawful { IfOk result (λ command. IsLawful words.now (command_of command)) }
 {
     match read_search(alloc, words) {

@@ -16,7 +16,7 @@ use Rattle.ft_base.specs.declared.reply.Reply.{Reply}
 use Rattle.ft_base.specs.declared.reply.Reply.TheVariants.{Fault, Line, Number}
 use Rattle.std.specs.Str.{bytes_eq}
 use Rattle.cmd_parse.specs.Read.{Asked, Plain, CreateIndex, AlterIndex, Search, read}
-use Rattle.cmd_parse.specs.Search.{Searching}
+use Rattle.cmd_parse.specs.Searching.{Searching}
 use Rattle.cmd_parse.specs.declared.command.CmdFault.{CmdFault}
 use Rattle.cmd_parse.specs.declared.command.Verb.{Verb}
 use Rattle.cmd_parse.specs.declared.command.Verb.TheVariants.{Ping, Echo, Select, Quit, Hset, Hsetnx, Hget, Hmget, Hgetall, Hdel, Hlen, Hexists, Hincrby, Hkeys, Hvals, Del, Exists, TypeOf, Dbsize, Rename, Flushall, DropIndex, ListIndexes, Info, TagVals}
@@ -264,7 +264,7 @@ one-told laws def params end (Err stop) (Err f) (Err g) ka kb x y = ap (λ (f : 
 
 one-answered : Laws → (def : IndexDef) (what : Searching) (docs : List Doc) (a b : Reply) → IsAnswered def what docs a → IsAnswered def what docs b → a ≡ b
 one-answered laws def what docs a b x y =
-    x.same ∙ (ap (answer_reply what.no_content def docs) (one-told laws def what.params _ (lexemes what.query) x.answer y.answer x.read y.read x.text y.text) ∙ sym y.same)
+    x.same ∙ (ap (answer_reply what def docs) (one-told laws def what.params _ (lexemes what.query) x.answer y.answer x.read y.read x.text y.text) ∙ sym y.same)
 
 one-searched : Laws → (index : Option Defined) (what : Searching) (state : State) (a b : Outcome) → searched index what state a → searched index what state b → a.reply ≡ b.reply
 one-searched laws None what state a b x y = ap (λ (o : Outcome). o.reply) (x ∙ sym y)

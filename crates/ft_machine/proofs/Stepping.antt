@@ -9,7 +9,7 @@ use Rattle.cmd_parse.specs.Read.{Asked, read}
 use Rattle.cmd_parse.specs.Reading.{IsReading}
 use Rattle.cmd_parse.specs.Refusals.{refusal}
 use Rattle.cmd_parse.specs.declared.command.CmdFault.{CmdFault}
-use Rattle.cmd_parse.specs.declared.command.CmdFault.TheVariants.{Unknown, Arity, Syntax, NotInteger, BadDb, NotBuilt, Schema, NoMemory}
+use Rattle.cmd_parse.specs.declared.command.CmdFault.TheVariants.{Unknown, Arity, Syntax, Limit, OutOfScope, NotInteger, BadDb, NotBuilt, Schema, NoMemory}
 use Rattle.ft_machine.specs.Machine.{Outcome, State, answered, at_moment, wanting}
 use Rattle.ft_machine.specs.Step.{Answers, At, Does, Gives, MayWant, Told, given, last_number, outcomes, read_gives, words_give}
 
@@ -66,6 +66,8 @@ pub refused : (words : List (List ℕ)) (number : ℕ) (fault : CmdFault) (state
 refused words number Unknown state written is said = refused-by words number Unknown state written is said
 refused words number Arity state written is said = refused-by words number Arity state written is said
 refused words number (Syntax at) state written is said = refused-by words number (Syntax at) state written is said
+refused words number (Limit at) state written is said = refused-by words number (Limit at) state written is said
+refused words number (OutOfScope at) state written is said = refused-by words number (OutOfScope at) state written is said
 refused words number NotInteger state written is said = refused-by words number NotInteger state written is said
 refused words number BadDb state written is said = refused-by words number BadDb state written is said
 refused words number NotBuilt state written is said = refused-by words number NotBuilt state written is said

@@ -1,3 +1,4 @@
+pub mod Counted
 pub mod Definitions
 pub mod Determined
 pub mod History
@@ -7,6 +8,7 @@ pub mod Machine
 pub mod PlainCommands
 pub mod Reads
 pub mod Searching
+pub mod Shown
 pub mod Step
 pub mod TagValues
 pub mod Writes

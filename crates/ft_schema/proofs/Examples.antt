@@ -5,11 +5,12 @@ use Rattle.ft_base.specs.declared.definition.Field.{Field}
 use Rattle.ft_base.specs.declared.definition.FieldKind.{FieldKind}
 use Rattle.ft_base.specs.declared.definition.FieldKind.TheVariants.{Text, Tag, Numeric}
 use Rattle.ft_base.specs.declared.definition.IndexDef.{IndexDef}
+use Rattle.ft_base.specs.Reading.{parts_at}
 use Rattle.ft_schema.specs.declared.fault.SchemaFault.{SchemaFault}
 use Rattle.ft_schema.specs.declared.fault.SchemaFault.TheVariants.{BadOption, BadKind, DuplicateField, BadNumber, OutOfScope}
 use Rattle.ft_schema.specs.declared.fault.Cause.TheVariants as causes
 use Rattle.ft_schema.specs.Names.{Word, index_option_of, kind_of, field_option_of}
-use Rattle.ft_schema.specs.Reading.{fault, count_with, weight_at, parts_at}
+use Rattle.ft_schema.specs.Reading.{fault, count_with, weight_at}
 use Rattle.ft_schema.specs.Options.{option_at, option_with}
 use Rattle.ft_schema.specs.Fields.{kind_at, field_option_at, field_option_with, field_options_at, is_past_options, field_at, fields_at}
 use Rattle.ft_schema.specs.Schema.{index_at, create, added_at, alter, default_stops}

@@ -5,12 +5,12 @@ use Rattle.std.proofs.lemmas.Bool.{false≢true}
 use Rattle.ft_base.specs.Kinds.{is_text}
 use Rattle.ft_base.specs.declared.definition.FieldKind.{FieldKind}
 use Rattle.ft_base.specs.declared.definition.FieldKind.TheVariants as indexed
+use Rattle.ft_base.proofs.PartsLaws.{Reads, begins, goes_on, ended}
 use Rattle.ft_schema.specs.declared.field_options.FieldOptions.{FieldOptions}
 use Rattle.ft_schema.specs.Fields.{no_field_options, is_at_unf, field_option_at, field_option_with, is_past_options, field_options_at, kind_by}
 use Rattle.ft_schema.specs.Names.{Word, field_option_of}
 use Rattle.ft_schema.specs.Reading.{Read}
 use Rattle.ft_schema.specs.Spelling.{option_words, sortable_words, kind_option_words}
-use Rattle.ft_schema.proofs.Parts.{Reads, begins, goes_on, ended}
 
 -- a kind as its word alone gives it
 abbrev pub bare : FieldKind → FieldKind

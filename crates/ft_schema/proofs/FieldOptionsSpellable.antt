@@ -8,6 +8,7 @@ use Rattle.ft_base.specs.Weight.{is_weight}
 use Rattle.ft_base.proofs.ReadingLaws.{both}
 use Rattle.ft_base.specs.declared.definition.FieldKind.{FieldKind}
 use Rattle.ft_base.specs.declared.definition.FieldKind.TheVariants as indexed
+use Rattle.ft_base.proofs.PartsLaws.{all_keep}
 use Rattle.ft_schema.specs.declared.fault.Cause.TheVariants.{BadOption, BadNumber}
 use Rattle.ft_schema.specs.declared.fault.Stop.{Stop}
 use Rattle.ft_schema.specs.declared.field_options.FieldOptions.{FieldOptions}
@@ -17,7 +18,7 @@ use Rattle.ft_schema.specs.Fields.{no_field_options, has_field_option, separator
 use Rattle.ft_schema.specs.Names.{Word, is_left_out_field_option, field_option_of}
 use Rattle.ft_schema.specs.Reading.{Read, fault, weight_at}
 use Rattle.ft_schema.proofs.LawfulLaws.{is_ok_of}
-use Rattle.ft_schema.proofs.Steps.{read_as, not_refused, all_keep, ended_so}
+use Rattle.ft_schema.proofs.Steps.{read_as, not_refused, ended_so}
 
 abbrev answer : FieldOptions × List Word → Read FieldOptions
 answer read = Ok read
@@ -161,7 +162,7 @@ field_options-say kind words read e = record {
         → ((given : FieldOptions) (from : List Word) (to : FieldOptions × List Word) → P given from
         → field_option_at k given from ≡ Ok to → P to.0 to.1)
         → P no_field_options words → field_options_at k words ≡ Ok read → P read.0 read.1
-    kept P k keeps p e = all_keep FieldOptions P (is_past_options k) (field_option_at k) keeps no_field_options words read p e
+    kept P k keeps p e = all_keep P (is_past_options k) (field_option_at k) keeps no_field_options words read p e
 
     by_kind : (k : FieldKind) → field_options_at k words ≡ Ok read → is_numeric k ≡ true → IsOpen read.0 read.1
     by_kind indexed.Text e numeric = absurd (false≢true numeric)

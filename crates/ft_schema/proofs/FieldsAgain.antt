@@ -11,6 +11,7 @@ use Rattle.ft_base.specs.Names.{is_name}
 use Rattle.ft_base.specs.declared.definition.Field.{Field}
 use Rattle.ft_base.specs.declared.definition.FieldKind.{FieldKind}
 use Rattle.ft_base.specs.declared.definition.FieldKind.TheVariants as indexed
+use Rattle.ft_base.proofs.PartsLaws.{Reads, begins, goes_on, ended}
 use Rattle.ft_schema.specs.declared.fault.Cause.TheVariants.{DuplicateField, TooManyFields}
 use Rattle.ft_schema.specs.declared.names.FieldOption.{FieldOption}
 use Rattle.ft_schema.specs.FieldAliases.{field_aliases}
@@ -23,7 +24,6 @@ use Rattle.ft_schema.specs.Spellable.{ends_with_sortable, can_follow, can_go_on,
 use Rattle.ft_schema.specs.Spelling.{option_words, sortable_words, kind_word, kind_option_words, field_option_words, field_words}
 use Rattle.ft_schema.proofs.FieldOptionsAgain.{bare, options_of, kind_again, behind_sortable, options_again}
 use Rattle.ft_schema.proofs.LawfulLaws.{Admits, Follows}
-use Rattle.ft_schema.proofs.Parts.{Reads, begins, goes_on, ended}
 use Rattle.ft_schema.proofs.Steps.{read_as, reads_on}
 
 -- whether these words may stand behind a field

@@ -5,7 +5,7 @@ use Rattle.std.specs.List.{AllByRecursion}
 use Rattle.std.proofs.lemmas.Bool.{true≢false, and_from}
 use Rattle.ft_base.specs.Kinds.{is_numeric}
 use Rattle.ft_base.specs.Names.{is_name}
-use Rattle.ft_base.specs.Reading.{◌>>=◌}
+use Rattle.ft_base.specs.Reading.{◌>>=◌, parts_in, parts_at}
 use Rattle.ft_base.proofs.ReadingLaws.{both}
 use Rattle.ft_base.specs.declared.definition.Field.{Field}
 use Rattle.ft_base.specs.declared.definition.FieldKind.{FieldKind}
@@ -14,7 +14,7 @@ use Rattle.ft_schema.specs.declared.field_options.FieldOptions.{FieldOptions}
 use Rattle.ft_schema.specs.declared.names.FieldOption.{FieldOption}
 use Rattle.ft_schema.specs.Fields.{alias_at, admitted, kind_at, kind_admitted, is_past_options, field_options_at, kind_by, field_by, field_at, next_field_at, is_at_end, fields_at}
 use Rattle.ft_schema.specs.Names.{Word, field_option_of}
-use Rattle.ft_schema.specs.Reading.{Read, parts_in, parts_at}
+use Rattle.ft_schema.specs.Reading.{Read}
 use Rattle.ft_schema.specs.Spellable.{ends_with_sortable, can_follow, can_go_on, AreApart, IsUnfSortable, AreSpellable}
 use Rattle.ft_schema.proofs.FieldOptionsSpellable.{OptionsSay, field_options-say}
 use Rattle.ft_schema.proofs.FieldsAgain.{can_stand}

@@ -11,7 +11,7 @@ use Rattle.ft_base.specs.declared.definition.Field.{Field}
 use Rattle.ft_base.specs.declared.definition.FieldKind.{FieldKind}
 use Rattle.ft_base.specs.declared.definition.FieldKind.TheVariants as indexed
 use Rattle.ft_base.specs.declared.definition.IndexDef.{IndexDef}
-use Rattle.ft_base.specs.Reading.{◌>>=◌}
+use Rattle.ft_base.specs.Reading.{◌>>=◌, parts_in, parts_at}
 use Rattle.ft_base.proofs.ReadingLaws.{both}
 use Rattle.ft_schema.specs.declared.fault.Cause.TheVariants.{BadOption, DuplicateField, TooManyFields}
 use Rattle.ft_schema.specs.declared.fault.SchemaFault.{SchemaFault}
@@ -20,7 +20,7 @@ use Rattle.ft_schema.specs.Limits.{most_fields, most_texts}
 use Rattle.ft_schema.specs.declared.field_options.FieldOptions.{FieldOptions}
 use Rattle.ft_schema.specs.FieldAliases.{field_aliases}
 use Rattle.ft_schema.specs.Names.{Word}
-use Rattle.ft_schema.specs.Reading.{Read, fault, parts_in, parts_at}
+use Rattle.ft_schema.specs.Reading.{Read, fault}
 use Rattle.ft_schema.specs.Fields.{text_count, has_alias, alias_at, admitted, kind_at, kind_admitted, field_options_at, kind_by, field_by, field_at, next_field_at, is_at_end, fields_at}
 use Rattle.ft_base.specs.Kinds.{is_text}
 use Rattle.ft_schema.specs.Lawful.{IsLawful}

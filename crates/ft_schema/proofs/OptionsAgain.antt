@@ -3,6 +3,7 @@ use Rattle.std.proofs.Common.{◌≡◌, ◌<◌, ◌≤◌, ◌^◌, Bool, true
 use Rattle.std.specs.Prelude.{codes}
 use Rattle.std.specs.Fmt.{decimal}
 use Rattle.std.specs.List.{AllByRecursion}
+use Rattle.ft_base.proofs.PartsLaws.{Reads, begins, goes_on, ended}
 use Rattle.ft_schema.specs.declared.index_options.IndexOptions.{IndexOptions}
 use Rattle.ft_schema.specs.Names.{Word, index_option_of}
 use Rattle.ft_schema.specs.Options.{no_options, option_with, option_at, is_at_schema, options_at}
@@ -10,7 +11,6 @@ use Rattle.ft_schema.specs.Reading.{Read, count_at, spelled}
 use Rattle.ft_schema.specs.Spellable.{IsLower}
 use Rattle.ft_schema.specs.Spelling.{counted, prefix_words}
 use Rattle.ft_schema.proofs.CountLaws.{count_again}
-use Rattle.ft_schema.proofs.Parts.{Reads, begins, goes_on, ended}
 use Rattle.ft_schema.proofs.Steps.{read_as, reads_on}
 
 -- the prefixes, where there are any

@@ -10,6 +10,7 @@ use Rattle.std.proofs.lemmas.Slice.Eq.{bytes_eq-Decides}
 use Rattle.std.proofs.lemmas.Str.Ascii.{lowercase-lowercase}
 use Rattle.ft_base.specs.Names.{is_name}
 use Rattle.ft_base.proofs.ReadingLaws.{both}
+use Rattle.ft_base.proofs.PartsLaws.{all_keep}
 use Rattle.ft_schema.specs.declared.fault.Cause.TheVariants.{BadOption, OutOfScope}
 use Rattle.ft_schema.specs.declared.index_options.IndexOptions.{IndexOptions}
 use Rattle.ft_schema.specs.declared.names.IndexOption.{IndexOption}
@@ -21,7 +22,7 @@ use Rattle.ft_schema.specs.Schema.{default_stops}
 use Rattle.ft_schema.specs.Spellable.{IsLower}
 use Rattle.ft_schema.proofs.CountLaws.{count-fits}
 use Rattle.ft_schema.proofs.LawfulLaws.{is_ok_of}
-use Rattle.ft_schema.proofs.Steps.{read_as, not_refused, all_keep}
+use Rattle.ft_schema.proofs.Steps.{read_as, not_refused}
 
 -- what the prefixes and the stop words are like, given or not
 pub record CanBeSaid (prefixes stops : Option (List Word)) : Type 0 where
@@ -117,4 +118,4 @@ one-holds given (word ∷ words) read h e =
 
 pub options-hold : (words : List Word) (read : IndexOptions × List Word) → options_at words ≡ Ok read → Holds read.0
 options-hold words read e =
-    all_keep IndexOptions (λ given rest. Holds given) is_at_schema option_at one-holds no_options words read none-hold e
+    all_keep (λ given rest. Holds given) is_at_schema option_at one-holds no_options words read none-hold e

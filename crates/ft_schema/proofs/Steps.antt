@@ -1,10 +1,10 @@
 -- Reading on, step by step.
 use Rattle.std.proofs.Common.{◌≡◌, ℕ, zero, suc, ◌<◌, Bool, true, false, cond, List, length, Result, Ok, ap, subst, refl, ◌∙◌, arith}
-use Rattle.ft_base.specs.Reading.{◌>>=◌}
+use Rattle.ft_base.specs.Reading.{◌>>=◌, parts_in, parts_at}
 use Rattle.ft_base.proofs.ReadingLaws.{both}
 use Rattle.ft_schema.specs.declared.fault.Cause.{Cause}
 use Rattle.ft_schema.specs.Names.{Word}
-use Rattle.ft_schema.specs.Reading.{Read, fault, parts_in, parts_at}
+use Rattle.ft_schema.specs.Reading.{Read, fault}
 use Rattle.ft_schema.proofs.LawfulLaws.{is_ok_of}
 
 -- what was read, and the words after it
@@ -21,31 +21,6 @@ pub not_refused : {A : Type 0} (refused : Bool) (cause : Cause) (from : List Wor
     → cond refused (fault cause from) reading ≡ Ok read → reading ≡ Ok read
 not_refused true cause from reading read e = absurd (cc)
 not_refused false cause from reading read e = e
-
--- what holds at first, and is kept by each part, holds of all that is read
-keep_in : (A : Type 0) (P : A → List Word → Type 0) (ends : List Word → Bool) (part : A → List Word → Read A)
-    → ((before : A) (words : List Word) (read : A × List Word) → P before words → part before words ≡ Ok read → P read.0 read.1)
-    → (n : ℕ) (before : A) (words : List Word) (read : A × List Word) → P before words
-    → parts_in ends part n before words ≡ Ok read → P read.0 read.1
-keep_in A P ends part keeps zero before words read p e = subst (λ (r : A × List Word). P r.0 r.1) (is_ok_of e) p
-keep_in A P ends part keeps (suc n) before words read p e =
-    by_end (λ after rest. keep_in A P ends part keeps n after rest read) (ends words) e
-  where
-    by_end : ((after : A) (rest : List Word) → P after rest → parts_in ends part n after rest ≡ Ok read → P read.0 read.1)
-        → (end : Bool)
-        → cond {A = Read A} end (Ok (before, words)) (part before words >>= λ x. parts_in ends part n x.0 x.1) ≡ Ok read
-        → P read.0 read.1
-    by_end others true e = subst (λ (r : A × List Word). P r.0 r.1) (is_ok_of e) p
-    by_end others false e =
-        let x = both (part before words) _ _ e in
-        others x.read.0 x.read.1 (keeps before words x.read p x.first_is) x.next_is
-
-pub all_keep : (A : Type 0) (P : A → List Word → Type 0) (ends : List Word → Bool) (part : A → List Word → Read A)
-    → ((before : A) (words : List Word) (read : A × List Word) → P before words → part before words ≡ Ok read → P read.0 read.1)
-    → (before : A) (words : List Word) (read : A × List Word) → P before words
-    → parts_at ends part before words ≡ Ok read → P read.0 read.1
-unfolding parts_at
-all_keep A P ends part keeps before words read p e = keep_in A P ends part keeps (suc (length words)) before words read p e
 
 -- where each part takes a word at least, reading goes on to the end
 ends_in : (A : Type 0) (ends : List Word → Bool) (part : A → List Word → Read A)

@@ -15,8 +15,8 @@ use Rattle.ft_schema.specs.declared.field_options.FieldOptions.{FieldOptions}
 use Rattle.ft_schema.specs.Limits.{most_fields, most_texts}
 use Rattle.ft_schema.specs.Names.{Word, kind_of, field_option_of}
 use Rattle.ft_base.specs.Names.{is_name}
-use Rattle.ft_base.specs.Reading.{◌>>=◌}
-use Rattle.ft_schema.specs.Reading.{Read, fault, weight_at, parts_at}
+use Rattle.ft_base.specs.Reading.{◌>>=◌, parts_at}
+use Rattle.ft_schema.specs.Reading.{Read, fault, weight_at}
 
 -- how many TEXT fields there are
 abbrev pub text_count : List Field → ℕ

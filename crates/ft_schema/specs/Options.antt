@@ -6,8 +6,8 @@ use Rattle.ft_schema.specs.declared.names.IndexOption.TheVariants.{On, Prefix, S
 use Rattle.ft_schema.specs.declared.index_options.IndexOptions.{IndexOptions}
 use Rattle.ft_schema.specs.Names.{Word, index_option_of}
 use Rattle.ft_base.specs.Names.{is_name}
-use Rattle.ft_base.specs.Reading.{◌>>=◌}
-use Rattle.ft_schema.specs.Reading.{Read, fault, word_at, count_at, weight_at, spelled, parts_at}
+use Rattle.ft_base.specs.Reading.{◌>>=◌, parts_at}
+use Rattle.ft_schema.specs.Reading.{Read, fault, word_at, count_at, weight_at, spelled}
 
 -- no option yet
 abbrev pub no_options : IndexOptions

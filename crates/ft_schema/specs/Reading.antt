@@ -1,9 +1,8 @@
 -- Reading words from the left. Each reader answers what it read and the words after it, or the fault at which it stops.
-use Rattle.std.specs.Prelude.{ℕ, ℤ, pos, negsuc, zero, suc, List, [], ◌∷◌, length, Bool, ◌&&◌, nat_le, Option, Some, None, Result, Ok, Err, if◌then◌else◌}
+use Rattle.std.specs.Prelude.{ℕ, ℤ, pos, negsuc, List, [], ◌∷◌, length, Bool, ◌&&◌, nat_le, Option, Some, None, Result, Ok, Err, if◌then◌else◌}
 use Rattle.std.specs.Str.{str_to_ascii_lowercase}
 use Rattle.ft_base.specs.Number.{int_of}
 use Rattle.ft_base.specs.Weight.{is_weight}
-use Rattle.ft_base.specs.Reading.{◌>>=◌}
 use Rattle.ft_schema.specs.declared.fault.Cause.{Cause}
 use Rattle.ft_schema.specs.declared.fault.Cause.TheVariants.{BadOption, BadNumber}
 use Rattle.ft_schema.specs.declared.fault.Stop.{Stop}
@@ -42,13 +41,3 @@ spelled lower word = if lower then str_to_ascii_lowercase word else word
 unfoldable pub weight_at : List Word → Result (List Word) Stop
 weight_at [] = fault BadOption []
 weight_at (word ∷ words) = if is_weight word then Ok words else fault BadNumber (word ∷ words)
-
--- One part after another, until the words say that no part follows. Each takes a word at least, so as many steps as
--- there are words suffice.
-abbrev pub parts_in : {A : Type 0} → (List Word → Bool) → (A → List Word → Read A) → ℕ → A → List Word → Read A
-parts_in ends part zero before words = Ok (before, words)
-parts_in ends part (suc n) before words =
-    if ends words then Ok (before, words) else (part before words >>= λ read. parts_in ends part n read.0 read.1)
-
-unfoldable pub parts_at : {A : Type 0} → (List Word → Bool) → (A → List Word → Read A) → A → List Word → Read A
-parts_at ends part before words = parts_in ends part (suc (length words)) before words

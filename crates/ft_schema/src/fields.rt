@@ -2,7 +2,7 @@
 ghost use Rattle.std.specs.Prelude.{◌≡◌, ◌<◌, ◌≤◌, [], false, length, Err, None, IfOk, IfSome};
 ghost use Rattle.ft_schema.specs.Gives.{Gives, GivesSome};
 ghost use Rattle.ft_schema.specs.Fields.{has_alias, alias_at, admitted, kind_with, kind_at, kind_admitted};
-ghost use Rattle.ft_schema.specs.Reading.{parts_at};
+ghost use Rattle.ft_base.specs.Reading.{parts_at};
 ghost use Rattle.ft_schema.specs.Fields.{kind_by, field_by, field_at, next_field_at, is_at_end, fields_at};
 
 use crate::fault::{Cause, Stop};

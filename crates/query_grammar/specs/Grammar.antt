@@ -9,13 +9,14 @@ use Rattle.std.specs.Prelude.{ℕ, List, [], ◌∷◌, ◌++◌, Bool, true, fa
 use Rattle.std.specs.List.{list_all, list_any}
 use Rattle.std.specs.Str.{bytes_eq}
 use Rattle.ft_base.specs.declared.query.Param.{Param}
+use Rattle.field_text.specs.Bounds.{bound_of}
 use Rattle.query_lex.specs.declared.lexeme.Lexeme.{Lexeme}
 use Rattle.query_lex.specs.declared.lexeme.LexKind.{LexKind}
 use Rattle.query_lex.specs.declared.lexeme.LexKind.TheVariants as kinds
 use Rattle.query_lex.specs.declared.lexeme.Sign.{Sign}
 use Rattle.query_lex.specs.declared.lexeme.Sign.TheVariants as signs
 use Rattle.query_grammar.specs.Form.{Form, Edge, Pair, Single, EmptyGroup, Group, Denied, Optional, Named, Range, Tags, With, Both, Side, Either}
-use Rattle.query_grammar.specs.Values.{bound_of, fits_attribute, is_value, passes, value_of}
+use Rattle.query_grammar.specs.Values.{fits_attribute, is_value, passes, value_of}
 use Rattle.std.specs.Option.{is_some}
 
 -- a sign, and a parameter, at an offset

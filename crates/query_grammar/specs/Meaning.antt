@@ -1,6 +1,6 @@
 -- The tree that a form gives, once stop words are cut. A part gives the list of what is left of it: nothing where it is
 -- cut, several where it is parts side by side, or sides of a union.
-use Rattle.std.specs.Prelude.{ℕ, ℤ, pos, negsuc, ◌+ℤ◌, ◌-ℤ◌, ◌-◌, ◌^◌, List, [], ◌∷◌, ◌++◌, map, Bool, true, false, ◌||◌, int_le, Option, Some, None, position, slice_get, if◌then◌else◌, codes}
+use Rattle.std.specs.Prelude.{ℕ, ℤ, List, [], ◌∷◌, ◌++◌, map, Bool, true, false, ◌||◌, int_le, Option, Some, None, position, slice_get, if◌then◌else◌, codes}
 use Rattle.std.specs.List.{list_any, filter_map}
 use Rattle.std.specs.Option.{option_and_then, unwrap_or}
 use Rattle.std.specs.Str.{bytes_eq}
@@ -20,9 +20,11 @@ use Rattle.query_lex.specs.declared.lexeme.LexKind.TheVariants as kinds
 use Rattle.query_lex.specs.declared.lexeme.Sign.TheVariants as signs
 use Rattle.token_text.specs.Tokens.{is_stop, lowered, tokens}
 use Rattle.token_text.specs.declared.token.Token.{Token}
+use Rattle.field_text.specs.Bounds.{bound_of, greatest_number, high_of, least_number, low_of}
+use Rattle.field_text.specs.declared.bounds.Bound.{Bound}
 use Rattle.query_grammar.specs.Form.{Form, Edge, Pair, Single, EmptyGroup, Group, Denied, Optional, Named, Range, Tags, With, Both, Side, Either}
 use Rattle.query_grammar.specs.Shape.{Shape, One, Several, Else, shape_of}
-use Rattle.query_grammar.specs.Values.{Bound, Least, Greatest, Exactly, bound_of, flag_of, param_of, slop_of, value_of}
+use Rattle.query_grammar.specs.Values.{flag_of, param_of, slop_of, value_of}
 
 -- What is left of parts side by side, and of the sides of a union. One that is alone stands for itself.
 abbrev pub all_of : List Query → List Query
@@ -86,18 +88,14 @@ atom_parts stops params fields (kinds.Quote text) = quote_parts stops fields tex
 atom_parts stops params fields (kinds.Sign signs.Star) = tree.All ∷ []
 atom_parts stops params fields other = []
 
--- The least number that a range begins with, and the greatest that it ends with. An infinite end is never left out.
-abbrev pub low_of : Bool → Option Bound → ℤ
-low_of excluded None = negsuc (2 ^ 63 - 1)
-low_of excluded (Some Least) = negsuc (2 ^ 63 - 1)
-low_of excluded (Some Greatest) = pos (2 ^ 63 - 1)
-low_of excluded (Some (Exactly n)) = if excluded then n +ℤ pos 1 else n
+-- The ends of a range. One without a value, which has a fault of its own, is open.
+abbrev pub range_low : Bool → Option Bound → ℤ
+range_low excluded None = least_number
+range_low excluded (Some bound) = low_of excluded bound
 
-abbrev pub high_of : Bool → Option Bound → ℤ
-high_of excluded None = pos (2 ^ 63 - 1)
-high_of excluded (Some Least) = negsuc (2 ^ 63 - 1)
-high_of excluded (Some Greatest) = pos (2 ^ 63 - 1)
-high_of excluded (Some (Exactly n)) = if excluded then n -ℤ pos 1 else n
+abbrev pub range_high : Bool → Option Bound → ℤ
+range_high excluded None = greatest_number
+range_high excluded (Some bound) = high_of excluded bound
 
 abbrev pub edge_bound : List Param → Edge → Option Bound
 edge_bound params edge = option_and_then bound_of (value_of params edge.value.kind)
@@ -177,7 +175,7 @@ parts_of def params fields (Denied p a) = denied (parts_of def params fields a)
 parts_of def params fields (Optional p a) = optional (parts_of def params fields a)
 parts_of def params fields (Named p names a) = parts_of def params (fields_of def.fields names) a
 parts_of def params fields (Range p low high) =
-    range_of (first_of fields) (low_of low.excluded (edge_bound params low)) (high_of high.excluded (edge_bound params high)) ∷ []
+    range_of (first_of fields) (range_low low.excluded (edge_bound params low)) (range_high high.excluded (edge_bound params high)) ∷ []
 parts_of def params fields (Tags p ts) =
     tree.Tags (first_of fields) (map (λ (t : Lexeme). tag_part params (case_of (slice_get def.fields (first_of fields))) t.kind) ts) ∷ []
 parts_of def params fields (With a p pairs) = attributed params (is_quote a) pairs (parts_of def params fields a)

@@ -22,7 +22,7 @@ use Rattle.query_grammar.specs.Answer.{place_of}
 use Rattle.query_grammar.specs.Faults.{attribute_faults, faults_at, has_other, is_foreign, most_levels}
 use Rattle.query_grammar.specs.Form.{Edge, Pair}
 use Rattle.query_grammar.specs.Grammar.{Sort, Union, Inter, Unary, Part, Atom, has_name, is_atom, is_attribute, is_edge, is_field_name, is_tag}
-use Rattle.query_grammar.specs.Meaning.{all_of, any_of, atom_parts, attributed, case_of, denied, edge_bound, high_of, low_of, name_of, number_of_alias, optional, range_of, tag_part, union_of}
+use Rattle.query_grammar.specs.Meaning.{all_of, any_of, atom_parts, attributed, case_of, denied, edge_bound, name_of, number_of_alias, optional, range_high, range_low, range_of, tag_part, union_of}
 
 -- Why reading stops: the grammar goes no further at the first of these lexemes; or there is a fault, settled by the lexeme
 -- before these; or a fault before the first of these lexemes, at which the grammar goes no further.
@@ -247,7 +247,7 @@ module _ (def : IndexDef) (params : List Param) where
   edge_at ts = edge_with (next_sign ts) ts
 
   abbrev pub range_by : ℕ → Edge → Edge → Query
-  range_by field low high = range_of field (low_of low.excluded (edge_bound params low)) (high_of high.excluded (edge_bound params high))
+  range_by field low high = range_of field (range_low low.excluded (edge_bound params low)) (range_high high.excluded (edge_bound params high))
 
   abbrev pub closed_range : ℕ → Edge → Edge → Option Sign → Reader
   closed_range field low high (Some signs.RangeClose) ts = Ok (range_by field low high ∷ [], drop 1 ts)

@@ -1,11 +1,10 @@
--- Values within a query: those that a command's PARAMS give, the ends of a range, and the values of attributes.
-use Rattle.std.specs.Prelude.{ℕ, ℤ, pos, negsuc, ◌^◌, List, [], ◌∷◌, Bool, true, false, ◌||◌, nat_lt, codes, Option, Some, None, option_map, is_some, if◌then◌else◌}
+-- Values within a query: those that a command's PARAMS give, and the values of attributes.
+use Rattle.std.specs.Prelude.{ℕ, ℤ, pos, negsuc, ◌^◌, List, [], ◌∷◌, Bool, true, false, nat_lt, codes, Option, Some, None, is_some, if◌then◌else◌}
 use Rattle.std.specs.Str.{bytes_eq}
 use Rattle.ft_base.specs.Names.{is_name}
 use Rattle.ft_base.specs.Number.{int_of}
 use Rattle.ft_base.specs.Weight.{is_weight}
 use Rattle.ft_base.specs.declared.query.Param.{Param}
-use Rattle.field_text.specs.Numbers.{number_of}
 use Rattle.query_lex.specs.declared.lexeme.LexKind.{LexKind}
 use Rattle.query_lex.specs.declared.lexeme.LexKind.TheVariants as kinds
 
@@ -13,19 +12,6 @@ use Rattle.query_lex.specs.declared.lexeme.LexKind.TheVariants as kinds
 abbrev pub param_of : List Param → List ℕ → Option (List ℕ)
 param_of [] name = None
 param_of (param ∷ params) name = if bytes_eq name param.name then Some param.value else param_of params name
-
--- an end of a range: the least number of all, the greatest of all, or a number
-pub data Bound : Type 0 where
-  Least : Bound
-  Greatest : Bound
-  Exactly : ℤ → Bound
-
--- `inf`, `+inf` and `-inf` in any case, and numbers as NUMERIC fields have them
-abbrev pub bound_of : List ℕ → Option Bound
-bound_of text =
-    if is_name text (codes "inf") || is_name text (codes "+inf") then Some Greatest
-    else (if is_name text (codes "-inf") then Some Least
-    else option_map Exactly (number_of text))
 
 -- a slop: a whole number below 2^32 in its one spelling
 abbrev pub below_limit : Option ℤ → Option ℕ

@@ -1,21 +1,12 @@
 -- How contracts see the ends of ranges and the attributes that the code holds.
 use Rattle.std.specs.Prelude.{List, map, option_map}
 use Rattle.query_grammar.specs.Form as form
-use Rattle.query_grammar.specs.Values as values
 use Rattle.query_parse.specs.declared.blocks.Pair.{Pair}
-use Rattle.query_parse.specs.declared.ranges.Bound.{Bound}
-use Rattle.query_parse.specs.declared.ranges.Bound.TheVariants.{Least, Greatest, Exactly}
 use Rattle.query_parse.specs.declared.ranges.Edge.{Edge}
 
 -- an end of a range
 abbrev pub edge_of : Edge → form.Edge
 edge_of edge = record { excluded = edge.excluded; value = edge.value.now }
-
--- what a value says as an end
-abbrev pub seen_bound : Bound → values.Bound
-seen_bound Least = values.Least
-seen_bound Greatest = values.Greatest
-seen_bound (Exactly n) = values.Exactly n
 
 -- an attribute
 abbrev pub pair_of : Pair → form.Pair

@@ -1,12 +1,11 @@
 //! Ranges of numbers in their brackets.
-ghost use Rattle.std.specs.Prelude.{◌≡◌, ◌<◌, ◌≤◌, IfNone, IfOk, IfSome, length, option_map, negsuc, option_to_list, pos};
+ghost use Rattle.std.specs.Prelude.{◌≡◌, ◌<◌, ◌≤◌, IfNone, IfOk, IfSome, length, negsuc, option_to_list, pos};
 ghost use Rattle.ft_base.specs.declared.definition.IndexDef.{IndexDef};
 ghost use Rattle.query_grammar.specs.Grammar.{is_edge};
-ghost use Rattle.query_grammar.specs.Meaning.{edge_bound, high_of, low_of};
+ghost use Rattle.query_grammar.specs.Meaning.{edge_bound, range_high, range_low};
 ghost use Rattle.query_grammar.specs.Reading.{edge_at, range_at, range_by, range_target, value_at};
-ghost use Rattle.query_grammar.specs.Values.{bound_of};
 ghost use Rattle.query_parse.specs.Gives.{Gives};
-ghost use Rattle.query_parse.specs.Seen.{edge_of, seen_bound};
+ghost use Rattle.query_parse.specs.Seen.{edge_of};
 
 use crate::fields::{Needed, has_other};
 use crate::params::Params;
@@ -14,8 +13,8 @@ use crate::parser::Parser;
 use crate::stop::{Read, Stop};
 use crate::tokens::{behind, next_sign, place_of};
 use crate::values::{fault_at, is_value, value_of};
-use field_text::number;
-use ft_base::{Query, is_name};
+use field_text::{Bound, read_bound};
+use ft_base::Query;
 use query_grammar::QueryFault;
 use query_lex::{LexKind, Lexeme, Sign};
 
@@ -24,14 +23,6 @@ use query_lex::{LexKind, Lexeme, Sign};
 pub struct Edge<'a> {
     pub excluded: bool,
     pub value: &'a Lexeme,
-}
-
-/// What a value says as an end of a range.
-#[derive(Clone, Copy)]
-pub enum Bound {
-    Least,
-    Greatest,
-    Exactly(i64),
 }
 
 /// What is asked of a NUMERIC field, at the bracket behind its colon.
@@ -114,32 +105,16 @@ fn is_edge(params: &Params<'_>, kind: &LexKind) -> bool
         return false;
     }
     match value_of(params, kind) {
-        Some(value) => bound_of(value).is_some(),
+        Some(value) => read_bound(value).is_some(),
         None => true,
     }
 }
 
-/// An infinite end, or a number as NUMERIC fields have it.
-fn bound_of(value: &[u8]) -> Option<Bound>
-    ensures { option_map seen_bound result ≡ bound_of value.now }
-{
-    if is_name(value, b"inf") || is_name(value, b"+inf") {
-        Some(Bound::Greatest)
-    } else if is_name(value, b"-inf") {
-        Some(Bound::Least)
-    } else {
-        match number(value) {
-            Some(number) => Some(Bound::Exactly(number)),
-            None => None,
-        }
-    }
-}
-
 fn edge_bound(params: &Params<'_>, edge: &Edge<'_>) -> Option<Bound>
-    ensures { option_map seen_bound result ≡ edge_bound params.now (edge_of edge.now) }
+    ensures { result ≡ edge_bound params.now (edge_of edge.now) }
 {
     match value_of(params, &edge.value.kind) {
-        Some(value) => bound_of(value),
+        Some(value) => read_bound(value),
         None => None,
     }
 }
@@ -149,8 +124,8 @@ fn range_by(params: &Params<'_>, field: u16, low: &Edge<'_>, high: &Edge<'_>) ->
     ensures { (def : IndexDef)
         → result ≡ range_by def params.now field (edge_of low.now) (edge_of high.now) }
 {
-    let low = low_of(low.excluded, edge_bound(params, low));
-    let high = high_of(high.excluded, edge_bound(params, high));
+    let low = range_low(low.excluded, edge_bound(params, low));
+    let high = range_high(high.excluded, edge_bound(params, high));
     match (low, high) {
         (Some(low), Some(high)) if low <= high => Query::Range { field, low, high },
         _ => Query::Empty,
@@ -158,29 +133,23 @@ fn range_by(params: &Params<'_>, field: u16, low: &Edge<'_>, high: &Edge<'_>) ->
 }
 
 /// The least number of a range, if it has 64 bits.
-fn low_of(excluded: bool, bound: Option<Bound>) -> Option<i64>
-    ensures some { IfSome result (λ n. low_of excluded (option_map seen_bound bound) ≡ n) }
-    ensures none { IfNone result
-        (low_of excluded (option_map seen_bound bound) ≡ pos 9223372036854775808) }
+fn range_low(excluded: bool, bound: Option<Bound>) -> Option<i64>
+    ensures some { IfSome result (λ n. range_low excluded bound ≡ n) }
+    ensures none { IfNone result (range_low excluded bound ≡ pos 9223372036854775808) }
 {
     match bound {
-        Some(Bound::Exactly(number)) if excluded => number.checked_add(1),
-        Some(Bound::Exactly(number)) => Some(number),
-        Some(Bound::Greatest) => Some(i64::MAX),
-        Some(Bound::Least) | None => Some(i64::MIN),
+        Some(bound) => bound.low(excluded),
+        None => Some(i64::MIN),
     }
 }
 
 /// The greatest number of a range, if it has 64 bits.
-fn high_of(excluded: bool, bound: Option<Bound>) -> Option<i64>
-    ensures some { IfSome result (λ n. high_of excluded (option_map seen_bound bound) ≡ n) }
-    ensures none { IfNone result
-        (high_of excluded (option_map seen_bound bound) ≡ negsuc 9223372036854775808) }
+fn range_high(excluded: bool, bound: Option<Bound>) -> Option<i64>
+    ensures some { IfSome result (λ n. range_high excluded bound ≡ n) }
+    ensures none { IfNone result (range_high excluded bound ≡ negsuc 9223372036854775808) }
 {
     match bound {
-        Some(Bound::Exactly(number)) if excluded => number.checked_sub(1),
-        Some(Bound::Exactly(number)) => Some(number),
-        Some(Bound::Least) => Some(i64::MIN),
-        Some(Bound::Greatest) | None => Some(i64::MAX),
+        Some(bound) => bound.high(excluded),
+        None => Some(i64::MAX),
     }
 }

@@ -1,9 +1,10 @@
 use Rattle.std.proofs.Common.{◌≡◌, true, false, List, length, ap, rules, arith}
 use Rattle.ft_base.specs.declared.definition.FieldKind.{FieldKind}
+use Rattle.ft_base.proofs.PartsLaws.{Reads, begins, goes_on, ended}
 use Rattle.ft_schema.specs.declared.field_options.FieldOptions.{FieldOptions}
 use Rattle.ft_schema.specs.Names.{Word}
 use Rattle.ft_schema.specs.Fields.{no_field_options, is_past_options, field_option_at, field_options_at}
-use Rattle.ft_schema.proofs.Parts.{Reads, begins, goes_on, stops_so, ended}
+use Rattle.ft_schema.proofs.Parts.{stops_so}
 use Rattle.ft_schema.proofs.field_options.options.Goals as goal
 
 -- reading begins with no option at all words

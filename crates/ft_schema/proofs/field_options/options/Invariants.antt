@@ -1,6 +1,6 @@
 use Rattle.std.proofs.Common.{◌≤◌, length}
+use Rattle.ft_base.proofs.PartsLaws.{Reads}
 use Rattle.ft_schema.specs.Fields.{is_past_options, field_option_at, field_options_at}
-use Rattle.ft_schema.proofs.Parts.{Reads}
 use Rattle.ft_schema.proofs.field_options.options.Given as goal
 
 -- what is read from here is what is read of all words

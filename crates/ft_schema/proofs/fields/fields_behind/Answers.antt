@@ -1,9 +1,10 @@
 use Rattle.std.proofs.Common.{◌≡◌, true, false, List, [], rules}
 use Rattle.ft_base.specs.declared.definition.Field.{Field}
+use Rattle.ft_base.specs.Reading.{parts_at}
 use Rattle.ft_schema.specs.Names.{Word}
-use Rattle.ft_schema.specs.Reading.{parts_at}
 use Rattle.ft_schema.specs.Fields.{is_at_end, next_field_at}
-use Rattle.ft_schema.proofs.Parts.{Reads, begins, goes_on, stops_so, ended}
+use Rattle.ft_base.proofs.PartsLaws.{Reads, begins, goes_on, ended}
+use Rattle.ft_schema.proofs.Parts.{stops_so}
 use Rattle.ft_schema.proofs.fields.fields_behind.Goals as goal
 
 -- reading begins with no field at all words

@@ -1,7 +1,7 @@
 use Rattle.std.proofs.Common.{[], length}
-use Rattle.ft_schema.specs.Reading.{parts_at}
+use Rattle.ft_base.specs.Reading.{parts_at}
 use Rattle.ft_schema.specs.Fields.{is_at_end, next_field_at}
-use Rattle.ft_schema.proofs.Parts.{Reads}
+use Rattle.ft_base.proofs.PartsLaws.{Reads}
 use Rattle.ft_schema.proofs.fields.fields_behind.Given as goal
 
 -- what is read from here is what is read of all words

@@ -2,7 +2,8 @@ use Rattle.std.proofs.Common.{◌≡◌, true, false, List, rules}
 use Rattle.ft_schema.specs.declared.index_options.IndexOptions.{IndexOptions}
 use Rattle.ft_schema.specs.Names.{Word}
 use Rattle.ft_schema.specs.Options.{no_options, is_at_schema, option_at, options_at}
-use Rattle.ft_schema.proofs.Parts.{Reads, begins, goes_on, stops_so, ended}
+use Rattle.ft_base.proofs.PartsLaws.{Reads, begins, goes_on, ended}
+use Rattle.ft_schema.proofs.Parts.{stops_so}
 use Rattle.ft_schema.proofs.index_options.options.Goals as goal
 
 -- reading begins with no option at all words

@@ -1,6 +1,6 @@
 use Rattle.std.proofs.Common.{length}
 use Rattle.ft_schema.specs.Options.{is_at_schema, option_at, options_at}
-use Rattle.ft_schema.proofs.Parts.{Reads}
+use Rattle.ft_base.proofs.PartsLaws.{Reads}
 use Rattle.ft_schema.proofs.index_options.options.Given as goal
 
 -- what is read from here is what is read of all words

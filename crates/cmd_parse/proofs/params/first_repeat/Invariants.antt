@@ -1,5 +1,5 @@
 use Rattle.cmd_parse.proofs.PairLaws.{Knows}
-use Rattle.cmd_parse.proofs.search.first_repeat.Given as goal
+use Rattle.cmd_parse.proofs.params.first_repeat.Given as goal
 
 -- the names so far are known, and none of them came twice
 abbrev pub invariant-loop-place : goal.invariant-loop-place

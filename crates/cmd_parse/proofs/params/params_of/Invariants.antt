@@ -1,6 +1,6 @@
 use Rattle.std.proofs.Common.{◌≡◌, take}
-use Rattle.cmd_parse.specs.Search.{params_of}
-use Rattle.cmd_parse.proofs.search.params_of.Given as goal
+use Rattle.cmd_parse.specs.Params.{params_of}
+use Rattle.cmd_parse.proofs.params.params_of.Given as goal
 
 -- the parameters so far are copied
 abbrev pub invariant-loop-place : goal.invariant-loop-place

@@ -1,6 +1,6 @@
 use Rattle.std.proofs.Common.{arith}
 use Rattle.cmd_parse.proofs.PairLaws.{goes-on, known_where_not_added, none-repeats, repeats-here, unknown_where_added}
-use Rattle.cmd_parse.proofs.search.first_repeat.Goals as goal
+use Rattle.cmd_parse.proofs.params.first_repeat.Goals as goal
 
 pub returns-then-not-branch-clause-first : goal.returns-then-not-branch-clause-first
 returns-then-not-branch-clause-first c =

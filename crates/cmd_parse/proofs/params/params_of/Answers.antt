@@ -1,8 +1,8 @@
 use Rattle.std.proofs.Common.{◌≤◌, ◌∷◌, ◌++◌, [], ap, ◌∙◌, length, arith}
 use Rattle.std.proofs.lemmas.List.{take_all}
-use Rattle.cmd_parse.specs.Search.{params_of}
+use Rattle.cmd_parse.specs.Params.{params_of}
 use Rattle.cmd_parse.proofs.PairLaws.{params_of-length, params_of-more}
-use Rattle.cmd_parse.proofs.search.params_of.Goals as goal
+use Rattle.cmd_parse.proofs.params.params_of.Goals as goal
 
 pub loop-place-preserved : goal.loop-place-preserved
 loop-place-preserved c =
