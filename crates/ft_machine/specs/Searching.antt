@@ -17,10 +17,14 @@ use Rattle.ft_machine.specs.Indexes.{unknown_index}
 use Rattle.ft_machine.specs.Machine.{Outcome, State, answered, just}
 use Rattle.ft_machine.specs.Shown.{found_reply}
 
--- what is answered to a name of SORTBY or FILTER that is no such field's, by its word
+-- the text for a name of SORTBY or FILTER that is no such field's, by its word
+abbrev pub unknown_field : ℕ → List ℕ
+unknown_field at = codes "Unknown field at word " ++ decimal at
+
+-- the refusal of such a name, where there is one
 abbrev pub unless_unknown : Option ℕ → Reply → Reply
 unless_unknown None reply = reply
-unless_unknown (Some at) reply = Fault (codes "Unknown field at word " ++ decimal at)
+unless_unknown (Some at) reply = Fault (unknown_field at)
 
 -- What a query's text is answered in an index: by its tree what that finds, by its fault why it is no query. A fault of the
 -- query comes before an unknown field.

@@ -1,16 +1,18 @@
 -- How many documents a search reads, and how many records are told of an index: by the store's own count, and the lists'.
 use Rattle.std.specs.Prelude.{◌≡◌, ◌≤◌, ◌⊎◌, ℕ, List, length, Bool, Option, Some, None, find}
+use Rattle.cmd_parse.specs.Searching.{Searching}
 use Rattle.cmd_parse.specs.Read.{Asked, Plain, Search}
 use Rattle.cmd_parse.specs.declared.command.Verb.TheVariants.{Info}
 use Rattle.ft_base.specs.Memory.{out_of_memory}
 use Rattle.ft_base.specs.Reply.{spelling}
+use Rattle.ft_base.specs.declared.definition.IndexDef.{IndexDef}
 use Rattle.ft_base.specs.declared.doc.Doc.{Doc}
 use Rattle.ft_base.specs.declared.reply.Reply.{Reply}
 use Rattle.ft_base.specs.declared.reply.Reply.TheVariants.{Fault}
 use Rattle.ft_index.specs.Index.{Index}
 use Rattle.ft_base.specs.Words.{first}
 use Rattle.ft_machine.specs.Info.{info_reply}
-use Rattle.ft_machine.specs.Searching.{found_reply}
+use Rattle.ft_machine.specs.Shown.{found_reply}
 use Rattle.ft_machine.specs.declared.counts.Counts.{Counts}
 use Rattle.hash_store.specs.Store.{reads_after}
 use Rattle.ft_index.specs.Records.{all_entries}
@@ -21,21 +23,23 @@ use Rattle.search_exec.specs.Ids.{reads_for}
 abbrev pub IsRefusal : List ℕ → Type 0
 IsRefusal written = (text : List ℕ) × (written ≡ spelling (Fault text))
 
--- Documents are shown, and as many were read: those in the window, and none where their fields are left out.
-pub record ReadsShown (no_content : Bool) (written : List ℕ) (old new : ℕ) : Type 0 where
+-- Documents are shown, and as many were read as are told of a search that counts so many.
+pub record ReadsShown (what : Searching) (written : List ℕ) (old new : ℕ) : Type 0 where
+  pub def : IndexDef
+  -- the documents that count, in the order in which they are shown
   pub found : List Doc
-  pub shown : written ≡ spelling (found_reply no_content found)
-  pub reads : new ≡ reads_after old (reads_for no_content (length found))
+  pub shown : written ≡ spelling (found_reply what def found)
+  pub reads : new ≡ reads_after old (reads_for what (length found))
 
--- A search has read just what it shows; where it is refused, nothing.
-abbrev pub ReadsRows : Bool → List ℕ → ℕ → ℕ → Type 0
-ReadsRows no_content written old new =
-    ReadsShown no_content written old new
+-- A search has read just what it shows or sorts; where it is refused, nothing.
+abbrev pub ReadsRows : Searching → List ℕ → ℕ → ℕ → Type 0
+ReadsRows what written old new =
+    ReadsShown what written old new
     ⊎ ((IsRefusal written × (new ≡ old)) ⊎ ((written ≡ spelling out_of_memory) × (old ≤ new)))
 
 -- whatever is asked, a search reads no more than that
 abbrev pub ReadsFew : Asked → List ℕ → ℕ → ℕ → Type 0
-ReadsFew (Search what) written old new = ReadsRows what.no_content written old new
+ReadsFew (Search what) written old new = ReadsRows what written old new
 ReadsFew _ written old new = Unit {0}
 
 -- What is told of an index has as many records as its lists have entries.

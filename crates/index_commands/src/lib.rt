@@ -6,6 +6,7 @@
 
 mod attributes;
 mod definitions;
+mod filters;
 mod index_reads;
 mod info;
 mod info_tree;

@@ -8,13 +8,14 @@ ghost use Rattle.ft_base.specs.Reply.{fits_wire, spelling};
 ghost use Rattle.ft_base.specs.declared.doc.Doc.{Doc};
 ghost use Rattle.ft_base.specs.declared.reply.Reply.TheVariants.{Bulk, Fault, Line, Number};
 ghost use Rattle.ft_machine.specs.Reads.{kind_of, one_if};
+ghost use Rattle.ft_machine.specs.Searching.{unknown_field};
 ghost use Rattle.ft_machine.specs.Step.{Told};
 ghost use Rattle.ft_schema.specs.Refusals.{schema_refusal};
 ghost use Rattle.query_grammar.specs.Refusals.{query_refusal};
 
 use crate::made_reply::put_made;
 use crate::message::put_message;
-use crate::refusals::{put_query_refusal, put_refusal, put_schema_refusal};
+use crate::refusals::{put_query_refusal, put_refusal, put_schema_refusal, put_unknown_field};
 use crate::short_reply::{
     SHORT_REPLY, put_fault, put_flag, put_kind, put_no_memory, put_number, put_short, put_signed,
 };
@@ -125,6 +126,15 @@ impl ReplyBuffer {
     {
         self.bytes.clear();
         put_query_refusal(fault, &mut self.bytes);
+    }
+
+    /// Writes that the name at a word is no field's of the index.
+    pub fn set_unknown_field(&mut self, at: u32)
+        ensures bytes { self.new.bytes ≡ spelling (Fault (unknown_field at)) }
+        ensures room { self.old.room ≤ self.new.room }
+    {
+        self.bytes.clear();
+        put_unknown_field(at, &mut self.bytes);
     }
 
     /// Writes that memory was wanting.

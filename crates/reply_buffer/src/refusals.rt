@@ -5,6 +5,7 @@ ghost use Rattle.ft_base.specs.Reply.{spelling};
 ghost use Rattle.ft_base.specs.declared.reply.Reply.TheVariants.{Fault};
 ghost use Rattle.cmd_parse.specs.declared.command.CmdFault.TheVariants.{Arity};
 ghost use Rattle.cmd_parse.specs.Refusals.{refusal};
+ghost use Rattle.ft_machine.specs.Searching.{unknown_field};
 ghost use Rattle.ft_schema.specs.Refusals.{schema_refusal};
 ghost use Rattle.query_grammar.specs.Refusals.{query_refusal};
 ghost use Rattle.token_text.specs.Tokens.{lowered};
@@ -27,6 +28,8 @@ pub fn put_refusal(name: &[u8], fault: CmdFault, out: &mut Vec<u8>)
         CmdFault::Unknown => put_fault(out, b"ERR unknown command"),
         CmdFault::Arity => put_arity(name, out),
         CmdFault::Syntax { at } => put_at(b"ERR syntax error at word ", at, out),
+        CmdFault::Limit { at } => put_at(b"ERR limit exceeded at word ", at, out),
+        CmdFault::OutOfScope { at } => put_at(b"ERR not supported at word ", at, out),
         CmdFault::NotInteger => put_fault(out, b"ERR value is not an integer or out of range"),
         CmdFault::BadDb => put_fault(out, b"ERR DB index is out of range"),
         CmdFault::NotBuilt => put_fault(out, b"ERR not built"),
@@ -93,6 +96,16 @@ pub fn put_query_refusal(fault: QueryFault, out: &mut Vec<u8>)
         QueryFault::OutOfScope { at } => put_place(b"Not supported at offset ", at, out),
         QueryFault::NoMemory => put_no_memory(out),
     }
+}
+
+/// Writes that the name at a word is no field's of the index.
+pub fn put_unknown_field(at: u32, out: &mut Vec<u8>)
+    requires empty { out.old.items ≡ [] }
+    requires room { SHORT_REPLY ≤ vec_capacity out.old }
+    ensures fault { out.new.items ≡ spelling (Fault (unknown_field at)) }
+    ensures room { vec_capacity out.old ≤ vec_capacity out.new }
+{
+    put_at(b"Unknown field at word ", at, out);
 }
 
 /// Writes a text and a word's number behind it.

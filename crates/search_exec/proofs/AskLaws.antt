@@ -13,10 +13,7 @@ use Rattle.id_iters.specs.Held.{Held}
 use Rattle.id_iters.specs.Least.{IsLeast, IsLeastAt, NoneFrom}
 use Rattle.id_iters.specs.Sets.{About, about, in_set, living}
 use Rattle.id_iters.specs.declared.iter.Iter.{Iter}
-use Rattle.hash_store.specs.Store.{reads_after}
-use Rattle.search_exec.specs.Ids.{doc_at, docs_in, reads_for}
-use Rattle.search_exec.specs.Pages.{Shows}
-use Rattle.search_exec.specs.declared.page.Page.{Page}
+use Rattle.search_exec.specs.Ids.{doc_at, docs_in}
 
 abbrev ids : List Doc → List ℕ
 ids docs = map (λ (doc : Doc). doc.id) docs
@@ -24,12 +21,6 @@ ids docs = map (λ (doc : Doc). doc.id) docs
 -- the documents whose ids a set has, from a number on
 abbrev pub docs_from : ℕ → (ℕ → Bool) → List Doc → List Doc
 docs_from from has docs = filter (λ (doc : Doc). nat_le from doc.id && has doc.id) docs
-
--- A page shows the documents of the ids that were answered, and with those of the ids from a number on that is all.
-pub record IsAsked (has : ℕ → Bool) (docs : List Doc) (from : ℕ) (page : Page) : Type 0 where
-  pub so_far : List Doc
-  pub shows : Shows so_far page
-  pub whole : docs_in has docs ≡ so_far ++ docs_from from has docs
 
 -- a document is passed over where its id fails wherever it is asked for
 missed : (from id : ℕ) (has : ℕ → Bool) → (from ≤ id → has id ≡ false) → (nat_le from id && has id) ≡ false
@@ -59,7 +50,7 @@ at-above low n (d ∷ docs) doc less found =
       | inr away ↦ at-above low n docs doc less.1 (rw away at found)
     ]
 
-next : (from n : ℕ) (has : ℕ → Bool) (docs : List Doc) (doc : Doc) → IsStrictlySortedBy nat_cmp (ids docs) → doc_at n docs ≡ Some doc → IsLeastAt has from n
+pub next : (from n : ℕ) (has : ℕ → Bool) (docs : List Doc) (doc : Doc) → IsStrictlySortedBy nat_cmp (ids docs) → doc_at n docs ≡ Some doc → IsLeastAt has from n
     → docs_from from has docs ≡ doc ∷ docs_from (n + 1) has docs
 next from n has [] doc rise found least = cc (found)
 next from n has (d ∷ docs) doc rise found least =
@@ -86,51 +77,11 @@ next from n has (d ∷ docs) doc rise found least =
     ]
 
 -- where no id is answered, no document is left
-none-left : (from : ℕ) (has : ℕ → Bool) (docs : List Doc) → NoneFrom has from → docs_from from has docs ≡ []
+pub none-left : (from : ℕ) (has : ℕ → Bool) (docs : List Doc) → NoneFrom has from → docs_from from has docs ≡ []
 none-left from has [] none = refl
 none-left from has (doc ∷ docs) none = rw (missed from doc.id has (none.fails doc.id)) (none-left from has docs none)
-
-pub asked-next : (has : ℕ → Bool) (docs : List Doc) (from n : ℕ) (old new : Page) → IsStrictlyIncreasing (ids docs) → IsLeastAt has from n → IsSome (doc_at n docs)
-    → ((shown : List Doc) (doc : Doc) → doc_at n docs ≡ Some doc → Shows shown old → Shows (shown ++ doc ∷ []) new) → IsAsked has docs from old → IsAsked has docs (n + 1) new
-asked-next has docs from n old new rise least stored noted asked = pick (doc_at n docs) refl stored
-  where
-    pick : (at : Option Doc) → doc_at n docs ≡ at → IsSome at → IsAsked has docs (n + 1) new
-    pick None is some = absurd (false≢true some)
-    pick (Some doc) is some = record {
-      so_far = asked.so_far ++ doc ∷ [];
-      shows = noted asked.so_far doc is asked.shows;
-      whole =
-          asked.whole
-          ∙ (ap (λ (rest : List Doc). asked.so_far ++ rest) (next from n has docs doc (sorted_from_strictly_increasing (ids docs) rise) is least)
-          ∙ sym (append_assoc asked.so_far (doc ∷ []) (docs_from (n + 1) has docs)));
-    }
 
 -- an id that an iterator has live is live
 pub live-first : (held : Held) (iter : Iter) (id : ℕ) → in_set held iter id ≡ true → held.live id ≡ true
 live-first held iter id has_it = (and_parts (held.live id) ((about held iter).has id) has_it).0
 
--- an answer of an iterator that was asked is one of the iterator that it was
-answer-same : (held : Held) (first iter : Iter) (from : ℕ) (said answer : Option ℕ) → about held iter ≡ about held first → said ≡ answer → IsLeast (in_set held iter) from said
-    → IsLeast (in_set held first) from answer
-answer-same held first iter from said answer same is least =
-    subst (λ (answer : Option ℕ). IsLeast (in_set held first) from answer) is
-    (subst (λ (part : About). IsLeast (living held.live part) from said) same least)
-
-pub least-next : (held : Held) (first iter : Iter) (from id : ℕ) (said : Option ℕ) → about held iter ≡ about held first → said ≡ Some id → IsLeast (in_set held iter) from said
-    → IsLeastAt (in_set held first) from id
-least-next held first iter from id said same is least = answer-same held first iter from said (Some id) same is least
-
--- where no id is answered, all is shown
-pub asked-ended : (held : Held) (first iter : Iter) (docs : List Doc) (from : ℕ) (said : Option ℕ) (page : Page) → about held iter ≡ about held first → said ≡ None → IsLeast (in_set held iter) from said
-    → IsAsked (in_set held first) docs from page → Shows (docs_in (in_set held first) docs) page
-asked-ended held first iter docs from said page same is least asked =
-    let has = in_set held first in
-    let none : NoneFrom has from = answer-same held first iter from said None same is least in
-    let whole = asked.whole ∙ (ap (λ (rest : List Doc). asked.so_far ++ rest) (none-left from has docs none) ∙ append-nil asked.so_far) in
-    subst (λ (docs : List Doc). Shows docs page) (sym whole) asked.shows
-
--- where a page shows all, as many were read as is told
-pub reads-told : (start reads : ℕ) (no_content : Bool) (docs : List Doc) (page : Page) → reads ≡ reads_after start (reads_for page.no_content page.total) → page.no_content ≡ no_content → Shows docs page
-    → reads ≡ reads_after start (reads_for no_content (length docs))
-reads-told start reads no_content docs page said kind shows =
-    said ∙ (ap (λ (kind : Bool). reads_after start (reads_for kind page.total)) kind ∙ ap (λ (total : ℕ). reads_after start (reads_for no_content total)) shows.total)

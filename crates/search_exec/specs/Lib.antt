@@ -1,3 +1,4 @@
 -- What a search is answered, and what it keeps on the way.
-pub mod Pages
+pub mod Candidates
 pub mod Ids
+pub mod Shapes

@@ -1,11 +1,15 @@
-//! The replies of FT.SEARCH: the documents that a query finds, and how they are shown.
+//! The replies of FT.SEARCH: the documents that a query finds, in their order, and how they are shown.
 //!
-//! A search asks the iterator of a query for its ids, counts them all, and reads the documents that it shows.
-//! What is answered is defined in `ft_machine`, `specs/Searching.antt`; read `index_search.rt` first, then `page.rt`.
+//! A search asks the iterator of a query for its ids, counts them all, and reads the documents that it shows or sorts.
+//! What is answered is defined in `ft_machine`, `specs/Counted.antt` and `specs/Shown.antt`; read `search.rt` first, then
+//! `candidates.rt`, `shape.rt`, and the two orders `by_ids.rt` and `by_field.rt`.
 #![tactic(auto)]
 
-mod index_search;
-mod page;
+mod by_field;
+mod by_ids;
+mod candidates;
+mod search;
+mod shape;
 
-/// What an iterator of ids finds among the documents of a store.
-pub use index_search::search_index;
+/// What a search answers.
+pub use search::search_reply;

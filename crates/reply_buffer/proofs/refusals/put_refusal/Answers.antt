@@ -13,3 +13,9 @@ returns-in-BadDb-clause-fault c = c.put_fault-in-BadDb.ensures.fault ∙ ap (λ 
 
 pub returns-in-NotBuilt-clause-fault : goal.returns-in-NotBuilt-clause-fault
 returns-in-NotBuilt-clause-fault c = c.put_fault-in-NotBuilt.ensures.fault ∙ ap (λ (f : CmdFault). spelling (Fault (refusal c.args.name.now f))) (sym c.in-NotBuilt.is)
+
+pub returns-in-Limit-clause-fault : goal.returns-in-Limit-clause-fault
+returns-in-Limit-clause-fault c = c.put_at-in-Limit.ensures.fault ∙ ap (λ (f : CmdFault). spelling (Fault (refusal c.args.name.now f))) (sym c.in-Limit.is)
+
+pub returns-in-OutOfScope-clause-fault : goal.returns-in-OutOfScope-clause-fault
+returns-in-OutOfScope-clause-fault c = c.put_at-in-OutOfScope.ensures.fault ∙ ap (λ (f : CmdFault). spelling (Fault (refusal c.args.name.now f))) (sym c.in-OutOfScope.is)

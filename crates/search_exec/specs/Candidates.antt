@@ -1,0 +1,40 @@
+-- Which ids a search goes through, and when it may be asked for the next.
+use Rattle.std.specs.Prelude.{◌≡◌, ◌<◌, ◌≤◌, ℕ, nat_eq, Bool, true, ◌&&◌, List, length, take, Option, None, Some, option_map}
+use Rattle.std.specs.List.{All, list_any}
+use Rattle.std.specs.List.Sorted.{IsNonDecreasing}
+use Rattle.id_iters.specs.Held.{Held}
+use Rattle.id_iters.specs.Ready.{Ready}
+use Rattle.id_iters.specs.Sets.{About, about, living}
+use Rattle.search_exec.specs.declared.candidates.Candidates.{Candidates}
+use Rattle.search_exec.specs.declared.candidates.NamedIds.{NamedIds}
+
+-- whether an id is among those that are named, where some are
+abbrev pub is_named : Option (List ℕ) → ℕ → Bool
+is_named None id = true
+is_named (Some ids) id = list_any (nat_eq id) ids
+
+-- what never changes of candidates: what the iterator has, and the ids that are named
+abbrev pub about_candidates : Held → Candidates → About × Option (List ℕ)
+about_candidates held candidates = (about held candidates.iter, option_map (λ (named : NamedIds). named.ids.items) candidates.named)
+
+-- the live ids that an iterator has, of those that are named
+abbrev pub candidate : (ℕ → Bool) → About × Option (List ℕ) → ℕ → Bool
+candidate live part id = living live part.0 id && is_named part.1 id
+
+abbrev pub in_candidates : Held → Candidates → ℕ → Bool
+in_candidates held candidates = candidate held.live (about_candidates held candidates)
+
+-- The ids that are named rise, and those that lie behind are below a number.
+pub record IsBehind (named : NamedIds) (from : ℕ) : Type 0 where
+  pub rise : IsNonDecreasing named.ids.items
+  pub within : named.behind ≤ length named.ids.items
+  pub below : All (λ id. id < from) (take named.behind named.ids.items)
+
+abbrev pub AreBehind : Option NamedIds → ℕ → Type 0
+AreBehind None from = Unit {0}
+AreBehind (Some named) from = IsBehind named from
+
+-- The next may be asked for from a number on.
+pub record MayAsk (held : Held) (candidates : Candidates) (from : ℕ) : Type 0 where
+  pub iter : Ready held candidates.iter from
+  pub named : AreBehind candidates.named from

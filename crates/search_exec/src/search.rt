@@ -1,0 +1,52 @@
+//! What a search answers: which of the documents that an iterator finds count, in which order, and how they are shown.
+ghost use Rattle.std.specs.Prelude.{◌≡◌, ◌≤◌, IfOk, IsTrue, OnOk, length};
+ghost use Rattle.cmd_parse.specs.Seen.{search_of};
+ghost use Rattle.ft_base.specs.Reply.{fits_wire};
+ghost use Rattle.ft_machine.specs.Counted.{in_order};
+ghost use Rattle.ft_machine.specs.Shown.{found_reply};
+ghost use Rattle.hash_store.specs.Store.{reads_after};
+ghost use Rattle.id_iters.specs.Held.{AreLists};
+ghost use Rattle.id_iters.specs.Ready.{Ready};
+ghost use Rattle.id_iters.specs.Sets.{in_set};
+ghost use Rattle.search_exec.specs.Ids.{AreKnown, docs_in, docs_of, reads_for};
+ghost use Rattle.search_exec.specs.Shapes.{SortsBy};
+
+use cmd_parse::SearchSpec;
+use ft_base::{IndexDef, NoMemory, Reply, Steps};
+use hash_store::HashStore;
+use id_iters::{Iter, Lists};
+use std::alloc::Global;
+use std::sync::ledger::Ledger;
+
+/// What a search answers that finds the ids of an iterator in an index. Sorted, each document that counts is read
+/// once; else those that are shown with their fields, and no other. The query's text and its FILTERs are in the iterator.
+pub fn search_reply<T: Lists, L: Ledger>(
+    alloc: Global,
+    def: &IndexDef,
+    lists: &T,
+    store: &mut HashStore,
+    iter: Iter,
+    search: &SearchSpec<'_>,
+    steps: &mut Steps<L>,
+) -> Result<Reply, NoMemory>
+    requires lists { AreLists (T.held lists.now) }
+    requires ready { Ready (T.held lists.now) iter 1 }
+    requires known { AreKnown (in_set (T.held lists.now) iter) (T.named lists.now).keys store.old.space }
+    requires sorts { SortsBy def.now.fields (search_of search.now) }
+    ensures reply { IfOk result (λ reply. reply ≡ found_reply (search_of search.now) def.now
+        (in_order (search_of search.now).sort def.now
+        (docs_of (search_of search.now).keys (docs_in (in_set (T.held lists.now) iter) store.old.space)))) }
+    ensures fits { IfOk result (λ reply. IsTrue (fits_wire reply)) }
+
+    // What is read.
+    ensures reads { OnOk result (store.new.reads ≡ reads_after store.old.reads (reads_for (search_of search.now)
+        (length (docs_of (search_of search.now).keys (docs_in (in_set (T.held lists.now) iter) store.old.space))))) }
+    ensures rises { store.old.reads ≤ store.new.reads }
+
+    ensures space { store.new.space ≡ store.old.space }
+    ensures ready { store.new.ready ≡ store.old.ready }
+    ensures last { store.new.last ≡ store.old.last }
+    ensures counts { steps.old ≤ steps.new }
+{
+    Err(NoMemory)
+}
