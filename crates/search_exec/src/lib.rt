@@ -1,4 +1,4 @@
-//! The replies of FT.SEARCH: the documents that a query finds, in their order, and how they are shown.
+//! The replies of FT.SEARCH: which of the documents that a query finds count, in which order, and how they are shown.
 //!
 //! A search asks the iterator of a query for its ids, counts them all, and reads the documents that it shows or sorts.
 //! What is answered is defined in `ft_machine`, `specs/Counted.antt` and `specs/Shown.antt`; read `search.rt` first, then
