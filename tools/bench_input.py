@@ -24,8 +24,8 @@ def writes(count, keys):
     return [request("HSET", f"key{number % keys}", "t", text(number)) for number in range(count)]
 
 
-def searches(count, word):
-    return [request("FT.SEARCH", "i", word, "NOCONTENT")] * count
+def searches(count, word, *options):
+    return [request("FT.SEARCH", "i", word, *(options or ["NOCONTENT"]))] * count
 
 
 SHOP_SEARCHES = 200
@@ -44,13 +44,29 @@ SHOP_QUERIES = {
 }
 
 
-def shop(count, query):
+# options behind a query: a tenth of the documents have the tags color3 and color4
+SHOP_OPTIONS = {
+    "ten-rows": ("every", "LIMIT", 0, 10),
+    "return-two": ("every", "RETURN", 2, "c", "p"),
+    "tenth": ("@c:{color3|color4}", "NOCONTENT"),
+    "sort-tenth": ("@c:{color3|color4}", "NOCONTENT", "SORTBY", "p"),
+    "sort-tenth-deep": ("@c:{color3|color4}", "NOCONTENT", "SORTBY", "p", "LIMIT", 1_000, 10),
+    "sort-all": ("every", "NOCONTENT", "SORTBY", "p"),
+    "sort-all-deep": ("every", "NOCONTENT", "SORTBY", "p", "LIMIT", 1_000, 10),
+    "sort-text": ("@c:{color3|color4}", "NOCONTENT", "SORTBY", "t"),
+    "in-keys": ("every", "NOCONTENT", "INKEYS", 3, "key5", "key77", "key900"),
+    "filter": ("every", "NOCONTENT", "FILTER", "p", 100, 1_000),
+    "count": ("every", "LIMIT", 0, 0),
+}
+
+
+def shop(count, query, options=()):
     """Documents of eight words, one of twenty tags and one of 100,000 numbers; then the searches."""
     loads = [request("FT.CREATE", "i", "SCHEMA", "t", "TEXT", "c", "TAG", "p", "NUMERIC")]
     for number in range(count):
         price = number * 7_919 % 100_000
         loads.append(request("HSET", f"key{number}", "t", text(number), "c", f"color{number % 20}", "p", price))
-    return loads + (searches(SHOP_SEARCHES, query) if query else [])
+    return loads + (searches(SHOP_SEARCHES, query, *options) if query else [])
 
 
 def fields(count):
@@ -78,6 +94,8 @@ WORKS = {
 }
 for name, query in SHOP_QUERIES.items():
     WORKS["shop-" + name] = lambda count, query=query: shop(count, query)
+for name, (query, *options) in SHOP_OPTIONS.items():
+    WORKS["shop-" + name] = lambda count, query=query, options=options: shop(count, query, options)
 
 
 def main():

@@ -40,6 +40,17 @@ shop-prefix 25000 50000 100000: words that begin alike, each of one document, on
 shop-tag 25000 50000 100000: a tag of one document in 20
 shop-range 25000 50000 100000: numbers of 9 documents in 1,000
 shop-tag-and-range 25000 50000 100000: both
+shop-ten-rows 25000 50000 100000: a word of all, ten rows with all their fields
+shop-return-two 25000 50000 100000: the same with two fields of each
+shop-count 25000 50000 100000: the same with LIMIT 0 0
+shop-tenth 25000 50000 100000: a tenth of the documents by two tags, unsorted
+shop-sort-tenth 25000 50000 100000: the same, sorted by the number, the first ten
+shop-sort-tenth-deep 25000 50000 100000: the same, ten from the thousandth on
+shop-sort-text 25000 50000 100000: the same tenth, sorted by the text, the first ten
+shop-sort-all 25000 50000 100000: all, sorted by the number, the first ten
+shop-sort-all-deep 25000 50000 100000: the same, ten from the thousandth on
+shop-in-keys 25000 50000 100000: a word of all in three keys
+shop-filter 25000 50000 100000: a word of all, and FILTER of 9 documents in 1,000
 hgetall 250 500 1000: HGETALLs of a hash of 1,000 fields
 wide-hsets 16384 32768 65534: 20 HSETs of so many words each, of new keys
 wide-hdel 8000 16000 32000: one HDEL of all fields of a hash, from the first to the last
