@@ -1,2 +1,4 @@
 pub mod AskLaws
+pub mod CandidatesLaws
 pub mod FoundLaws
+pub mod ShapeLaws

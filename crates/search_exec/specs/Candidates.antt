@@ -1,21 +1,32 @@
 -- Which ids a search goes through, and when it may be asked for the next.
 use Rattle.std.specs.Prelude.{◌≡◌, ◌<◌, ◌≤◌, ℕ, nat_eq, Bool, true, ◌&&◌, List, length, take, Option, None, Some, option_map}
-use Rattle.std.specs.List.{All, list_any}
+use Rattle.std.specs.List.{All, AllByRecursion, filter_map, list_any}
 use Rattle.std.specs.List.Sorted.{IsNonDecreasing}
+use Rattle.ft_base.specs.Space.{doc_of}
+use Rattle.ft_base.specs.declared.doc.Doc.{Doc}
+use Rattle.ft_machine.specs.Counted.{is_among}
 use Rattle.id_iters.specs.Held.{Held}
 use Rattle.id_iters.specs.Ready.{Ready}
 use Rattle.id_iters.specs.Sets.{About, about, living}
 use Rattle.search_exec.specs.declared.candidates.Candidates.{Candidates}
 use Rattle.search_exec.specs.declared.candidates.NamedIds.{NamedIds}
 
+-- whether an id is one of some
+abbrev pub is_id_of : List ℕ → ℕ → Bool
+is_id_of ids id = list_any (nat_eq id) ids
+
 -- whether an id is among those that are named, where some are
 abbrev pub is_named : Option (List ℕ) → ℕ → Bool
 is_named None id = true
-is_named (Some ids) id = list_any (nat_eq id) ids
+is_named (Some ids) id = is_id_of ids id
+
+-- the ids that are named, where some are
+abbrev pub ids_named : Option NamedIds → Option (List ℕ)
+ids_named named = option_map (λ (named : NamedIds). named.ids.items) named
 
 -- what never changes of candidates: what the iterator has, and the ids that are named
 abbrev pub about_candidates : Held → Candidates → About × Option (List ℕ)
-about_candidates held candidates = (about held candidates.iter, option_map (λ (named : NamedIds). named.ids.items) candidates.named)
+about_candidates held candidates = (about held candidates.iter, ids_named candidates.named)
 
 -- the live ids that an iterator has, of those that are named
 abbrev pub candidate : (ℕ → Bool) → About × Option (List ℕ) → ℕ → Bool
@@ -23,6 +34,14 @@ candidate live part id = living live part.0 id && is_named part.1 id
 
 abbrev pub in_candidates : Held → Candidates → ℕ → Bool
 in_candidates held candidates = candidate held.live (about_candidates held candidates)
+
+-- the ids of the documents with these keys, in the order of the keys
+abbrev pub ids_with : List Doc → List (List ℕ) → List ℕ
+ids_with docs keys = filter_map (λ (key : List ℕ). option_map (λ (doc : Doc). doc.id) (doc_of docs key)) keys
+
+-- The id of a document is named exactly where its key is.
+pub record AreNamed (ids : Option (List ℕ)) (keys : Option (List (List ℕ))) (docs : List Doc) : Type 0 where
+  pub each : AllByRecursion (λ (doc : Doc). is_named ids doc.id ≡ is_among keys doc.key) docs
 
 -- The ids that are named rise, and those that lie behind are below a number.
 pub record IsBehind (named : NamedIds) (from : ℕ) : Type 0 where

@@ -27,6 +27,7 @@ use Rattle.search_exec.specs.declared.shape.SortKey.{SortKey}
 abbrev pub pair_of : ShownField → List ℕ × List ℕ
 pair_of shown = (shown.name.now, shown.field.now)
 
+-- a name of a search, and the hash's field that it stands for
 abbrev pub resolved : List Field → List ℕ → List ℕ × List ℕ
 resolved fields name = (name, field_named fields (bare_name name))
 
@@ -34,9 +35,11 @@ resolved fields name = (name, field_named fields (bare_name name))
 abbrev pub key_seen : SortKey → List ℕ × (Bool × Direction)
 key_seen key = (key.field.now, (key.numeric, key.by))
 
+-- a field of the index as the key that sorts
 abbrev pub key_of_field : Bool → Field → List ℕ × (Bool × Direction)
 key_of_field descending field = (field.name, (is_numeric field.kind, record { descending = descending; lower = not field.unf }))
 
+-- the key of a search, where it names one of these fields
 abbrev pub key_for : Option Sort → List Field → Option (List ℕ × (Bool × Direction))
 key_for None fields = None
 key_for (Some sort) fields = option_map (key_of_field sort.descending) (find (λ (field : Field). bytes_eq sort.field field.alias) fields)
@@ -49,15 +52,16 @@ pub record IsShapeOf (what : Searching) (def : IndexDef) (shape : Shape) : Type 
   pub offset : shape.offset ≡ what.offset
   pub num : shape.num ≡ what.num
 
--- the fields of a document that a shape shows
+-- a field of a document that is shown: its name and its value, where it is there
 abbrev pub shown_in : Hash → ShownField → List Reply
 shown_in hash shown = with_value shown.name.now (get_field hash shown.field.now)
 
-
+-- the fields that are named and there, or all where none are named
 abbrev pub fields_with : Option (List ShownField) → Hash → List Reply
 fields_with None hash = in_turn hash
 fields_with (Some fields) hash = flat_map (shown_in hash) fields
 
+-- the fields of a document that a shape shows
 abbrev pub fields_by : Shape → Hash → List Reply
 fields_by shape hash = fields_with (option_map (λ shown. shown.items) shape.fields) hash
 
@@ -69,11 +73,12 @@ row_by shape doc = Bulk doc.key ∷ (if shape.no_content then [] else Array (fie
 abbrev pub page_by : Shape → List Doc → Reply
 page_by shape docs = Array (Number (pos (length docs)) ∷ flat_map (row_by shape) (take shape.num (drop shape.offset docs)))
 
--- what a key sees of a text, and of a document
+-- what a key sees of a text
 abbrev pub value_seen : Bool → Option (List ℕ) → Value
 value_seen numeric None = value.Null
 value_seen numeric (Some text) = if numeric then num_or_null (number_of text) else value.Text text
 
+-- what it sees of a document
 abbrev pub value_by : SortKey → Doc → Value
 value_by key doc = value_seen key.numeric (get_field doc.hash key.field.now)
 

@@ -1,10 +1,15 @@
 //! What a search shows, once its names are looked up in the index's definition: so none is looked up for a document.
-ghost use Rattle.std.specs.Prelude.{◌≡◌, ◌++◌, IfOk, OnOk};
-ghost use Rattle.cmd_parse.specs.Seen.{search_of};
-ghost use Rattle.search_exec.specs.Shapes.{IsShapeOf, row_by};
+ghost use Rattle.std.specs.Prelude.{◌≡◌, ◌++◌, map, IfOk, OnOk};
+ghost use Rattle.std.specs.List.{find, flat_map};
+ghost use Rattle.std.specs.Option.{option_copied, option_map};
+ghost use Rattle.std.specs.Str.{bytes_eq};
+ghost use Rattle.cmd_parse.specs.Seen.{search_of, sort_of};
+ghost use Rattle.ft_base.specs.declared.reply.Reply.TheVariants.{Array};
+ghost use Rattle.ft_machine.specs.Shown.{bare_name, field_named};
+ghost use Rattle.search_exec.specs.Shapes.{IsShapeOf, fields_with, key_for, key_of_field, key_seen, pair_of, resolved, row_by, shown_in};
 
-use cmd_parse::SearchSpec;
-use ft_base::{Doc, IndexDef, NoMemory, Reply};
+use cmd_parse::{SearchSpec, SortSpec};
+use ft_base::{Bytes, Doc, Field, HashRec, IndexDef, ListOf, NoMemory, Reply, Words, in_turn};
 use row_sort::Direction;
 use std::alloc::Global;
 
@@ -50,7 +55,88 @@ impl<'a> Shape<'a> {
     ) -> Result<Shape<'a>, NoMemory>
         ensures { IfOk result (λ shape. IsShapeOf (search_of search.now) def.now shape) }
     {
-        Err(NoMemory)
+        let fields = match &search.fields {
+            Some(names) => Some(shown_fields(alloc, def.fields.as_slice(), names)?),
+            None => None,
+        };
+        Ok(Shape {
+            no_content: search.no_content,
+            fields,
+            sort: sort_key(def.fields.as_slice(), &search.sort),
+            offset: search.offset as usize,
+            num: search.num as usize,
+        })
+    }
+}
+
+/// The fields that names stand for, each looked up once.
+fn shown_fields<'a>(
+    alloc: Global,
+    fields: &'a [Field],
+    names: &Words<'a>,
+) -> Result<Vec<ShownField<'a>>, NoMemory>
+    ensures { IfOk result (λ shown. map pair_of shown.items ≡ map (resolved fields.now) names.now) }
+{
+    let mut shown = Vec::with_capacity(alloc, names.len())?;
+    'names: for i in 0..names.len() {
+        let name = names.word(i);
+        let field = field_named(fields, bare_name(name));
+        shown.push(ShownField { name, field })?;
+    }
+    Ok(shown)
+}
+
+/// A name without the `@` that it may begin with.
+fn bare_name(name: &[u8]) -> &[u8]
+    ensures { result.now ≡ bare_name name.now }
+{
+    match name {
+        [b'@', bare @ ..] => bare,
+        _ => name,
+    }
+}
+
+/// The hash's field that a name stands for: that of the alias, else the one of this very name.
+fn field_named<'a>(fields: &'a [Field], name: &'a [u8]) -> &'a [u8]
+    ensures { result.now ≡ field_named fields.now name.now }
+{
+    match with_alias(fields, name) {
+        Some(field) => field.name.as_slice(),
+        None => name,
+    }
+}
+
+/// The field with an alias.
+fn with_alias<'a>(fields: &'a [Field], alias: &[u8]) -> Option<&'a Field>
+    ensures { option_copied result ≡ find (λ field. bytes_eq alias.now field.alias) fields.now }
+{
+    fields.iter().find(|field| alias == field.alias.as_slice())
+}
+
+/// The key by which documents are sorted, where a search names one of the index's fields.
+fn sort_key<'a>(fields: &'a [Field], sort: &Option<SortSpec<'a>>) -> Option<SortKey<'a>>
+    ensures { option_map key_seen result ≡ key_for (option_map sort_of sort.now) fields.now }
+{
+    match sort {
+        Some(sort) => match with_alias(fields, sort.field) {
+            Some(field) => Some(key_of_field(field, sort.descending)),
+            None => None,
+        },
+        None => None,
+    }
+}
+
+/// A field as a key. Texts are compared with A to Z lowered unless the field is UNF.
+fn key_of_field(field: &Field, descending: bool) -> SortKey<'_>
+    ensures { key_seen result ≡ key_of_field descending field.now }
+{
+    SortKey {
+        field: field.name.as_slice(),
+        numeric: field.kind.is_numeric(),
+        by: Direction {
+            descending,
+            lower: !field.unf,
+        },
     }
 }
 
@@ -63,5 +149,52 @@ pub fn push_row(
 ) -> Result<(), NoMemory>
     ensures row { OnOk result (rows.new.items ≡ rows.old.items ++ row_by shape.now doc.now) }
 {
-    Err(NoMemory)
+    rows.push(Reply::Bulk(doc.key.clone()?))?;
+    if !shape.no_content {
+        rows.push(fields_shown(alloc, &shape.fields, &doc.hash)?)?;
+    }
+    Ok(())
+}
+
+/// The fields of a hash that are shown, and their values.
+fn fields_shown(
+    alloc: Global,
+    fields: &Option<Vec<ShownField<'_>>>,
+    hash: &HashRec,
+) -> Result<Reply, NoMemory>
+    ensures { IfOk result (λ reply. reply
+        ≡ Array (fields_with (option_map (λ shown. shown.items) fields.now) hash.now)) }
+{
+    match fields {
+        Some(shown) => named_fields(alloc, shown.as_slice(), hash),
+        None => in_turn(alloc, hash),
+    }
+}
+
+/// The fields that are named and there, in the order in which they are named.
+fn named_fields(alloc: Global, shown: &[ShownField<'_>], hash: &HashRec) -> Result<Reply, NoMemory>
+    ensures { IfOk result (λ reply. reply ≡ Array (flat_map (shown_in hash.now) shown.now)) }
+{
+    // Each takes two places at the most, so the vector does not grow.
+    let mut replies = Vec::with_capacity(alloc, shown.len() * 2)?;
+    'fields: for field in shown {
+        push_field(alloc, field, hash, &mut replies)?;
+    }
+    Ok(Reply::Array(ListOf::from_vec(replies)))
+}
+
+/// Shows a field by the name that the search gives it and its value, where it is there.
+fn push_field(
+    alloc: Global,
+    shown: &ShownField<'_>,
+    hash: &HashRec,
+    replies: &mut Vec<Reply>,
+) -> Result<(), NoMemory>
+    ensures { OnOk result (replies.new.items ≡ replies.old.items ++ shown_in hash.now shown.now) }
+{
+    if let Some(value) = hash.get(shown.field) {
+        replies.push(Reply::Bulk(Bytes::from_slice(alloc, shown.name)?))?;
+        replies.push(Reply::Bulk(value.clone()?))?;
+    }
+    Ok(())
 }
