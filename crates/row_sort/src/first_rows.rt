@@ -6,8 +6,8 @@ ghost use Rattle.row_sort.specs.Sorting.{sorted};
 ghost use Rattle.row_sort.specs.Held.{first_held, HasBar, IsSound};
 
 use crate::order::Direction;
-use crate::rows::{Ranked, compare_rows, keep_first};
-use ft_base::{ListOf, NoMemory};
+use crate::rows::{Ranked, compare_values, keep_first};
+use ft_base::{ListOf, NoMemory, Value};
 use std::alloc::Global;
 use std::marker::Model;
 
@@ -52,7 +52,17 @@ impl<T> FirstRows<T> {
         }
     }
 
-    /// Takes a row in. Where memory is wanting the row is lost, and the others stay.
+    /// Whether a row with these values would be turned away, whatever else is in it: then it need not be made. Where that
+    /// takes more than one comparison to tell, no is answered.
+    pub fn turns_away(&self, values: &[Value]) -> bool
+        ensures { OnTrue result ((row : Ranked T) → row.values ≡ values.now
+            → take self.now.most (sorted (row_order self.now.by) (self.now.rows ++ row ∷ [])) ≡ self.now.rows) }
+    {
+        let keys = self.by.as_slice();
+        is_turned_away(values, self.rows.as_slice(), self.barred, keys, self.most)
+    }
+
+    /// Takes a row in. When out of memory, the row is lost and the others stay.
     pub fn offer(&mut self, row: Ranked<T>) -> Result<(), NoMemory>
     where
         T: Drop,
@@ -62,7 +72,8 @@ impl<T> FirstRows<T> {
         ensures err { OnErr result (self.new ≡ self.old) }
     {
         let keys = self.by.as_slice();
-        if turns_away(&row, self.rows.as_slice(), self.barred, keys, self.most) {
+        let values = row.values.as_slice();
+        if is_turned_away(values, self.rows.as_slice(), self.barred, keys, self.most) {
             return Ok(());
         }
         hold(&mut self.rows, &mut self.barred, row, keys, self.most)
@@ -80,32 +91,32 @@ impl<T> FirstRows<T> {
     }
 }
 
-/// Whether a row would not be among the first `most`. Once they were put in order one comparison tells.
-fn turns_away<T>(
-    row: &Ranked<T>,
+/// Whether a row with these values would not be among the first `most`. Once they were put in order one comparison tells.
+fn is_turned_away<T>(
+    values: &[Value],
     rows: &[Ranked<T>],
     barred: bool,
     by: &[Direction],
     most: usize,
 ) -> bool
     requires { IsSound by.now most barred rows.now }
-    ensures away { OnTrue result (first_held by.now most (first_held by.now most rows.now ++ row.now ∷ [])
-        ≡ first_held by.now most rows.now) }
+    ensures away { OnTrue result ((row : Ranked T) → row.values ≡ values.now
+        → first_held by.now most (first_held by.now most rows.now ++ row ∷ []) ≡ first_held by.now most rows.now) }
     ensures some { OnFalse result (0 < most) }
 {
     if most == 0 {
         return true;
     }
-    barred && is_behind(row, rows, by, most)
+    barred && is_behind(values, rows, by, most)
 }
 
-/// Whether a row isn't before the last of the first `most` that were put in order.
-fn is_behind<T>(row: &Ranked<T>, rows: &[Ranked<T>], by: &[Direction], most: usize) -> bool
+/// Whether a row with these values isn't before the last of the first `most` that were put in order.
+fn is_behind<T>(values: &[Value], rows: &[Ranked<T>], by: &[Direction], most: usize) -> bool
     requires { HasBar by.now most rows.now }
-    ensures { OnTrue result (first_held by.now most (first_held by.now most rows.now ++ row.now ∷ [])
-        ≡ first_held by.now most rows.now) }
+    ensures { OnTrue result ((row : Ranked T) → row.values ≡ values.now
+        → first_held by.now most (first_held by.now most rows.now ++ row ∷ []) ≡ first_held by.now most rows.now) }
 {
-    compare_rows(row, &rows[most - 1], by).is_ge()
+    compare_values(values, rows[most - 1].values.as_slice(), by).is_ge()
 }
 
 /// Takes a row among those that are held.

@@ -15,7 +15,7 @@ pub struct Ranked<T> {
     pub item: T,
 }
 
-/// Puts rows in order by their values; those that tie keep their order. Where memory is wanting all stay as they are.
+/// Puts rows in order by their values; those that tie keep their order. When out of memory, all stay as they are.
 pub fn order_rows<T>(rows: &mut Vec<Ranked<T>>, by: &[Direction]) -> Result<(), NoMemory>
     ensures ok { OnOk result (rows.new.items ≡ sorted (row_order by.now) rows.old.items) }
     ensures err { OnErr result (rows.new.items ≡ rows.old.items) }
@@ -23,7 +23,7 @@ pub fn order_rows<T>(rows: &mut Vec<Ranked<T>>, by: &[Direction]) -> Result<(), 
     rows.sort_by(|left, right| compare_rows(left, right, by))
 }
 
-/// Leaves the first `most` of them, in order. Where memory is wanting all stay as they are.
+/// Leaves the first `most` of them, in order. When out of memory, all stay as they are.
 pub fn keep_first<T: Drop>(
     rows: &mut Vec<Ranked<T>>,
     by: &[Direction],
@@ -45,7 +45,7 @@ pub fn compare_rows<T>(left: &Ranked<T>, right: &Ranked<T>, by: &[Direction]) ->
 }
 
 /// The order of two lists of values: the first key at which they differ decides.
-fn compare_values(left: &[Value], right: &[Value], by: &[Direction]) -> Ordering
+pub fn compare_values(left: &[Value], right: &[Value], by: &[Direction]) -> Ordering
     ensures { result ≡ values_order by.now left.now right.now }
 {
     let mut keys = by;

@@ -1,4 +1,5 @@
 pub mod AskLaws
 pub mod CandidatesLaws
+pub mod FieldLaws
 pub mod FoundLaws
 pub mod ShapeLaws

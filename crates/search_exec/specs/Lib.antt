@@ -1,4 +1,5 @@
 -- What a search is answered, and what it keeps on the way.
 pub mod Candidates
 pub mod Ids
+pub mod Ranks
 pub mod Shapes

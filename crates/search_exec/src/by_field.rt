@@ -1,18 +1,27 @@
 //! A search that is sorted: each of its documents is read once, and of all only the first rows are held, up to the
 //! end of the window.
-ghost use Rattle.std.specs.Prelude.{◌≡◌, ◌<◌, ◌≤◌, ◌+◌, ◌^◌, IfOk, OnOk, length};
+ghost use Rattle.std.specs.Prelude.{◌≡◌, ◌<◌, ◌≤◌, ◌+◌, ◌^◌, ◌∷◌, ◌++◌, [], Some, pos, IfOk, IsSome, OnOk, drop, length, take};
+ghost use Rattle.std.specs.List.{flat_map};
+ghost use Rattle.ft_base.specs.declared.doc.Doc.{Doc};
+ghost use Rattle.ft_base.specs.declared.reply.Reply.TheVariants.{Array, Number};
 ghost use Rattle.hash_store.specs.Store.{reads_after};
 ghost use Rattle.id_iters.specs.Held.{AreLists};
+ghost use Rattle.row_sort.specs.Order.{row_order};
+ghost use Rattle.row_sort.specs.Sorting.{sorted};
 ghost use Rattle.search_exec.specs.Candidates.{in_candidates, MayAsk};
-ghost use Rattle.search_exec.specs.Ids.{AreKnown, docs_in};
-ghost use Rattle.search_exec.specs.Shapes.{order_by, page_by};
+ghost use Rattle.search_exec.specs.Ids.{AreKnown, doc_at, docs_in};
+ghost use Rattle.search_exec.specs.Ranks.{first_ranked, ranked};
+ghost use Rattle.search_exec.specs.Shapes.{order_by, page_by, row_by, value_by};
 
 use crate::candidates::Candidates;
-use crate::shape::{Shape, SortKey};
-use ft_base::{NoMemory, Reply, Steps};
+use crate::shape::{Shape, SortKey, push_row};
+use field_text::number;
+use ft_base::{Bytes, Doc, ListOf, NoMemory, Reply, Steps, Value};
 use hash_store::HashStore;
 use id_iters::Lists;
+use row_sort::{FirstRows, Ranked};
 use std::alloc::Global;
+use std::slice;
 use std::sync::ledger::Ledger;
 
 /// The reply of the documents of some ids, in the order of a field. Each is read once.
@@ -42,5 +51,158 @@ pub fn page_by_field<T: Lists, L: Ledger>(
     ensures last { store.new.last ≡ store.old.last }
     ensures counts { steps.old ≤ steps.new }
 {
-    Err(NoMemory)
+    let keys = ListOf::from_vec(vec![in alloc; key.by]?);
+    let mut first = FirstRows::new(alloc, keys, shape.offset + shape.num);
+    let mut candidates = candidates;
+    let total = offer_all(
+        &mut first,
+        alloc,
+        lists,
+        store,
+        &mut candidates,
+        shape,
+        key,
+        steps,
+    );
+    drop(candidates);
+    let total = total?;
+    into_page(alloc, total, first.into_rows()?, shape.offset)
+}
+
+// Offers the rows of all documents, where none was offered before, and answers how many there are.
+fn offer_all<T: Lists, L: Ledger>(
+    first: &mut FirstRows<ListOf<Reply>>,
+    alloc: Global,
+    lists: &T,
+    store: &mut HashStore,
+    candidates: &mut Candidates,
+    shape: &Shape<'_>,
+    key: SortKey<'_>,
+    steps: &mut Steps<L>,
+) -> Result<u64, NoMemory>
+    requires none { first.old.rows ≡ [] }
+    requires keys { first.old.by ≡ key.by ∷ [] }
+    requires lists { AreLists (T.held lists.now) }
+    requires ready { MayAsk (T.held lists.now) candidates.old 1 }
+    requires known { AreKnown (in_candidates (T.held lists.now) candidates.old) (T.named lists.now).keys store.old.space }
+    ensures rows { OnOk result (first.new.rows ≡ first_ranked shape.now key.entry first.old.most
+        (docs_in (in_candidates (T.held lists.now) candidates.old) store.old.space)) }
+    ensures total { IfOk result (λ total. total
+        ≡ length (docs_in (in_candidates (T.held lists.now) candidates.old) store.old.space)) }
+    ensures few { IfOk result (λ total. total < 2 ^ 63) }
+
+    ensures reads { OnOk result (store.new.reads ≡ reads_after store.old.reads
+        (length (docs_in (in_candidates (T.held lists.now) candidates.old) store.old.space))) }
+    ensures rises { store.old.reads ≤ store.new.reads }
+
+    ensures space { store.new.space ≡ store.old.space }
+    ensures ready { store.new.ready ≡ store.old.ready }
+    ensures last { store.new.last ≡ store.old.last }
+    ensures counts { steps.old ≤ steps.new }
+{
+    // These tell that the ids rise, so that each is that of one document, and that the count of reads has 64 bits.
+    let _count = store.len();
+    let _reads = store.reads();
+    let mut total = 0;
+    let mut from = 1;
+    'asking: while let Some(id) = candidates.seek(lists, from, steps)? {
+        offer_id(first, alloc, store, id, shape, key)?;
+        total += 1;
+        from = id + 1;
+    }
+    Ok(total)
+}
+
+// Offers the row of an id's document, which is read once.
+fn offer_id(
+    first: &mut FirstRows<ListOf<Reply>>,
+    alloc: Global,
+    store: &mut HashStore,
+    id: u64,
+    shape: &Shape<'_>,
+    key: SortKey<'_>,
+) -> Result<(), NoMemory>
+    requires stored { IsSome (doc_at id store.old.space) }
+    ensures row { OnOk result ((doc : Doc) → doc_at id store.old.space ≡ Some doc
+        → first.new.rows ≡ take first.old.most
+        (sorted (row_order first.old.by) (first.old.rows ++ ranked shape.now key.entry doc ∷ []))) }
+    ensures keys { OnOk result (first.new.by ≡ first.old.by) }
+    ensures most { OnOk result (first.new.most ≡ first.old.most) }
+
+    ensures reads { store.new.reads ≡ reads_after store.old.reads 1 }
+    ensures space { store.new.space ≡ store.old.space }
+    ensures ready { store.new.ready ≡ store.old.ready }
+    ensures last { store.new.last ≡ store.old.last }
+{
+    let doc = store.get_by_id(id).unwrap();
+    offer_doc(first, alloc, doc, shape, key)
+}
+
+// Offers the row of a document. It is made only where it may be among the first.
+fn offer_doc(
+    first: &mut FirstRows<ListOf<Reply>>,
+    alloc: Global,
+    doc: &Doc,
+    shape: &Shape<'_>,
+    key: SortKey<'_>,
+) -> Result<(), NoMemory>
+    ensures { OnOk result (first.new ≡ record first.old {
+      rows = take first.old.most (sorted (row_order first.old.by) (first.old.rows ++ ranked shape.now key.entry doc.now ∷ []));
+    }) }
+{
+    let value = value_of(alloc, key, doc)?;
+    if first.turns_away(slice::from_ref(&value)) {
+        return Ok(());
+    }
+    first.offer(rank(alloc, shape, doc, value)?)
+}
+
+// The row of a document with the value that it is sorted by.
+fn rank(
+    alloc: Global,
+    shape: &Shape<'_>,
+    doc: &Doc,
+    value: Value,
+) -> Result<Ranked<ListOf<Reply>>, NoMemory>
+    ensures { IfOk result (λ row. row ≡ record { values = value ∷ []; item = row_by shape.now doc.now }) }
+{
+    let values = ListOf::from_vec(vec![in alloc; value]?);
+    let mut replies = Vec::new(alloc);
+    push_row(alloc, shape, doc, &mut replies)?;
+    Ok(Ranked {
+        values,
+        item: ListOf::from_vec(replies),
+    })
+}
+
+// What a key sees of a document: its number, or a copy of its text. Null stands where there is none.
+fn value_of(alloc: Global, key: SortKey<'_>, doc: &Doc) -> Result<Value, NoMemory>
+    ensures { IfOk result (λ value. value ≡ value_by key.entry doc.now) }
+{
+    let Some(text) = doc.hash.get(key.field) else {
+        return Ok(Value::Null);
+    };
+    if key.numeric {
+        return Ok(number(text.as_slice()).map_or(Value::Null, Value::Num));
+    }
+    Ok(Value::Text(Bytes::from_slice(alloc, text.as_slice())?))
+}
+
+// The reply of so many documents, of which the rows from a place on are shown.
+fn into_page(
+    alloc: Global,
+    total: u64,
+    rows: Vec<Ranked<ListOf<Reply>>>,
+    offset: usize,
+) -> Result<Reply, NoMemory>
+    requires few { total < 2 ^ 63 }
+    ensures { IfOk result (λ reply. reply
+        ≡ Array (Number (pos total) ∷ flat_map (λ row. row.item) (drop offset rows.items))) }
+{
+    let mut replies = Vec::new(alloc);
+    replies.push(Reply::Number(total as i64))?;
+    'showing: for row in rows.into_iter().skip(offset) {
+        replies.extend(row.item.into_vec())?;
+    }
+    Ok(Reply::Array(ListOf::from_vec(replies)))
 }

@@ -1,0 +1,179 @@
+-- The first rows of all that are ranked are the rows of the first documents in the order of a key.
+use Rattle.std.proofs.Common.{◌≡◌, ◌≤◌, ℕ, Bool, true, ◌+◌, List, [], ◌∷◌, ◌++◌, length, map, take, drop, Ordering, Less, Equal, Greater, is_lt, refl, sym, ap, ◌∙◌, subst, inl, inr, arith, append-nil, append_assoc}
+use Rattle.std.specs.Prelude.{Option, None, Some, IsSome, IfOk, Result, nat_le, pos}
+use Rattle.std.specs.List.{drop-map, flat_map, take-map}
+use Rattle.std.specs.List.Sorted.{IsStrictlyIncreasing}
+use Rattle.std.specs.Ordering.{ordering_then}
+use Rattle.std.proofs.lemmas.Bool.{cases_Bool, false≢true, and_parts, le-leb}
+use Rattle.std.proofs.Math.Bool.{and-false}
+use Rattle.std.proofs.Math.Seq.{take-nil}
+use Rattle.std.proofs.lemmas.Grind.{flat_map-append}
+use Rattle.std.proofs.lemmas.List.{drop-take, length_push, map-append}
+use Rattle.std.proofs.lemmas.Map.Keys.{sorted_from_strictly_increasing}
+use Rattle.std.proofs.lemmas.Result.{IfOk-weaker}
+use Rattle.ft_base.specs.declared.doc.Doc.{Doc}
+use Rattle.ft_base.specs.declared.reply.Reply.{Reply}
+use Rattle.ft_base.specs.declared.reply.Reply.TheVariants.{Array, Number}
+use Rattle.id_iters.specs.Held.{Held}
+use Rattle.id_iters.specs.Least.{IsLeast, IsLeastAt, NoneFrom}
+use Rattle.id_iters.specs.Sets.{living}
+use Rattle.row_sort.proofs.OrderLaws.{row_weak}
+use Rattle.row_sort.proofs.SortingLaws.{first-push, length-sorted}
+use Rattle.row_sort.specs.Order.{row_order, value_order}
+use Rattle.row_sort.specs.Sorting.{placed, sorted}
+use Rattle.row_sort.specs.declared.rows.Ranked.{Ranked}
+use Rattle.search_exec.proofs.AskLaws.{docs_from, next, none-left}
+use Rattle.search_exec.specs.Candidates.{about_candidates, candidate, in_candidates, is_named}
+use Rattle.search_exec.specs.Ids.{doc_at, docs_in}
+use Rattle.search_exec.specs.Ranks.{first_ranked, ranked}
+use Rattle.search_exec.specs.Shapes.{order_by, page_by, row_by, value_by}
+use Rattle.search_exec.specs.declared.candidates.Candidates.{Candidates}
+use Rattle.search_exec.specs.declared.shape.Shape.{Shape}
+use Rattle.search_exec.specs.declared.shape.SortKey.{SortKey}
+
+-- where nothing comes later, the first decides
+then-alone : (order : Ordering) → ordering_then order Equal ≡ order
+then-alone Less = refl
+then-alone Equal = refl
+then-alone Greater = refl
+
+-- Values are placed, and put in order, as what they are mapped to is.
+module _ {A B : Type 0} (f : A → B) (low : A → A → Ordering) (high : B → B → Ordering) (same : (x y : A) → high (f x) (f y) ≡ low x y) where
+  placed-map : (x : A) (ys : List A) → placed high (f x) (map f ys) ≡ map f (placed low x ys)
+  placed-map x [] = refl
+  placed-map x (y ∷ ys) =
+      elim (cases_Bool (is_lt (low y x))) [
+        | inl past ↦ rw (same y x, past, placed-map x ys) refl
+        | inr here ↦ rw (same y x, here) refl
+      ]
+
+  pub sorted-map : (xs : List A) → sorted high (map f xs) ≡ map f (sorted low xs)
+  sorted-map [] = refl
+  sorted-map (x ∷ xs) = ap (placed high (f x)) (sorted-map xs) ∙ placed-map x (sorted low xs)
+
+-- the items of rows, once there is one more
+pub items-more : (rows : List (Ranked (List Reply))) (row : Ranked (List Reply)) → flat_map (λ (row : Ranked (List Reply)). row.item) (rows ++ row ∷ []) ≡ flat_map (λ (row : Ranked (List Reply)). row.item) rows ++ row.item
+items-more rows row =
+    flat_map-append (λ (row : Ranked (List Reply)). row.item) rows (row ∷ [])
+    ∙ ap (λ (more : List Reply). flat_map (λ (row : Ranked (List Reply)). row.item) rows ++ more) (append-nil row.item)
+
+-- the items of ranked rows are the rows
+items-ranked : (shape : Shape) (key : SortKey) (docs : List Doc) → flat_map (λ (row : Ranked (List Reply)). row.item) (map (ranked shape key) docs) ≡ flat_map (row_by shape) docs
+items-ranked shape key [] = refl
+items-ranked shape key (doc ∷ docs) = ap (λ (rest : List Reply). row_by shape doc ++ rest) (items-ranked shape key docs)
+
+-- ranked rows are in the order of their documents
+sorted-ranked : (shape : Shape) (key : SortKey) (docs : List Doc) → sorted (row_order (key.by ∷ [])) (map (ranked shape key) docs) ≡ map (ranked shape key) (order_by key docs)
+sorted-ranked shape key docs =
+    sorted-map (ranked shape key) (λ (left right : Doc). value_order key.by (value_by key left) (value_by key right)) (row_order (key.by ∷ []))
+    (λ left right. then-alone (value_order key.by (value_by key left) (value_by key right))) docs
+
+-- The first rows up to a window's end, without those before it, are those of the window.
+pub window-shown : (shape : Shape) (key : SortKey) (offset num : ℕ) (docs : List Doc)
+    → flat_map (λ (row : Ranked (List Reply)). row.item) (drop offset (first_ranked shape key (offset + num) docs)) ≡ flat_map (row_by shape) (take num (drop offset (order_by key docs)))
+window-shown shape key offset num docs =
+    let in_order : List Doc = order_by key docs in
+    let items = λ (rows : List (Ranked (List Reply))). flat_map (λ (row : Ranked (List Reply)). row.item) rows in
+    ap items (drop-take offset num (sorted (row_order (key.by ∷ [])) (map (ranked shape key) docs)))
+    ∙ (ap (λ rows. items (take num (drop offset rows))) (sorted-ranked shape key docs)
+    ∙ (ap (λ rows. items (take num rows)) (drop-map (ranked shape key) offset in_order)
+    ∙ (ap items (take-map (ranked shape key) num (drop offset in_order))
+    ∙ items-ranked shape key (take num (drop offset in_order)))))
+
+-- What is made of the first rows, as they were handed out, is the reply.
+pub page-made : {E : Type 0} (made : Result Reply E) (shape : Shape) (key : SortKey) (docs : List Doc) (total most : ℕ) (rows first : List (Ranked (List Reply)))
+    → IfOk made (λ reply. reply ≡ Array (Number (pos total) ∷ flat_map (λ (row : Ranked (List Reply)). row.item) (drop shape.offset rows)))
+    → total ≡ length docs → rows ≡ first → first ≡ first_ranked shape key most docs → most ≡ shape.offset + shape.num → IfOk made (λ reply. reply ≡ page_by shape (order_by key docs))
+page-made made shape key docs total most rows first each count handed offered window =
+    let items = λ (rows : List (Ranked (List Reply))). flat_map (λ (row : Ranked (List Reply)). row.item) (drop shape.offset rows) in
+    let number : total ≡ length (order_by key docs) = count ∙ sym (length-sorted (λ (left right : Doc). value_order key.by (value_by key left) (value_by key right)) docs) in
+    let shown : items rows ≡ flat_map (row_by shape) (take shape.num (drop shape.offset (order_by key docs))) =
+    ap items (handed ∙ (offered ∙ ap (λ (most : ℕ). first_ranked shape key most docs) window)) ∙ window-shown shape key shape.offset shape.num docs in
+    IfOk-weaker made _ _
+    (λ reply same. same ∙ (ap (λ (n : ℕ). Array (Number (pos n) ∷ items rows)) number
+    ∙ ap (λ (replies : List Reply). Array (Number (pos (length (order_by key docs))) ∷ replies)) shown)) each
+
+-- The rows of the documents of the ids that were answered were offered, and these with those of the ids from a number on are all.
+pub record IsOffered (has : ℕ → Bool) (shape : Shape) (key : SortKey) (most : ℕ) (docs : List Doc) (from total : ℕ) (rows : List (Ranked (List Reply))) : Type 0 where
+  pub so_far : List Doc
+  pub ranked_first : rows ≡ first_ranked shape key most so_far
+  pub count : total ≡ length so_far
+  pub whole : docs_in has docs ≡ so_far ++ docs_from from has docs
+
+-- all documents of a set have ids from 1 on, if its ids are
+all-from : (has : ℕ → Bool) (docs : List Doc) → ((id : ℕ) → has id ≡ true → 1 ≤ id) → docs_in has docs ≡ docs_from 1 has docs
+all-from has [] above = refl
+all-from has (doc ∷ docs) above =
+    elim (cases_Bool (has doc.id)) [
+      | inl here ↦ rw (here, le-leb 1 doc.id (above doc.id here), all-from has docs above) refl
+      | inr away ↦ rw (away, and-false (nat_le 1 doc.id), all-from has docs above) refl
+    ]
+
+-- at first nothing is offered
+pub offered-none : (has : ℕ → Bool) (shape : Shape) (key : SortKey) (most : ℕ) (docs : List Doc) (rows : List (Ranked (List Reply))) → ((id : ℕ) → has id ≡ true → 1 ≤ id) → rows ≡ []
+    → IsOffered has shape key most docs 1 0 rows
+offered-none has shape key most docs rows above none = record {
+  so_far = [];
+  ranked_first = none ∙ sym (take-nil most);
+  count = refl;
+  whole = all-from has docs above;
+}
+
+-- one more row is taken in
+more-ranked : (shape : Shape) (key : SortKey) (most : ℕ) (docs : List Doc) (doc : Doc)
+    → take most (sorted (row_order (key.by ∷ [])) (first_ranked shape key most docs ++ ranked shape key doc ∷ [])) ≡ first_ranked shape key most (docs ++ doc ∷ [])
+more-ranked shape key most docs doc =
+    first-push (row_order (key.by ∷ [])) (row_weak (key.by ∷ [])) most (map (ranked shape key) docs) (ranked shape key doc)
+    ∙ ap (λ rows. take most (sorted (row_order (key.by ∷ [])) rows)) (sym (map-append (ranked shape key) docs (doc ∷ [])))
+
+pub offered-next : (has : ℕ → Bool) (shape : Shape) (key : SortKey) (most : ℕ) (docs : List Doc) (from n total : ℕ) (old new : List (Ranked (List Reply)))
+    → IsStrictlyIncreasing (map (λ (doc : Doc). doc.id) docs) → IsLeastAt has from n → IsSome (doc_at n docs)
+    → ((doc : Doc) → doc_at n docs ≡ Some doc → new ≡ take most (sorted (row_order (key.by ∷ [])) (old ++ ranked shape key doc ∷ [])))
+    → IsOffered has shape key most docs from total old → IsOffered has shape key most docs (n + 1) (total + 1) new
+offered-next has shape key most docs from n total old new rise least stored taken offered = pick (doc_at n docs) refl stored
+  where
+    pick : (at : Option Doc) → doc_at n docs ≡ at → IsSome at → IsOffered has shape key most docs (n + 1) (total + 1) new
+    pick None is some = absurd (false≢true some)
+    pick (Some doc) is some = record {
+      so_far = offered.so_far ++ doc ∷ [];
+      ranked_first =
+          taken doc is
+          ∙ (ap (λ rows. take most (sorted (row_order (key.by ∷ [])) (rows ++ ranked shape key doc ∷ []))) offered.ranked_first
+          ∙ more-ranked shape key most offered.so_far doc);
+      count = omega (arith, offered.count, length_push offered.so_far doc);
+      whole =
+          offered.whole
+          ∙ (ap (λ (rest : List Doc). offered.so_far ++ rest) (next from n has docs doc (sorted_from_strictly_increasing (map (λ (doc : Doc). doc.id) docs) rise) is least)
+          ∙ sym (append_assoc offered.so_far (doc ∷ []) (docs_from (n + 1) has docs)));
+    }
+
+-- an answer of candidates that were asked is one of the candidates that they were
+answer-same : (held : Held) (first now : Candidates) (from : ℕ) (said answer : Option ℕ) → about_candidates held now ≡ about_candidates held first → said ≡ answer
+    → IsLeast (in_candidates held now) from said → IsLeast (in_candidates held first) from answer
+answer-same held first now from said answer same is least =
+    subst (λ (answer : Option ℕ). IsLeast (in_candidates held first) from answer) is
+    (subst (λ part. IsLeast (candidate held.live part) from said) same least)
+
+pub least-next : (held : Held) (first now : Candidates) (from id : ℕ) (said : Option ℕ) → about_candidates held now ≡ about_candidates held first → said ≡ Some id
+    → IsLeast (in_candidates held now) from said → IsLeastAt (in_candidates held first) from id
+least-next held first now from id said same is least = answer-same held first now from said (Some id) same is least
+
+-- where no id is answered, the rows of all documents were offered
+pub offered-ended : (held : Held) (first now : Candidates) (shape : Shape) (key : SortKey) (most : ℕ) (docs : List Doc) (from total : ℕ) (rows : List (Ranked (List Reply))) (said : Option ℕ)
+    → about_candidates held now ≡ about_candidates held first → said ≡ None → IsLeast (in_candidates held now) from said
+    → IsOffered (in_candidates held first) shape key most docs from total rows
+    → (rows ≡ first_ranked shape key most (docs_in (in_candidates held first) docs)) × (total ≡ length (docs_in (in_candidates held first) docs))
+offered-ended held first now shape key most docs from total rows said same is least offered =
+    let has = in_candidates held first in
+    let none : NoneFrom has from = answer-same held first now from said None same is least in
+    let all : docs_in has docs ≡ offered.so_far =
+    offered.whole ∙ (ap (λ (rest : List Doc). offered.so_far ++ rest) (none-left from has docs none) ∙ append-nil offered.so_far) in (
+      offered.ranked_first ∙ ap (first_ranked shape key most) (sym all),
+      offered.count ∙ ap (λ (docs : List Doc). length docs) (sym all),
+    )
+
+-- an id of candidates is live
+pub live-candidate : (held : Held) (candidates : Candidates) (id : ℕ) → in_candidates held candidates id ≡ true → held.live id ≡ true
+live-candidate held candidates id has_it =
+    let part = about_candidates held candidates in
+    (and_parts (held.live id) (part.0.has id) (and_parts (living held.live part.0 id) (is_named part.1 id) has_it).0).0

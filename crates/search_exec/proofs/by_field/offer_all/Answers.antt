@@ -1,0 +1,84 @@
+use Rattle.std.proofs.Common.{◌≡◌, ◌+◌, ◌∷◌, [], ◌++◌, ℕ, List, refl, sym, ap, ◌∙◌, subst, arith}
+use Rattle.std.specs.Prelude.{Option, Some, IfSome, take}
+use Rattle.ft_base.specs.declared.doc.Doc.{Doc}
+use Rattle.hash_store.specs.Store.{reads_after}
+use Rattle.row_sort.specs.Order.{row_order}
+use Rattle.row_sort.specs.Sorting.{sorted}
+use Rattle.search_exec.proofs.FieldLaws.{least-next, live-candidate, offered-ended, offered-next, offered-none}
+use Rattle.search_exec.specs.Candidates.{about_candidates, in_candidates, MayAsk}
+use Rattle.search_exec.specs.Ids.{doc_at}
+use Rattle.search_exec.specs.Ranks.{ranked}
+use Rattle.search_exec.proofs.by_field.offer_all.Goals as goal
+
+pub asking-init : goal.asking-init
+asking-init g c =
+    let held = g.T.Lists.held c.args.lists.now in
+    let first = c.args.candidates.now in
+    record {
+      offered = offered-none (in_candidates held first) c.args.shape.now c.args.key c.args.first.now.most c.args.store.now.space c.args.first.now.rows
+          (λ id has_it. c.requires.lists.above id (live-candidate held first id has_it)) c.requires.none;
+      same = refl {a = about_candidates held first};
+      may_ask = c.requires.ready;
+      most = refl;
+      by = refl;
+      few = omega arith;
+      low = omega arith;
+      rise = c.len-count.ensures.rises;
+      bits = omega (arith, c.reads-reads.ensures, c.reads-reads.type_inv);
+      reads = omega (arith, c.reads-reads.ensures, c.reads-reads.type_inv);
+      space = refl;
+      ready = refl;
+      last = refl;
+      counts = omega arith;
+    }
+
+pub asking-preserved : goal.asking-preserved
+asking-preserved g c =
+    let held = g.T.Lists.held c.args.lists.now in
+    let first = c.args.candidates.now in
+    let has = in_candidates held first in
+    let shape = c.args.shape.now in
+    let key = c.args.key in
+    let docs = c.args.store.now.space in
+    let id = c.in-Some.id in
+    let was = c.asking.invariant in
+    let next = c.in_ok-offer_id.ensures in
+    let least = least-next held first c.asking.candidates c.asking.from id c.in_ok-id.field-0 was.same c.in-Some.is c.in_ok-id.ensures.least in
+    let taken : (doc : Doc) → doc_at id docs ≡ Some doc
+    → c.offer_id.new.first.rows ≡ take c.args.first.now.most (sorted (row_order (key.by ∷ [])) (c.asking.first.rows ++ ranked shape key doc ∷ [])) =
+    λ doc found.
+    next.row doc (subst (λ (docs : List Doc). doc_at id docs ≡ Some doc) (sym was.space) found)
+    ∙ (ap (λ (most : ℕ). take most (sorted (row_order c.asking.first.by) (c.asking.first.rows ++ ranked shape key doc ∷ []))) was.most
+    ∙ ap (λ by. take c.args.first.now.most (sorted (row_order by) (c.asking.first.rows ++ ranked shape key doc ∷ []))) (was.by ∙ c.requires.keys)) in
+    record {
+      offered = offered-next has shape key c.args.first.now.most docs c.asking.from id c.asking.total c.asking.first.rows c.offer_id.new.first.rows was.rise least (c.requires.known.stored id least.passes) taken was.offered;
+      same = c.in_ok-id.ensures.same ∙ was.same;
+      may_ask = subst (λ (answer : Option ℕ). IfSome answer (λ id. MayAsk held c.seek.new.self (id + 1))) c.in-Some.is c.in_ok-id.ensures.ready;
+      most = next.most ∙ was.most;
+      by = next.keys ∙ was.by;
+      few = omega (arith, least.reached, was.few);
+      low = omega (arith, c.requires.lists.below id (live-candidate held first id least.passes));
+      rise = was.rise;
+      bits = was.bits;
+      reads = omega (arith, next.reads, was.reads);
+      space = next.space ∙ was.space;
+      ready = next.ready ∙ was.ready;
+      last = next.last ∙ was.last;
+      counts = omega (arith, c.in_ok-id.ensures.counts, was.counts);
+    }
+
+pub returns-clause-rows : goal.returns-clause-rows
+returns-clause-rows g c =
+    (offered-ended (g.T.Lists.held c.args.lists.now) c.args.candidates.now c.asking.candidates c.args.shape.now c.args.key c.args.first.now.most c.args.store.now.space c.asking.from c.asking.total
+    c.asking.first.rows c.in_ok-id.field-0 c.asking.invariant.same c.in_default.is c.in_ok-id.ensures.least c.asking.invariant.offered).0
+
+pub returns-clause-total : goal.returns-clause-total
+returns-clause-total g c =
+    (offered-ended (g.T.Lists.held c.args.lists.now) c.args.candidates.now c.asking.candidates c.args.shape.now c.args.key c.args.first.now.most c.args.store.now.space c.asking.from c.asking.total
+    c.asking.first.rows c.in_ok-id.field-0 c.asking.invariant.same c.in_default.is c.in_ok-id.ensures.least c.asking.invariant.offered).1
+
+pub returns-clause-reads : goal.returns-clause-reads
+returns-clause-reads g c =
+    let ended = offered-ended (g.T.Lists.held c.args.lists.now) c.args.candidates.now c.asking.candidates c.args.shape.now c.args.key c.args.first.now.most c.args.store.now.space c.asking.from c.asking.total
+    c.asking.first.rows c.in_ok-id.field-0 c.asking.invariant.same c.in_default.is c.in_ok-id.ensures.least c.asking.invariant.offered in
+    c.asking.invariant.reads ∙ ap (reads_after c.args.store.now.reads) ended.1
