@@ -1,12 +1,16 @@
 //! A search that isn't sorted: its documents in order of their ids. All are counted, and those of the window are shown.
-ghost use Rattle.std.specs.Prelude.{◌≡◌, ◌≤◌, ◌-◌, IfOk, IsTrue, OnOk, length, min, if◌then◌else◌};
+ghost use Rattle.std.specs.Prelude.{◌≡◌, ◌<◌, ◌≤◌, ◌+◌, ◌-◌, ◌^◌, ◌∷◌, ◌++◌, [], ℕ, Some, List, IfOk, IsSome, OnOk, length, min, if◌then◌else◌};
+ghost use Rattle.std.specs.Option.{option_map};
+ghost use Rattle.ft_base.specs.declared.doc.Doc.{Doc};
 ghost use Rattle.hash_store.specs.Store.{reads_after};
 ghost use Rattle.id_iters.specs.Held.{AreLists};
 ghost use Rattle.search_exec.specs.Candidates.{in_candidates, MayAsk};
-ghost use Rattle.search_exec.specs.Ids.{AreKnown, docs_in};
+ghost use Rattle.search_exec.specs.Ids.{AreKnown, doc_at, docs_in};
+ghost use Rattle.search_exec.specs.Pages.{Shows, reads_of};
 ghost use Rattle.search_exec.specs.Shapes.{page_by};
 
 use crate::candidates::Candidates;
+use crate::page::Page;
 use crate::shape::Shape;
 use ft_base::{NoMemory, Reply, Steps};
 use hash_store::HashStore;
@@ -20,7 +24,7 @@ pub fn page_by_ids<T: Lists, L: Ledger>(
     alloc: Global,
     lists: &T,
     store: &mut HashStore,
-    candidates: Candidates,
+    mut candidates: Candidates,
     shape: &Shape<'_>,
     steps: &mut Steps<L>,
 ) -> Result<Reply, NoMemory>
@@ -40,5 +44,94 @@ pub fn page_by_ids<T: Lists, L: Ledger>(
     ensures last { store.new.last ≡ store.old.last }
     ensures counts { steps.old ≤ steps.new }
 {
-    Err(NoMemory)
+    let mut page = Page::new(alloc, shape.num)?;
+    let noted = note_all(
+        &mut page,
+        alloc,
+        lists,
+        store,
+        &mut candidates,
+        shape,
+        steps,
+    );
+    drop(candidates);
+    noted?;
+    Ok(page.into_reply())
+}
+
+/// Notes the documents of the candidates on a page of no document.
+fn note_all<T: Lists, L: Ledger>(
+    page: &mut Page,
+    alloc: Global,
+    lists: &T,
+    store: &mut HashStore,
+    candidates: &mut Candidates,
+    shape: &Shape<'_>,
+    steps: &mut Steps<L>,
+) -> Result<(), NoMemory>
+    requires none { Shows shape.now [] page.old }
+    requires lists { AreLists (T.held lists.now) }
+    requires ready { MayAsk (T.held lists.now) candidates.old 1 }
+    requires known { AreKnown (in_candidates (T.held lists.now) candidates.old) (T.named lists.now).keys store.old.space }
+    ensures shown { OnOk result
+        (Shows shape.now (docs_in (in_candidates (T.held lists.now) candidates.old) store.old.space) page.new) }
+    ensures few { OnOk result (page.new.total < 2 ^ 63) }
+
+    ensures reads { OnOk result (store.new.reads ≡ reads_after store.old.reads (reads_of shape.now
+        (length (docs_in (in_candidates (T.held lists.now) candidates.old) store.old.space)))) }
+    ensures rises { store.old.reads ≤ store.new.reads }
+
+    ensures space { store.new.space ≡ store.old.space }
+    ensures ready { store.new.ready ≡ store.old.ready }
+    ensures last { store.new.last ≡ store.old.last }
+    ensures counts { steps.old ≤ steps.new }
+{
+    // These tell that the ids rise, so that each is that of one document, and that the count of reads has 64 bits.
+    let _count = store.len();
+    let _reads = store.reads();
+    let mut from = 1;
+    'asking: while let Some(id) = candidates.seek(lists, from, steps)? {
+        note_id(page, alloc, lists, store, shape, id)?;
+        from = id + 1;
+    }
+    Ok(())
+}
+
+/// Notes the document of an id. Outside the window it is counted, and neither its key nor the document is asked for.
+fn note_id<T: Lists>(
+    page: &mut Page,
+    alloc: Global,
+    lists: &T,
+    store: &mut HashStore,
+    shape: &Shape<'_>,
+    id: u64,
+) -> Result<(), NoMemory>
+    requires few { page.old.total < 2 ^ 62 }
+    requires bits { store.old.reads < 2 ^ 64 }
+    requires stored { IsSome (doc_at id store.old.space) }
+    requires key { (T.named lists.now).keys id
+        ≡ option_map (λ doc. doc.key) (doc_at id store.old.space) }
+    ensures shown { OnOk result ((docs : List Doc) (doc : Doc) → doc_at id store.old.space ≡ Some doc
+        → Shows shape.now docs page.old → Shows shape.now (docs ++ doc ∷ []) page.new) }
+    ensures total { OnOk result (page.new.total ≡ page.old.total + 1) }
+
+    ensures reads { OnOk result ((start : ℕ)
+        → store.old.reads ≡ reads_after start (reads_of shape.now page.old.total)
+        → store.new.reads ≡ reads_after start (reads_of shape.now page.new.total)) }
+    ensures rises { store.old.reads ≤ store.new.reads }
+
+    ensures space { store.new.space ≡ store.old.space }
+    ensures ready { store.new.ready ≡ store.old.ready }
+    ensures last { store.new.last ≡ store.old.last }
+{
+    if !page.shows_next(shape) {
+        page.note_unseen();
+        return Ok(());
+    }
+    if shape.no_content {
+        let key = lists.key_of(id).unwrap();
+        return page.note_key(alloc, key);
+    }
+    let doc = store.get_by_id(id).unwrap();
+    page.note(alloc, shape, doc)
 }

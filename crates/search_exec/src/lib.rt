@@ -8,6 +8,7 @@
 mod by_field;
 mod by_ids;
 mod candidates;
+mod page;
 mod search;
 mod shape;
 

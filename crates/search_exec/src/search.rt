@@ -1,5 +1,5 @@
 //! What a search answers: which of the documents that an iterator finds count, in which order, and how they are shown.
-ghost use Rattle.std.specs.Prelude.{◌≡◌, ◌≤◌, IfOk, IsTrue, OnOk, length};
+ghost use Rattle.std.specs.Prelude.{◌≡◌, ◌<◌, ◌≤◌, ◌+◌, ◌^◌, IfOk, IsTrue, OnOk, length};
 ghost use Rattle.cmd_parse.specs.Seen.{search_of};
 ghost use Rattle.ft_base.specs.Reply.{fits_wire};
 ghost use Rattle.ft_machine.specs.Counted.{in_order};
@@ -8,9 +8,15 @@ ghost use Rattle.hash_store.specs.Store.{reads_after};
 ghost use Rattle.id_iters.specs.Held.{AreLists};
 ghost use Rattle.id_iters.specs.Ready.{Ready};
 ghost use Rattle.id_iters.specs.Sets.{in_set};
+ghost use Rattle.search_exec.specs.Candidates.{in_candidates, MayAsk};
 ghost use Rattle.search_exec.specs.Ids.{AreKnown, docs_in, docs_of, reads_for};
-ghost use Rattle.search_exec.specs.Shapes.{SortsBy};
+ghost use Rattle.search_exec.specs.Pages.{ordered_by, reads_by};
+ghost use Rattle.search_exec.specs.Shapes.{SortsBy, page_by};
 
+use crate::by_field::page_by_field;
+use crate::by_ids::page_by_ids;
+use crate::candidates::Candidates;
+use crate::shape::Shape;
 use cmd_parse::SearchSpec;
 use ft_base::{IndexDef, NoMemory, Reply, Steps};
 use hash_store::HashStore;
@@ -48,5 +54,45 @@ pub fn search_reply<T: Lists, L: Ledger>(
     ensures last { store.new.last ≡ store.old.last }
     ensures counts { steps.old ≤ steps.new }
 {
-    Err(NoMemory)
+    // These tell that the place behind the window has 64 bits.
+    let _offset = search.offset;
+    let _num = search.num;
+    let candidates = Candidates::new(alloc, lists, store, iter, &search.keys)?;
+    let shape = Shape::resolve(alloc, def, search)?;
+    page_by_shape(alloc, lists, store, candidates, &shape, steps)
+}
+
+/// The reply of the documents of some ids in the order that a shape asks for. Where no row is shown, no order is seen, and
+/// so no document is read.
+fn page_by_shape<T: Lists, L: Ledger>(
+    alloc: Global,
+    lists: &T,
+    store: &mut HashStore,
+    candidates: Candidates,
+    shape: &Shape<'_>,
+    steps: &mut Steps<L>,
+) -> Result<Reply, NoMemory>
+    requires lists { AreLists (T.held lists.now) }
+    requires ready { MayAsk (T.held lists.now) candidates 1 }
+    requires known { AreKnown (in_candidates (T.held lists.now) candidates) (T.named lists.now).keys store.old.space }
+    requires window { shape.now.offset + shape.now.num < 2 ^ 64 }
+    ensures reply { IfOk result (λ reply. reply ≡ page_by shape.now
+        (ordered_by shape.now.sort (docs_in (in_candidates (T.held lists.now) candidates) store.old.space))) }
+
+    // What is read.
+    ensures reads { OnOk result (store.new.reads ≡ reads_after store.old.reads (reads_by shape.now
+        (length (docs_in (in_candidates (T.held lists.now) candidates) store.old.space)))) }
+    ensures rises { store.old.reads ≤ store.new.reads }
+
+    ensures space { store.new.space ≡ store.old.space }
+    ensures ready { store.new.ready ≡ store.old.ready }
+    ensures last { store.new.last ≡ store.old.last }
+    ensures counts { steps.old ≤ steps.new }
+{
+    match shape.sort {
+        Some(key) if shape.num > 0 => {
+            page_by_field(alloc, lists, store, candidates, shape, key, steps)
+        }
+        _ => page_by_ids(alloc, lists, store, candidates, shape, steps),
+    }
 }

@@ -1,0 +1,61 @@
+-- A page in the order of its shape is what the search is answered, and as many documents are read as is told.
+use Rattle.std.proofs.Common.{◌≡◌, ℕ, List, length, refl, sym, ap, ◌∙◌, subst}
+use Rattle.std.specs.Prelude.{Option, None, Some, is_some, IfOk, OnOk, Result}
+use Rattle.cmd_parse.specs.Searching.{Searching}
+use Rattle.ft_base.specs.declared.definition.IndexDef.{IndexDef}
+use Rattle.ft_base.specs.declared.doc.Doc.{Doc}
+use Rattle.ft_base.specs.declared.reply.Reply.{Reply}
+use Rattle.ft_machine.specs.Counted.{in_order}
+use Rattle.ft_machine.specs.Shown.{found_reply}
+use Rattle.hash_store.specs.Store.{reads_after}
+use Rattle.search_exec.proofs.ShapeLaws.{order-length, sorted-page, sorted-some, unsorted, unsorted-page}
+use Rattle.search_exec.specs.Ids.{reads_for}
+use Rattle.search_exec.specs.Pages.{ordered_by, reads_by}
+use Rattle.search_exec.specs.Shapes.{IsShapeOf, SortsBy, page_by}
+use Rattle.search_exec.specs.declared.shape.Shape.{Shape}
+use Rattle.search_exec.specs.declared.shape.SortKey.{SortKey}
+
+ordered-length : (sort : Option SortKey) (docs : List Doc) → length (ordered_by sort docs) ≡ length docs
+ordered-length None docs = refl
+ordered-length (Some key) docs = order-length key docs
+
+-- where no row is shown, no order is seen
+pub page-without-rows : (shape : Shape) (docs : List Doc) → shape.num ≡ 0 → page_by shape docs ≡ page_by shape (ordered_by shape.sort docs)
+page-without-rows shape docs none = rw (none, ordered-length shape.sort docs) refl
+
+-- without a key the order is that of the ids
+pub page-without-key : (shape : Shape) (docs : List Doc) → shape.sort ≡ None → page_by shape docs ≡ page_by shape (ordered_by shape.sort docs)
+page-without-key shape docs none = ap (λ (sort : Option SortKey). page_by shape (ordered_by sort docs)) (sym none)
+
+page-answers : (what : Searching) (def : IndexDef) (shape : Shape) (docs : List Doc) → IsShapeOf what def shape → SortsBy def.fields what
+    → page_by shape (ordered_by shape.sort docs) ≡ found_reply what def (in_order what.sort def docs)
+page-answers what def shape docs s known = pick shape.sort refl
+  where
+    pick : (sort : Option SortKey) → shape.sort ≡ sort → page_by shape (ordered_by sort docs) ≡ found_reply what def (in_order what.sort def docs)
+    pick None is = unsorted-page what def shape docs s is known
+    pick (Some key) is = sorted-page what def shape key docs s is
+
+-- a page in the order of its shape is what the search is answered
+pub made-answer : {E : Type 0} (made : Result Reply E) (what : Searching) (def : IndexDef) (shape : Shape) (docs counted : List Doc) → IsShapeOf what def shape → SortsBy def.fields what
+    → docs ≡ counted → IfOk made (λ reply. reply ≡ page_by shape (ordered_by shape.sort docs)) → IfOk made (λ reply. reply ≡ found_reply what def (in_order what.sort def counted))
+made-answer made what def shape docs counted s known same page =
+    let answers = page-answers what def shape docs s known ∙ ap (λ (docs : List Doc). found_reply what def (in_order what.sort def docs)) same in
+    subst (λ (answer : Reply). IfOk made (λ reply. reply ≡ answer)) answers page
+
+-- it is sorted where the search is
+sorted-same : (what : Searching) (def : IndexDef) (shape : Shape) → IsShapeOf what def shape → SortsBy def.fields what → is_some shape.sort ≡ is_some what.sort
+sorted-same what def shape s known = pick shape.sort refl
+  where
+    pick : (sort : Option SortKey) → shape.sort ≡ sort → is_some sort ≡ is_some what.sort
+    pick None is = ap is_some (sym (unsorted what def shape s is known))
+    pick (Some key) is = sym (sorted-some what def shape key s is)
+
+reads-same : (what : Searching) (def : IndexDef) (shape : Shape) (count : ℕ) → IsShapeOf what def shape → SortsBy def.fields what → reads_by shape count ≡ reads_for what count
+reads-same what def shape count s known = rw (sorted-same what def shape s known, s.num, s.no_content, s.offset) refl
+
+-- and as many documents are read as is told
+pub reads-told : {E : Type 0} (made : Result Reply E) (what : Searching) (def : IndexDef) (shape : Shape) (docs counted : List Doc) (old new : ℕ) → IsShapeOf what def shape
+    → SortsBy def.fields what → docs ≡ counted → OnOk made (new ≡ reads_after old (reads_by shape (length docs))) → OnOk made (new ≡ reads_after old (reads_for what (length counted)))
+reads-told made what def shape docs counted old new s known same page =
+    let told = reads-same what def shape (length docs) s known ∙ ap (λ (docs : List Doc). reads_for what (length docs)) same in
+    subst (λ (more : ℕ). OnOk made (new ≡ reads_after old more)) told page

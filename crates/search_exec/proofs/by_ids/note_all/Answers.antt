@@ -1,0 +1,43 @@
+use Rattle.std.proofs.Common.{◌≡◌, ◌+◌, ℕ, List, sym, ◌∙◌, subst, arith}
+use Rattle.std.specs.Prelude.{Option, Some, IfSome}
+use Rattle.ft_base.specs.declared.doc.Doc.{Doc}
+use Rattle.search_exec.proofs.PageLaws.{asked-ended, asked-next, least-next, live-candidate, reads-told}
+use Rattle.search_exec.specs.Candidates.{MayAsk, in_candidates}
+use Rattle.search_exec.specs.Ids.{doc_at, docs_in}
+use Rattle.search_exec.proofs.by_ids.note_all.Goals as goal
+
+pub asking-preserved : goal.asking-preserved
+asking-preserved g c =
+    let held = g.T.Lists.held c.args.lists.now in
+    let has = in_candidates held c.args.candidates.now in
+    let docs = c.args.store.now.space in
+    let id = c.in-Some.id in
+    let least = least-next held c.args.candidates.now c.asking.candidates c.asking.from id c.in_ok-id.field-0 c.asking.invariant.same c.in-Some.is c.in_ok-id.ensures.least in
+    let below = c.requires.lists.below id (live-candidate held c.args.candidates.now id least.passes) in
+    let next = c.in_ok-note_id.ensures in
+    let noted = λ (shown : List Doc) (doc : Doc) (found : doc_at id docs ≡ Some doc). next.shown shown doc (subst (λ (docs : List Doc). doc_at id docs ≡ Some doc) (sym c.asking.invariant.space) found) in
+    record {
+      asked = asked-next c.args.shape.now has docs c.asking.from id c.asking.page c.note_id.new.page c.asking.invariant.rise least (c.requires.known.stored id least.passes) noted c.asking.invariant.asked;
+      same = c.in_ok-id.ensures.same ∙ c.asking.invariant.same;
+      may_ask = subst (λ (answer : Option ℕ). IfSome answer (λ id. MayAsk held c.seek.new.self (id + 1))) c.in-Some.is c.in_ok-id.ensures.ready;
+      few = omega (arith, next.total, least.reached);
+      most = omega (arith, below);
+      rise = c.asking.invariant.rise;
+      bits = c.asking.invariant.bits;
+      reads = next.reads c.args.store.now.reads c.asking.invariant.reads;
+      space = next.space ∙ c.asking.invariant.space;
+      ready = next.ready ∙ c.asking.invariant.ready;
+      last = next.last ∙ c.asking.invariant.last;
+      counts = omega (arith, c.in_ok-id.ensures.counts);
+    }
+
+pub returns-clause-shown : goal.returns-clause-shown
+returns-clause-shown g c =
+    asked-ended c.args.shape.now (g.T.Lists.held c.args.lists.now) c.args.candidates.now c.asking.candidates c.args.store.now.space c.asking.from c.in_ok-id.field-0 c.asking.page c.asking.invariant.same c.in_default.is c.in_ok-id.ensures.least c.asking.invariant.asked
+
+pub returns-clause-reads : goal.returns-clause-reads
+returns-clause-reads g c =
+    let held = g.T.Lists.held c.args.lists.now in
+    let docs = c.args.store.now.space in
+    let shows = asked-ended c.args.shape.now held c.args.candidates.now c.asking.candidates docs c.asking.from c.in_ok-id.field-0 c.asking.page c.asking.invariant.same c.in_default.is c.in_ok-id.ensures.least c.asking.invariant.asked in
+    reads-told c.args.shape.now c.args.store.now.reads c.asking.store.reads (docs_in (in_candidates held c.args.candidates.now) docs) c.asking.page c.asking.invariant.reads shows

@@ -1,0 +1,22 @@
+use Rattle.std.proofs.Common.{◌≡◌, List, subst, arith}
+use Rattle.std.specs.Prelude.{IfOk}
+use Rattle.ft_base.specs.declared.doc.Doc.{Doc}
+use Rattle.ft_base.specs.declared.reply.Reply.{Reply}
+use Rattle.search_exec.proofs.SearchLaws.{page-without-key, page-without-rows}
+use Rattle.search_exec.specs.Candidates.{in_candidates}
+use Rattle.search_exec.specs.Ids.{docs_in}
+use Rattle.search_exec.specs.Pages.{ordered_by}
+use Rattle.search_exec.specs.Shapes.{page_by}
+use Rattle.search_exec.proofs.search.page_by_shape.Goals as goal
+use Rattle.search_exec.proofs.search.page_by_shape.Goals.{in_default-via-in-Some+else-shape-gt0, in_default-via-in_default}
+
+pub returns-in_default-clause-reply : goal.returns-in_default-clause-reply
+returns-in_default-clause-reply g c =
+    let shape = c.args.shape.now in
+    let docs : List Doc = docs_in (in_candidates (g.T.Lists.held c.args.lists.now) c.args.candidates) c.args.store.now.space in
+    let same : page_by shape docs ≡ page_by shape (ordered_by shape.sort docs) =
+    elim c.in_default.branch [
+      | in_default-via-in-Some+else-shape-gt0 w ↦ page-without-rows shape docs (omega (arith, w.if-shape-gt0.false))
+      | in_default-via-in_default w ↦ page-without-key shape docs w.in_default.is
+    ] in
+    subst (λ (page : Reply). IfOk c.page_by_ids.result (λ reply. reply ≡ page)) same c.page_by_ids.ensures.reply
