@@ -1,19 +1,19 @@
 -- A set of ids, asked for the least from a number on: each answer is the id of the next document.
-use Rattle.std.proofs.Common.{◌≡◌, ◌<◌, ◌≤◌, ◌+◌, ℕ, Bool, true, false, ◌&&◌, List, [], ◌∷◌, ◌++◌, length, map, filter, refl, sym, ap, ◌∙◌, subst, inl, inr, arith, append-nil, append_assoc}
-use Rattle.std.specs.Prelude.{Option, None, Some, IsSome, nat_eq, nat_le}
+use Rattle.std.proofs.Common.{◌≡◌, ◌<◌, ◌≤◌, ◌+◌, ℕ, Bool, true, false, ◌&&◌, List, [], ◌∷◌, map, filter, refl, sym, ap, ◌∙◌, inl, inr, arith}
+use Rattle.std.specs.Prelude.{Option, Some, nat_eq, nat_le}
 use Rattle.std.specs.List.{AllByRecursion}
-use Rattle.std.specs.List.Sorted.{IsStrictlyIncreasing, IsStrictlySortedBy}
+use Rattle.std.specs.List.Sorted.{IsStrictlySortedBy}
 use Rattle.std.specs.Ordering.{nat_cmp}
 use Rattle.std.specs.declared.cmp.Ordering.TheVariants.{Less}
-use Rattle.std.proofs.lemmas.Bool.{cases_Bool, false≢true, and_parts, and_right, eqb-true, leb-true, le-leb, lt-leb}
+use Rattle.std.proofs.lemmas.Bool.{cases_Bool, and_parts, and_right, eqb-true, leb-true, le-leb, lt-leb}
 use Rattle.std.proofs.lemmas.Bool.Decides.{nat_tests}
-use Rattle.std.proofs.lemmas.Map.Keys.{sorted_from_strictly_increasing, sorted_head, sorted_tail}
+use Rattle.std.proofs.lemmas.Map.Keys.{sorted_head, sorted_tail}
 use Rattle.ft_base.specs.declared.doc.Doc.{Doc}
 use Rattle.id_iters.specs.Held.{Held}
-use Rattle.id_iters.specs.Least.{IsLeast, IsLeastAt, NoneFrom}
-use Rattle.id_iters.specs.Sets.{About, about, in_set, living}
+use Rattle.id_iters.specs.Least.{IsLeastAt, NoneFrom}
+use Rattle.id_iters.specs.Sets.{about, in_set}
 use Rattle.id_iters.specs.declared.iter.Iter.{Iter}
-use Rattle.search_exec.specs.Ids.{doc_at, docs_in}
+use Rattle.search_exec.specs.Ids.{doc_at}
 
 abbrev ids : List Doc → List ℕ
 ids docs = map (λ (doc : Doc). doc.id) docs
@@ -84,4 +84,3 @@ none-left from has (doc ∷ docs) none = rw (missed from doc.id has (none.fails 
 -- an id that an iterator has live is live
 pub live-first : (held : Held) (iter : Iter) (id : ℕ) → in_set held iter id ≡ true → held.live id ≡ true
 live-first held iter id has_it = (and_parts (held.live id) ((about held iter).has id) has_it).0
-

@@ -1,5 +1,5 @@
 -- The ids that are named, and those of them that an iterator has.
-use Rattle.std.proofs.Common.{◌≡◌, ◌<◌, ◌≤◌, ℕ, Bool, false, ◌&&◌, ◌||◌, List, [], ◌∷◌, length, map, take, get_or, refl, sym, ap, ◌∙◌, subst, inl, inr, arith}
+use Rattle.std.proofs.Common.{◌≡◌, ◌<◌, ◌≤◌, ℕ, Bool, true, false, ◌&&◌, ◌||◌, List, [], ◌∷◌, length, map, take, get_or, refl, sym, ap, ◌∙◌, subst, inl, inr, arith}
 use Rattle.std.specs.Prelude.{Option, None, Some, nat_eq, option_map}
 use Rattle.std.specs.Cmp.Lexicographic.{nat_list_eq_equiv}
 use Rattle.std.specs.List.{All, AllByRecursion, IsDistinct, cons_option}
@@ -7,7 +7,7 @@ use Rattle.std.specs.List.Sorted.{IsNonDecreasing, IsPermutation, IsStrictlyIncr
 use Rattle.std.specs.Ordering.{nat_cmp}
 use Rattle.std.specs.Str.{bytes_eq}
 use Rattle.std.specs.declared.cmp.Ordering.TheVariants.{Less}
-use Rattle.std.proofs.lemmas.Bool.{cases_Bool, cases_lt, eq-eqb, ne_eqb}
+use Rattle.std.proofs.lemmas.Bool.{and_parts, cases_Bool, cases_lt, eq-eqb, ne_eqb}
 use Rattle.std.proofs.lemmas.Bool.Decides.{nat_tests}
 use Rattle.std.proofs.lemmas.List.{get_or-take, get_or_default, length-take}
 use Rattle.std.proofs.lemmas.List.Folds.{list_any_at, list_any_none}
@@ -17,9 +17,12 @@ use Rattle.std.proofs.lemmas.Slice.Eq.{bytes_eq-Decides}
 use Rattle.ft_base.specs.Space.{doc_of}
 use Rattle.ft_base.specs.declared.doc.Doc.{Doc}
 use Rattle.ft_machine.specs.Counted.{is_among}
-use Rattle.id_iters.specs.Least.{IsLeastAt, NoneFrom}
-use Rattle.search_exec.specs.Candidates.{AreNamed, ids_with, is_id_of, is_named}
+use Rattle.id_iters.specs.Held.{Held}
+use Rattle.id_iters.specs.Least.{IsLeast, IsLeastAt, NoneFrom}
+use Rattle.id_iters.specs.Sets.{About, living}
+use Rattle.search_exec.specs.Candidates.{AreNamed, about_candidates, candidate, ids_with, in_candidates, is_id_of, is_named}
 use Rattle.search_exec.specs.Ids.{docs_in, docs_of}
+use Rattle.search_exec.specs.declared.candidates.Candidates.{Candidates}
 
 -- ---- which documents are named
 
@@ -189,3 +192,21 @@ none-named ids behind from below all = record {
       let under : get_or ids k d < from = below-at ids behind from k d below (omega (arith, here, all)) here in
       ne_eqb n (get_or ids k d) (λ same. absurd (omega (arith, under, low, same))));
 }
+
+-- an id of candidates is live
+pub live-candidate : (held : Held) (candidates : Candidates) (id : ℕ) → in_candidates held candidates id ≡ true → held.live id ≡ true
+live-candidate held candidates id has_it =
+    let part : About × Option (List ℕ) = about_candidates held candidates in
+    let lives = (and_parts (living held.live part.0 id) (is_named part.1 id) has_it).0 in
+    (and_parts (held.live id) (part.0.has id) lives).0
+
+-- an answer of candidates that were asked is one of those that they were
+pub answer-same : (held : Held) (first now : Candidates) (from : ℕ) (said answer : Option ℕ) → about_candidates held now ≡ about_candidates held first → said ≡ answer
+    → IsLeast (in_candidates held now) from said → IsLeast (in_candidates held first) from answer
+answer-same held first now from said answer same is least =
+    subst (λ (answer : Option ℕ). IsLeast (in_candidates held first) from answer) is
+    (subst (λ (part : About × Option (List ℕ)). IsLeast (candidate held.live part) from said) same least)
+
+pub least-next : (held : Held) (first now : Candidates) (from id : ℕ) (said : Option ℕ) → about_candidates held now ≡ about_candidates held first → said ≡ Some id
+    → IsLeast (in_candidates held now) from said → IsLeastAt (in_candidates held first) from id
+least-next held first now from id said same is least = answer-same held first now from said (Some id) same is least

@@ -1,10 +1,10 @@
 -- The first rows of all that are ranked are the rows of the first documents in the order of a key.
-use Rattle.std.proofs.Common.{◌≡◌, ◌≤◌, ℕ, Bool, true, ◌+◌, List, [], ◌∷◌, ◌++◌, length, map, take, drop, Ordering, Less, Equal, Greater, is_lt, refl, sym, ap, ◌∙◌, subst, inl, inr, arith, append-nil, append_assoc}
+use Rattle.std.proofs.Common.{◌≡◌, ◌≤◌, ℕ, Bool, true, ◌+◌, List, [], ◌∷◌, ◌++◌, length, map, take, drop, Ordering, Less, Equal, Greater, is_lt, refl, sym, ap, ◌∙◌, inl, inr, arith, append-nil, append_assoc}
 use Rattle.std.specs.Prelude.{Option, None, Some, IsSome, IfOk, Result, nat_le, pos}
 use Rattle.std.specs.List.{drop-map, flat_map, take-map}
 use Rattle.std.specs.List.Sorted.{IsStrictlyIncreasing}
 use Rattle.std.specs.Ordering.{ordering_then}
-use Rattle.std.proofs.lemmas.Bool.{cases_Bool, false≢true, and_parts, le-leb}
+use Rattle.std.proofs.lemmas.Bool.{cases_Bool, false≢true, le-leb}
 use Rattle.std.proofs.Math.Bool.{and-false}
 use Rattle.std.proofs.Math.Seq.{take-nil}
 use Rattle.std.proofs.lemmas.Grind.{flat_map-append}
@@ -16,14 +16,14 @@ use Rattle.ft_base.specs.declared.reply.Reply.{Reply}
 use Rattle.ft_base.specs.declared.reply.Reply.TheVariants.{Array, Number}
 use Rattle.id_iters.specs.Held.{Held}
 use Rattle.id_iters.specs.Least.{IsLeast, IsLeastAt, NoneFrom}
-use Rattle.id_iters.specs.Sets.{living}
 use Rattle.row_sort.proofs.OrderLaws.{row_weak}
 use Rattle.row_sort.proofs.SortingLaws.{first-push, length-sorted}
 use Rattle.row_sort.specs.Order.{row_order, value_order}
 use Rattle.row_sort.specs.Sorting.{placed, sorted}
 use Rattle.row_sort.specs.declared.rows.Ranked.{Ranked}
 use Rattle.search_exec.proofs.AskLaws.{docs_from, next, none-left}
-use Rattle.search_exec.specs.Candidates.{about_candidates, candidate, in_candidates, is_named}
+use Rattle.search_exec.proofs.CandidatesLaws.{answer-same}
+use Rattle.search_exec.specs.Candidates.{about_candidates, in_candidates}
 use Rattle.search_exec.specs.Ids.{doc_at, docs_in}
 use Rattle.search_exec.specs.Ranks.{first_ranked, ranked}
 use Rattle.search_exec.specs.Shapes.{order_by, page_by, row_by, value_by}
@@ -147,17 +147,6 @@ offered-next has shape key most docs from n total old new rise least stored take
           ∙ sym (append_assoc offered.so_far (doc ∷ []) (docs_from (n + 1) has docs)));
     }
 
--- an answer of candidates that were asked is one of the candidates that they were
-answer-same : (held : Held) (first now : Candidates) (from : ℕ) (said answer : Option ℕ) → about_candidates held now ≡ about_candidates held first → said ≡ answer
-    → IsLeast (in_candidates held now) from said → IsLeast (in_candidates held first) from answer
-answer-same held first now from said answer same is least =
-    subst (λ (answer : Option ℕ). IsLeast (in_candidates held first) from answer) is
-    (subst (λ part. IsLeast (candidate held.live part) from said) same least)
-
-pub least-next : (held : Held) (first now : Candidates) (from id : ℕ) (said : Option ℕ) → about_candidates held now ≡ about_candidates held first → said ≡ Some id
-    → IsLeast (in_candidates held now) from said → IsLeastAt (in_candidates held first) from id
-least-next held first now from id said same is least = answer-same held first now from said (Some id) same is least
-
 -- where no id is answered, the rows of all documents were offered
 pub offered-ended : (held : Held) (first now : Candidates) (shape : Shape) (key : SortKey) (most : ℕ) (docs : List Doc) (from total : ℕ) (rows : List (Ranked (List Reply))) (said : Option ℕ)
     → about_candidates held now ≡ about_candidates held first → said ≡ None → IsLeast (in_candidates held now) from said
@@ -171,9 +160,3 @@ offered-ended held first now shape key most docs from total rows said same is le
       offered.ranked_first ∙ ap (first_ranked shape key most) (sym all),
       offered.count ∙ ap (λ (docs : List Doc). length docs) (sym all),
     )
-
--- an id of candidates is live
-pub live-candidate : (held : Held) (candidates : Candidates) (id : ℕ) → in_candidates held candidates id ≡ true → held.live id ≡ true
-live-candidate held candidates id has_it =
-    let part = about_candidates held candidates in
-    (and_parts (held.live id) (part.0.has id) (and_parts (living held.live part.0 id) (is_named part.1 id) has_it).0).0

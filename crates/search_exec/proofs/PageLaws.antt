@@ -1,16 +1,16 @@
 -- How candidates are asked for their ids one after another, and a page shows the documents so far.
-use Rattle.std.proofs.Common.{◌≡◌, ◌+◌, ℕ, Bool, true, List, [], ◌∷◌, ◌++◌, length, map, refl, sym, ap, ◌∙◌, subst, append-nil, append_assoc}
+use Rattle.std.proofs.Common.{◌≡◌, ◌+◌, ℕ, Bool, List, [], ◌∷◌, ◌++◌, length, map, refl, sym, ap, ◌∙◌, subst, append-nil, append_assoc}
 use Rattle.std.specs.Prelude.{Option, None, Some, IsSome}
 use Rattle.std.specs.List.Sorted.{IsStrictlyIncreasing}
-use Rattle.std.proofs.lemmas.Bool.{false≢true, and_parts}
+use Rattle.std.proofs.lemmas.Bool.{false≢true}
 use Rattle.std.proofs.lemmas.Map.Keys.{sorted_from_strictly_increasing}
 use Rattle.ft_base.specs.declared.doc.Doc.{Doc}
 use Rattle.hash_store.specs.Store.{reads_after}
 use Rattle.id_iters.specs.Held.{Held}
 use Rattle.id_iters.specs.Least.{IsLeast, IsLeastAt, NoneFrom}
-use Rattle.id_iters.specs.Sets.{About, living}
 use Rattle.search_exec.proofs.AskLaws.{docs_from, next, none-left}
-use Rattle.search_exec.specs.Candidates.{about_candidates, candidate, in_candidates, is_named}
+use Rattle.search_exec.proofs.CandidatesLaws.{answer-same}
+use Rattle.search_exec.specs.Candidates.{about_candidates, in_candidates}
 use Rattle.search_exec.specs.Ids.{doc_at, docs_in}
 use Rattle.search_exec.specs.Pages.{Shows, reads_of}
 use Rattle.search_exec.specs.declared.candidates.Candidates.{Candidates}
@@ -40,23 +40,6 @@ asked-next shape has docs from n old new rise least stored noted asked = pick (d
     }
 
 -- an id of the candidates is live
-pub live-candidate : (held : Held) (candidates : Candidates) (id : ℕ) → in_candidates held candidates id ≡ true → held.live id ≡ true
-live-candidate held candidates id has_it =
-    let part : About × Option (List ℕ) = about_candidates held candidates in
-    let lives = (and_parts (living held.live part.0 id) (is_named part.1 id) has_it).0 in
-    (and_parts (held.live id) (part.0.has id) lives).0
-
--- an answer of candidates that were asked is one of those that they were
-answer-same : (held : Held) (first now : Candidates) (from : ℕ) (said answer : Option ℕ) → about_candidates held now ≡ about_candidates held first → said ≡ answer
-    → IsLeast (in_candidates held now) from said → IsLeast (in_candidates held first) from answer
-answer-same held first now from said answer same is least =
-    subst (λ (answer : Option ℕ). IsLeast (in_candidates held first) from answer) is
-    (subst (λ (part : About × Option (List ℕ)). IsLeast (candidate held.live part) from said) same least)
-
-pub least-next : (held : Held) (first now : Candidates) (from id : ℕ) (said : Option ℕ) → about_candidates held now ≡ about_candidates held first → said ≡ Some id
-    → IsLeast (in_candidates held now) from said → IsLeastAt (in_candidates held first) from id
-least-next held first now from id said same is least = answer-same held first now from said (Some id) same is least
-
 -- where no id is answered, all is shown
 pub asked-ended : (shape : Shape) (held : Held) (first now : Candidates) (docs : List Doc) (from : ℕ) (said : Option ℕ) (page : Page) → about_candidates held now ≡ about_candidates held first
     → said ≡ None → IsLeast (in_candidates held now) from said → IsAsked shape (in_candidates held first) docs from page → Shows shape (docs_in (in_candidates held first) docs) page

@@ -4,7 +4,8 @@ use Rattle.ft_base.specs.declared.doc.Doc.{Doc}
 use Rattle.hash_store.specs.Store.{reads_after}
 use Rattle.row_sort.specs.Order.{row_order}
 use Rattle.row_sort.specs.Sorting.{sorted}
-use Rattle.search_exec.proofs.FieldLaws.{least-next, live-candidate, offered-ended, offered-next, offered-none}
+use Rattle.search_exec.proofs.CandidatesLaws.{least-next, live-candidate}
+use Rattle.search_exec.proofs.FieldLaws.{offered-ended, offered-next, offered-none}
 use Rattle.search_exec.specs.Candidates.{about_candidates, in_candidates, MayAsk}
 use Rattle.search_exec.specs.Ids.{doc_at}
 use Rattle.search_exec.specs.Ranks.{ranked}

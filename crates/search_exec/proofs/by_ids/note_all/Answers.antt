@@ -1,7 +1,8 @@
 use Rattle.std.proofs.Common.{◌≡◌, ◌+◌, ℕ, List, sym, ◌∙◌, subst, arith}
 use Rattle.std.specs.Prelude.{Option, Some, IfSome}
 use Rattle.ft_base.specs.declared.doc.Doc.{Doc}
-use Rattle.search_exec.proofs.PageLaws.{asked-ended, asked-next, least-next, live-candidate, reads-told}
+use Rattle.search_exec.proofs.CandidatesLaws.{least-next, live-candidate}
+use Rattle.search_exec.proofs.PageLaws.{asked-ended, asked-next, reads-told}
 use Rattle.search_exec.specs.Candidates.{MayAsk, in_candidates}
 use Rattle.search_exec.specs.Ids.{doc_at, docs_in}
 use Rattle.search_exec.proofs.by_ids.note_all.Goals as goal
