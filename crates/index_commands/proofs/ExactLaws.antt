@@ -1,6 +1,7 @@
 -- What is read for a search, and what is told of an index, exactly.
-use Rattle.std.specs.Prelude.{◌≡◌, ◌≤◌, ℕ, List, length, Bool, Option, None, Some, Result, Ok, Err, IfOk, OnOk, find}
+use Rattle.std.specs.Prelude.{◌≡◌, ◌≤◌, ℕ, List, length, Option, None, Some, Result, Ok, Err, IfOk, OnOk, find}
 use Rattle.std.proofs.Common.{ap, ◌∙◌, inl, inr}
+use Rattle.cmd_parse.specs.Searching.{Searching}
 use Rattle.cmd_parse.specs.Read.{Asked, Plain, Search}
 use Rattle.cmd_parse.specs.declared.command.Verb.TheVariants.{Info}
 use Rattle.ft_base.specs.Words.{first}
@@ -10,6 +11,7 @@ use Rattle.ft_base.specs.declared.doc.Doc.{Doc}
 use Rattle.ft_base.specs.declared.reply.Reply.{Reply}
 use Rattle.ft_index.specs.Index.{Index}
 use Rattle.ft_base.specs.Memory.{want_of_memory}
+use Rattle.ft_machine.specs.Counted.{in_order}
 use Rattle.ft_machine.specs.Step.{Told}
 use Rattle.index_commands.specs.Exactness.{IsRefusal, ReadsFew, ReadsRows, TellsEntries, TellsExactly, TellsOf}
 use Rattle.ft_machine.specs.Info.{info_reply}
@@ -19,14 +21,15 @@ use Rattle.ft_index.specs.Records.{all_entries}
 use Rattle.indexed_store.specs.Named.{is_named}
 use Rattle.hash_store.specs.Store.{reads_after}
 use Rattle.search_exec.specs.Ids.{reads_for}
-use Rattle.ft_machine.specs.Searching.{found_reply}
+use Rattle.ft_machine.specs.Shown.{found_reply}
 
--- what a query found was answered, or memory was wanting
-pub reads-found : {E : Type 0} (no_content : Bool) (docs : List Doc) (written : List ℕ) (made : Result Reply E) (old new : ℕ) → IfOk made (λ reply. reply ≡ found_reply no_content docs)
-    → OnOk made (new ≡ reads_after old (reads_for no_content (length docs))) → old ≤ new → Told made written → ReadsRows no_content written old new
-reads-found no_content docs written (Ok reply) old new is reads rises (inl said) = inl (record { found = docs; shown = said ∙ ap spelling is; reads = reads })
-reads-found no_content docs written (Ok reply) old new is reads rises (inr want) = inr (inr (want, rises))
-reads-found no_content docs written (Err e) old new is reads rises want = inr (inr (want, rises))
+-- what a search found was answered, or out of memory
+pub reads-found : {E : Type 0} (what : Searching) (def : IndexDef) (docs : List Doc) (written : List ℕ) (made : Result Reply E) (old new : ℕ)
+    → IfOk made (λ reply. reply ≡ found_reply what def (in_order what.sort def docs))
+    → OnOk made (new ≡ reads_after old (reads_for what (length docs))) → old ≤ new → Told made written → ReadsRows what written old new
+reads-found what def docs written (Ok reply) old new is reads rises (inl said) = inl (record { def = def; found = docs; shown = said ∙ ap spelling is; reads = reads })
+reads-found what def docs written (Ok reply) old new is reads rises (inr want) = inr (inr (want, rises))
+reads-found what def docs written (Err e) old new is reads rises want = inr (inr (want, rises))
 
 -- a command that is refused reads nothing for a search
 pub reads-refused : (asks : Asked) (written : List ℕ) (old new : ℕ) → IsRefusal written → new ≡ old → ReadsFew asks written old new
@@ -52,7 +55,7 @@ entries-of index def lists (Ok reply) counts its of_lists count made = record {
   records = count ∙ ap all_entries of_lists;
 }
 
--- it was answered, or memory was wanting
+-- it was answered, or out of memory
 pub tells-told : {E : Type 0} (index : Index) (made : Result Reply E) (written : List ℕ) → IfOk made (λ reply. TellsEntries index reply) → Told made written → TellsOf (Some index) written
 tells-told index (Ok reply) written tells (inl said) = inl (reply, tells, said)
 tells-told index (Ok reply) written tells (inr want) = inr (want_of_memory, want)

@@ -1,4 +1,5 @@
 pub mod ExactLaws
+pub mod FilterLaws
 pub mod IndexCommandLaws
 pub mod InfoLaws
 pub mod SearchLaws

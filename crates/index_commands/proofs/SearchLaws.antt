@@ -5,7 +5,7 @@ use Rattle.std.specs.List.{All}
 use Rattle.std.specs.Option.{option_map}
 use Rattle.std.proofs.lemmas.List.Elements.{All-filter}
 use Rattle.cmd_parse.specs.Read.{Search}
-use Rattle.cmd_parse.specs.Search.{Searching}
+use Rattle.cmd_parse.specs.Searching.{Searching}
 use Rattle.ft_base.specs.Reply.{spelling}
 use Rattle.ft_base.specs.declared.definition.IndexDef.{IndexDef}
 use Rattle.ft_base.specs.declared.doc.Doc.{Doc}
@@ -15,7 +15,6 @@ use Rattle.ft_base.specs.declared.reply.Reply.TheVariants.{Fault}
 use Rattle.ft_index.specs.Has.{Has}
 use Rattle.ft_index.specs.Index.{Index, Indexes, IsIndex}
 use Rattle.ft_index.specs.Lists.{held_of, named_of}
-use Rattle.ft_meaning.specs.Holds.{found_of}
 use Rattle.ft_meaning.specs.Meaning.{ValuesFit}
 use Rattle.ft_meaning.specs.Member.{member, members}
 use Rattle.ft_machine.proofs.Stepping.{gives, wants}
@@ -27,12 +26,15 @@ use Rattle.query_grammar.specs.Answer.{IsAnswer}
 use Rattle.query_grammar.specs.declared.fault.QueryFault.{QueryFault}
 use Rattle.query_grammar.specs.declared.fault.QueryFault.TheVariants.{Syntax, UnknownField, WrongKind, NoParam, TooDeep, OutOfScope, NoMemory}
 use Rattle.query_plan.specs.Finds.{AreOf, IsKept}
-use Rattle.ft_machine.specs.Searching.{found_reply, IsAnswered, searched}
+use Rattle.ft_machine.specs.Counted.{in_order}
+use Rattle.ft_machine.specs.Searching.{IsAnswered, answer_reply, searched}
+use Rattle.ft_machine.specs.Shown.{found_reply}
 use Rattle.ft_machine.specs.Indexes.{unknown_index}
 use Rattle.ft_machine.specs.Machine.{State, answered}
 use Rattle.ft_base.specs.Memory.{out_of_memory}
+use Rattle.search_exec.specs.Ids.{docs_of}
 use Rattle.query_grammar.specs.Refusals.{query_refusal}
-use Rattle.ft_machine.specs.Step.{Does, Told}
+use Rattle.ft_machine.specs.Step.{Does}
 
 -- a fault that is not want of memory
 abbrev IsKnown : QueryFault → Type 0
@@ -58,24 +60,16 @@ searches-index indexes index state number what written reply same there is said 
     gives (Search what) number state (answered reply state) written state
     (subst (λ (i : Option Defined). searched i what state (answered reply state)) (sym (named indexes state what.index (Some index) same there)) (is, refl)) said refl
 
--- where a reply is made, it was answered, or memory was wanting
-pub found_or : {E : Type 0} (made : Result Reply E) (reply : Reply) (written : List ℕ) → IfOk made (λ made. made ≡ reply) → Told made written
-    → (written ≡ spelling reply) ⊎ (written ≡ spelling out_of_memory)
-found_or (Ok made) reply written same (inl said) = inl (said ∙ ap spelling same)
-found_or (Ok made) reply written same (inr want) = inr want
-found_or (Err e) reply written same want = inr want
-
--- The query has a tree, and what it finds was answered, or memory was wanting.
+-- The query has a tree, and what it finds or an unknown field was answered, or out of memory.
 pub searches-found : (indexes : List Index) (index : Index) (def : IndexDef) (state : State) (number : ℕ) (what : Searching) (written : List ℕ) (query : Query) (docs : List Doc)
     → state.definitions ≡ definitions_of indexes → find (is_named what.index) indexes ≡ Some index → def ≡ index.def → state.space ≡ docs → IsAnswer def what.params what.query (Ok query)
-    → (written ≡ spelling (found_reply what.no_content (found_of query index.def docs))) ⊎ (written ≡ spelling out_of_memory) → Does (Search what) number state written state
+    → (written ≡ spelling (answer_reply what index.def docs (Ok query))) ⊎ (written ≡ spelling out_of_memory) → Does (Search what) number state written state
 searches-found indexes index def state number what written query docs same there its all is (inl said) =
-    let reply : Reply = found_reply what.no_content (found_of query index.def docs) in
-    searches-index indexes index state number what written reply same there (record {
+    searches-index indexes index state number what written (answer_reply what index.def docs (Ok query)) same there (record {
       answer = Ok query;
       read = λ wrong. cc;
       text = subst (λ (d : IndexDef). IsAnswer d what.params what.query (Ok query)) its is;
-      same = ap (λ (ds : List Doc). found_reply what.no_content (found_of query index.def ds)) (sym all);
+      same = ap (λ (ds : List Doc). answer_reply what index.def ds (Ok query)) (sym all);
     }) said
 searches-found indexes index def state number what written query docs same there its all is (inr want) = wants (Search what) number state written tt want
 
@@ -90,7 +84,7 @@ searches-fault indexes index def state number what written fault same there its 
       same = refl;
     }) said
 
--- The text is no query, and its fault was answered; or memory was wanting to read it.
+-- The text is no query, and its fault was answered, or out of memory.
 pub searches-fault_of : (indexes : List Index) (index : Index) (def : IndexDef) (state : State) (number : ℕ) (what : Searching) (written : List ℕ) (fault : QueryFault)
     → state.definitions ≡ definitions_of indexes → find (is_named what.index) indexes ≡ Some index → def ≡ index.def
     → IsAnswer def what.params what.query (Err fault) → written ≡ spelling (Fault (query_refusal fault)) → Does (Search what) number state written state
@@ -101,6 +95,15 @@ searches-fault_of indexes index def state number what written (WrongKind at) sam
 searches-fault_of indexes index def state number what written (NoParam at) same there its is said = searches-fault indexes index def state number what written (NoParam at) same there its (λ wrong. cc) is said
 searches-fault_of indexes index def state number what written (TooDeep at) same there its is said = searches-fault indexes index def state number what written (TooDeep at) same there its (λ wrong. cc) is said
 searches-fault_of indexes index def state number what written (OutOfScope at) same there its is said = searches-fault indexes index def state number what written (OutOfScope at) same there its (λ wrong. cc) is said
+
+-- what is shown of the documents of a set is shown of those that were found, by the index's definition
+pub shown-by : {E : Type 0} (what : Searching) (def same : IndexDef) (docs found : List Doc) (made : Result Reply E) → def ≡ same → docs ≡ found
+    → IfOk made (λ reply. reply ≡ found_reply what def (in_order what.sort def (docs_of what.keys docs)))
+    → IfOk made (λ reply. reply ≡ found_reply what same (in_order what.sort same (docs_of what.keys found)))
+shown-by what def same docs found (Ok reply) its all is =
+    is ∙ (ap (λ (d : IndexDef). found_reply what d (in_order what.sort d (docs_of what.keys docs))) its
+    ∙ ap (λ (docs : List Doc). found_reply what same (in_order what.sort same (docs_of what.keys docs))) all)
+shown-by what def same docs found (Err e) its all is = is
 
 index-kept : (index : Index) (docs : List Doc) → IsIndex index → index.table.last < 2 ^ 62 → All (λ (doc : Doc). ValuesFit doc.hash) docs
     → IsKept index.table.live (members index.def docs)

@@ -1,5 +1,5 @@
 -- How many documents a search reads, and how many records are told of an index: by the store's own count, and the lists'.
-use Rattle.std.specs.Prelude.{◌≡◌, ◌≤◌, ◌⊎◌, ℕ, List, length, Bool, Option, Some, None, find}
+use Rattle.std.specs.Prelude.{◌≡◌, ◌≤◌, ◌⊎◌, ℕ, List, length, Option, Some, None, find}
 use Rattle.cmd_parse.specs.Searching.{Searching}
 use Rattle.cmd_parse.specs.Read.{Asked, Plain, Search}
 use Rattle.cmd_parse.specs.declared.command.Verb.TheVariants.{Info}
@@ -11,6 +11,7 @@ use Rattle.ft_base.specs.declared.reply.Reply.{Reply}
 use Rattle.ft_base.specs.declared.reply.Reply.TheVariants.{Fault}
 use Rattle.ft_index.specs.Index.{Index}
 use Rattle.ft_base.specs.Words.{first}
+use Rattle.ft_machine.specs.Counted.{in_order}
 use Rattle.ft_machine.specs.Info.{info_reply}
 use Rattle.ft_machine.specs.Shown.{found_reply}
 use Rattle.ft_machine.specs.declared.counts.Counts.{Counts}
@@ -19,16 +20,16 @@ use Rattle.ft_index.specs.Records.{all_entries}
 use Rattle.indexed_store.specs.Named.{is_named}
 use Rattle.search_exec.specs.Ids.{reads_for}
 
--- a refusal is written, or that memory was wanting
+-- a refusal is written, or out of memory
 abbrev pub IsRefusal : List ℕ → Type 0
 IsRefusal written = (text : List ℕ) × (written ≡ spelling (Fault text))
 
 -- Documents are shown, and as many were read as are told of a search that counts so many.
 pub record ReadsShown (what : Searching) (written : List ℕ) (old new : ℕ) : Type 0 where
   pub def : IndexDef
-  -- the documents that count, in the order in which they are shown
+  -- the documents that count
   pub found : List Doc
-  pub shown : written ≡ spelling (found_reply what def found)
+  pub shown : written ≡ spelling (found_reply what def (in_order what.sort def found))
   pub reads : new ≡ reads_after old (reads_for what (length found))
 
 -- A search has read just what it shows or sorts; where it is refused, nothing.

@@ -1,5 +1,5 @@
 use Rattle.std.proofs.Common.{inl, inr, refl, sym}
-use Rattle.cmd_parse.specs.Reading.{search_of}
+use Rattle.cmd_parse.specs.Seen.{search_of}
 use Rattle.ft_machine.specs.Indexes.{unknown_index}
 use Rattle.ft_machine.specs.Step.{last_number}
 use Rattle.index_commands.proofs.SearchLaws.{searches-fault_of, searches-found, searches-none}
@@ -8,12 +8,12 @@ use Rattle.indexed_store.specs.Standing.{IndexStands, markers_at}
 use Rattle.query_grammar.specs.Refusals.{query_refusal}
 use Rattle.index_commands.proofs.search.answer_in.Goals as goal
 
-pub answer_query-requires-clause-stands : goal.answer_query-requires-clause-stands
-answer_query-requires-clause-stands c =
+pub answer_parsed-requires-clause-stands : goal.answer_parsed-requires-clause-stands
+answer_parsed-requires-clause-stands c =
     (named-has (IndexStands c.args.store.now.space last_number (markers_at last_number)) c.args.indexes.now c.args.search.now.index.now c.in-Some.index.now c.requires.step.stand (sym c.in-Some.ensures)).documents
 
-pub answer_query-requires-clause-few : goal.answer_query-requires-clause-few
-answer_query-requires-clause-few c =
+pub answer_parsed-requires-clause-few : goal.answer_parsed-requires-clause-few
+answer_parsed-requires-clause-few c =
     (named-has (IndexStands c.args.store.now.space last_number (markers_at last_number)) c.args.indexes.now c.args.search.now.index.now c.in-Some.index.now c.requires.step.stand (sym c.in-Some.ensures)).earlier
 
 pub returns-in_default-clause-does : goal.returns-in_default-clause-does
@@ -23,7 +23,7 @@ returns-in_default-clause-does c number state all same =
 pub returns-in-Ok-clause-does : goal.returns-in-Ok-clause-does
 returns-in-Ok-clause-does c number state all same =
     searches-found c.args.indexes.now c.in-Some.index.now c.def.result.now state number (search_of c.args.search.now) _ c.in-Ok.query c.args.store.now.space
-    same (sym c.in-Some.ensures) c.def.ensures.def all c.in-Ok.ensures.exact c.answer_query.ensures.found
+    same (sym c.in-Some.ensures) c.def.ensures.def all c.in-Ok.ensures.exact c.answer_parsed.ensures.found
 
 pub returns-in-Err-clause-does : goal.returns-in-Err-clause-does
 returns-in-Err-clause-does c number state all same =

@@ -1,4 +1,4 @@
-use Rattle.index_commands.proofs.search.answer_query.Given as goal
+use Rattle.index_commands.proofs.search.found_joined.Given as goal
 
 -- the steps are counted in a ledger of their own
 abbrev pub ghosts-found_in : goal.ghosts-found_in
