@@ -14,7 +14,7 @@ import subprocess
 import sys
 
 # What the gate may cost, in what it is made of.
-MOST_EDITS = 140
+MOST_EDITS = 100
 MOST_EDITS_EACH = 6
 MOST_TESTS = 60
 
