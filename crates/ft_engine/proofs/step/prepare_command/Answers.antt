@@ -1,6 +1,7 @@
 use Rattle.std.proofs.Common.{subst, sym}
 use Rattle.cmd_parse.specs.Read.{Search}
-use Rattle.cmd_parse.specs.Reading.{command_of, search_of}
+use Rattle.cmd_parse.specs.Reading.{command_of}
+use Rattle.cmd_parse.specs.Seen.{search_of}
 use Rattle.cmd_parse.specs.declared.command.Command.{Command}
 use Rattle.indexed_store.proofs.PreparingLaws.{prepares-read}
 use Rattle.indexed_store.specs.Preparing.{Prepares}
