@@ -53,7 +53,7 @@ seen_by field (Some text) = if is_numeric field.kind then num_or_null (number_of
 abbrev pub in_order_of : Field → Bool → List Doc → List Doc
 in_order_of field descending docs =
     sorted (λ (left right : Doc). value_order (record { descending = descending; lower = not field.unf })
-      (seen_by field (get_field left.hash field.name)) (seen_by field (get_field right.hash field.name))) docs
+    (seen_by field (get_field left.hash field.name)) (seen_by field (get_field right.hash field.name))) docs
 
 abbrev pub in_order_by : Option Field → Bool → List Doc → List Doc
 in_order_by None descending docs = docs

@@ -2,8 +2,8 @@
 use crate::answer::Answer;
 use crate::arguments::{frame_of, word};
 use crate::schemas::{put_fault as put_schema_fault, put_fields, put_index};
-use cmd_parse::{CmdFault, Command, SearchSpec, Verb, read_command};
-use ft_base::{IndexDef, MAX_WORDS, NoMemory, Words};
+use cmd_parse::{CmdFault, Command, FilterSpec, SearchSpec, SortSpec, Verb, read_command};
+use ft_base::{IndexDef, MAX_WORDS, NoMemory, Param, Words};
 use row_text::split_words;
 use std::alloc::Global;
 
@@ -85,12 +85,70 @@ fn put_create(index: &IndexDef, out: &mut Answer) {
     put_index(index, out);
 }
 
-// The index, the query, whether whole hashes are asked for or keys alone, and each parameter.
+// The index, the query, whether keys alone are asked for or fields too, what the other options ask, and each parameter.
 fn put_search(spec: &SearchSpec<'_>, out: &mut Answer) {
     put_named(b"search ", spec.index, out);
     put_named(b" ", spec.query, out);
     out.put(if spec.no_content { b" keys" } else { b" all" });
-    for param in spec.params.as_slice() {
+    put_list(b" return ", &spec.fields, out);
+    put_list(b" inkeys ", &spec.keys, out);
+    put_filters(spec.filters.as_slice(), out);
+    put_sort(&spec.sort, out);
+    put_window(spec.offset, spec.num, out);
+    put_params(spec.params.as_slice(), out);
+}
+
+// A name, how many words there are, and each of them. Nothing where there are none to be told.
+fn put_list(name: &[u8], words: &Option<Words<'_>>, out: &mut Answer) {
+    if let Some(words) = words {
+        out.put(name);
+        out.put_count(words.len());
+        put_args(words, out);
+    }
+}
+
+fn put_filters(filters: &[FilterSpec<'_>], out: &mut Answer) {
+    for filter in filters {
+        put_filter(filter, out);
+    }
+}
+
+// The place of the field's name, the name, and the least number and the greatest, or none.
+fn put_filter(filter: &FilterSpec<'_>, out: &mut Answer) {
+    out.put_at(b" filter", filter.at as usize);
+    put_named(b" ", filter.field, out);
+    match filter.interval {
+        Some((low, high)) => put_ends(low, high, out),
+        None => out.put(b" none"),
+    }
+}
+
+fn put_ends(low: i64, high: i64, out: &mut Answer) {
+    out.put(b" ");
+    out.put_int(low);
+    out.put(b" ");
+    out.put_int(high);
+}
+
+// The place of the field's name, the name, and the direction.
+fn put_sort(sort: &Option<SortSpec<'_>>, out: &mut Answer) {
+    if let Some(sort) = sort {
+        out.put_at(b" sort", sort.at as usize);
+        put_named(b" ", sort.field, out);
+        out.put(if sort.descending { b" desc" } else { b" asc" });
+    }
+}
+
+// The rows that are shown, where they are not the first ten.
+fn put_window(offset: u32, num: u32, out: &mut Answer) {
+    if (offset, num) != (0, 10) {
+        out.put_at(b" limit", offset as usize);
+        out.put_at(b"", num as usize);
+    }
+}
+
+fn put_params(params: &[Param], out: &mut Answer) {
+    for param in params {
         put_named(b" ", param.name.as_slice(), out);
         put_named(b"=", param.value.as_slice(), out);
     }
@@ -101,6 +159,8 @@ fn put_fault(fault: CmdFault, out: &mut Answer) {
         CmdFault::Unknown => out.put(b"Unknown"),
         CmdFault::Arity => out.put(b"Arity"),
         CmdFault::Syntax { at } => out.put_at(b"Syntax", at as usize),
+        CmdFault::Limit { at } => out.put_at(b"Limit", at as usize),
+        CmdFault::OutOfScope { at } => out.put_at(b"OutOfScope", at as usize),
         CmdFault::NotInteger => out.put(b"NotInteger"),
         CmdFault::BadDb => out.put(b"BadDb"),
         CmdFault::NotBuilt => out.put(b"NotBuilt"),

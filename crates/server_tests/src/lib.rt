@@ -1,5 +1,5 @@
-//! Tests of what no row of data can show: links that fail, commands that are abandoned, what is read, and sessions
-//! against a plain machine.
+//! Tests of what no row of data can show: links that fail, commands that are abandoned, and sessions against a plain
+//! machine.
 //!
 //! They are against mistakes that the check would pass: a definition that says something else than a client or a reader
 //! of the server's documents expects, a call that always finds memory wanting, a condition that no caller can meet.
@@ -17,13 +17,15 @@ mod events;
 #[cfg(test)]
 mod failed_calls;
 #[cfg(test)]
+mod found;
+#[cfg(test)]
 mod links;
+#[cfg(test)]
+mod options;
 #[cfg(test)]
 mod plain;
 #[cfg(test)]
 mod queries;
-#[cfg(test)]
-mod reads;
 #[cfg(test)]
 mod rows;
 #[cfg(test)]

@@ -3,7 +3,7 @@
 //! comparison then shows.
 ghost use Rattle.std.specs.Prelude.{◌<◌, ◌≤◌, length};
 
-use crate::queries::{is_met, unknown_field};
+use crate::found::search;
 use crate::turns::{Row, Turn, put, put_line};
 use std::alloc::Global;
 
@@ -31,18 +31,30 @@ impl Index {
         self.schema == 1
     }
 
-    // Whether a document is a member.
-    fn has(&self, row: &Row) -> bool {
+    /// Whether it has a field of this letter.
+    pub fn has_field(&self, field: u8) -> bool {
+        match field {
+            b't' => true,
+            b'g' => self.has_tags(),
+            b'n' => self.has_numbers(),
+            _ => false,
+        }
+    }
+
+    /// Whether a document is a member.
+    pub fn has(&self, row: &Row) -> bool {
         let taken = self.schema != 1 || row.key[0] == b'a';
-        taken && (!self.has_numbers() || row.number <= b'9')
+        let reads = row.number.is_none() || row.has_number(b'0', b'9');
+        taken && (reads || !self.has_numbers())
     }
 }
 
-/// Documents in order of last write, indexes in order of creation, and the last reply.
+/// Documents in order of last write, indexes in order of creation, what the last search found, and the last reply.
 #[derive(Drop)]
 pub struct Plain {
     rows: Vec<Row>,
     indexes: Vec<Index>,
+    found: Vec<Row>,
     out: Vec<u8>,
 }
 
@@ -51,6 +63,7 @@ pub fn nothing(alloc: Global) -> Plain {
     Plain {
         rows: Vec::new(alloc),
         indexes: Vec::new(alloc),
+        found: Vec::new(alloc),
         out: Vec::new(alloc),
     }
 }
@@ -65,12 +78,20 @@ impl Plain {
     pub fn answer(&mut self, turn: &Turn) {
         self.out.clear();
         match turn.kind {
-            0..=5 => hset(&mut self.rows, turn.row, &mut self.out),
-            6 => del(&mut self.rows, turn.row.key, &mut self.out),
-            7 => rename(&mut self.rows, turn, &mut self.out),
-            8 => create(&mut self.indexes, turn, &mut self.out),
+            0..=7 | 22.. => self.answer_of_key(turn),
+            8 | 20 | 21 => create(&mut self.indexes, turn, &mut self.out),
             12 => put_names(self.indexes.as_slice(), &mut self.out),
             _ => self.answer_of_index(turn),
+        }
+    }
+
+    // Answers a turn that is about a document.
+    fn answer_of_key(&mut self, turn: &Turn) {
+        match turn.kind {
+            5 => hdel(&mut self.rows, turn.row.key, &mut self.out),
+            6 => del(&mut self.rows, turn.row.key, &mut self.out),
+            7 => rename(&mut self.rows, turn, &mut self.out),
+            _ => hset(&mut self.rows, turn.row, &mut self.out),
         }
     }
 
@@ -91,7 +112,7 @@ impl Plain {
             9 => alter(&mut self.indexes[at], &mut self.out),
             10 | 11 => self.drop_at(at, turn.kind == 11),
             13 => put_tags(&index, rows, &mut self.out),
-            _ => search(&index, rows, turn.query, &mut self.out),
+            _ => search(&index, rows, turn, &mut self.found, &mut self.out),
         }
     }
 
@@ -113,9 +134,33 @@ fn remove(rows: &mut Vec<Row>, key: [u8; 2]) -> Option<Row> {
 }
 
 fn hset(rows: &mut Vec<Row>, row: Row, out: &mut Vec<u8>) {
-    let fresh = remove(rows, row.key).is_none();
+    let old = remove(rows, row.key);
     let _ = rows.push(row);
-    put(out, if fresh { b":3\r\n" } else { b":0\r\n" });
+    put(out, new_fields(old));
+}
+
+// How many of the three fields the old document lacks.
+fn new_fields(old: Option<Row>) -> &'static [u8] {
+    match old {
+        None => b":3\r\n",
+        Some(Row { number: None, .. }) => b":1\r\n",
+        Some(_) => b":0\r\n",
+    }
+}
+
+// Takes the number out. A document that has none is as it was.
+fn hdel(rows: &mut Vec<Row>, key: [u8; 2], out: &mut Vec<u8>) {
+    if !rows
+        .iter()
+        .any(|row| row.key == key && row.number.is_some())
+    {
+        return put(out, b":0\r\n");
+    }
+    if let Some(mut row) = remove(rows, key) {
+        row.number = None;
+        let _ = rows.push(row);
+    }
+    put(out, b":1\r\n");
 }
 
 fn del(rows: &mut Vec<Row>, key: [u8; 2], out: &mut Vec<u8>) {
@@ -214,35 +259,8 @@ fn is_held(index: &Index, rows: &[Row], tag: u8) -> bool {
         .any(|row| index.has(row) && row.has_tag(tag, case))
 }
 
-// Answers how many members meet a query, and the keys of the first ten.
-fn search(index: &Index, rows: &[Row], query: u8, out: &mut Vec<u8>) {
-    if let Some(at) = unknown_field(index, query) {
-        return put_line(out, b"-Unknown field at offset ", at);
-    }
-    let total = rows
-        .iter()
-        .filter(|row| is_found(index, row, query))
-        .count();
-    put_line(out, b"*", 1 + total.min(10));
-    put_line(out, b":", total);
-    put_keys(index, rows, query, out);
-}
-
-fn put_keys(index: &Index, rows: &[Row], query: u8, out: &mut Vec<u8>) {
-    let mut left = 10;
-    for row in rows {
-        if 0 < left && is_found(index, row, query) {
-            put_bulk(&row.key, out);
-            left -= 1;
-        }
-    }
-}
-
-fn is_found(index: &Index, row: &Row, query: u8) -> bool {
-    index.has(row) && is_met(query, row, index.keeps_case())
-}
-
-fn put_bulk(text: &[u8], out: &mut Vec<u8>) {
+/// Appends a bulk.
+pub fn put_bulk(text: &[u8], out: &mut Vec<u8>) {
     put_line(out, b"$", text.len());
     put(out, text);
     put(out, b"\r\n");

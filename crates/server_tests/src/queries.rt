@@ -28,7 +28,8 @@ pub fn query_of(which: u8) -> &'static [u8] {
         20 => b"(p | @g:{a}) -(q r)",
         21 => b"-@n:[5 1]",
         22 => b"p (q | ()) -the",
-        _ => b"\"p p\"",
+        23 => b"\"p p\"",
+        _ => b"*",
     }
 }
 
@@ -50,6 +51,7 @@ pub fn is_met(which: u8, row: &Row, case: bool) -> bool {
         12 | 13 | 16 | 17 | 20 => is_met_in_tags(which, row, case),
         14 | 15 | 19 | 21 => is_met_in_numbers(which, row),
         7 | 8 | 9 | 23 => is_met_in_order(which, row),
+        24.. => true,
         _ => is_met_in_words(which, row.has(b'p'), row.has(b'q'), row),
     }
 }
@@ -90,11 +92,10 @@ fn is_met_in_tags(which: u8, row: &Row, case: bool) -> bool {
 }
 
 fn is_met_in_numbers(which: u8, row: &Row) -> bool {
-    let number = row.number;
     match which {
-        14 => b'3' <= number && number <= b'6',
-        15 => b'3' < number || row.has(b's'),
-        19 => row.has(b'p') && !(b'2' <= number && number <= b'7'),
+        14 => row.has_number(b'3', b'6'),
+        15 => row.has_number(b'4', b'9') || row.has(b's'),
+        19 => row.has(b'p') && !row.has_number(b'2', b'7'),
         _ => true,
     }
 }

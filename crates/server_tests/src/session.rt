@@ -13,7 +13,7 @@ use ft_engine::Engine;
 use std::alloc::Global;
 
 /// The most bytes of a line, and the most words.
-const LINE: usize = 100;
+const LINE: usize = 200;
 
 /// An engine that no event is prepared in, and its last reply.
 #[derive(Drop)]

@@ -1,16 +1,17 @@
 //! The commands of random sessions: what each turn is about, and its words with one `/` between each two.
 ghost use Rattle.std.specs.Prelude.{◌<◌, ◌≤◌, ◌+◌};
 
+use crate::options::{Options, options_of, put_options};
 use crate::queries::query_of;
 use ft_base::put_int;
 
-/// A document: its key and its fields t, n and g.
+/// A document: its key and its fields t, g and n, of which the last may be missing.
 #[derive(Clone, Copy)]
 pub struct Row {
     pub key: [u8; 2],
     pub text: [u8; 3],
-    pub number: u8,
     pub tags: [u8; 3],
+    pub number: Option<u8>,
 }
 
 impl Row {
@@ -34,6 +35,14 @@ impl Row {
         }
         first.eq_ignore_ascii_case(&tag) || second.eq_ignore_ascii_case(&tag)
     }
+
+    /// Whether it has a number from one byte to another.
+    pub fn has_number(&self, low: u8, high: u8) -> bool {
+        match self.number {
+            Some(number) => low <= number && number <= high,
+            None => false,
+        }
+    }
 }
 
 /// What one turn is about.
@@ -44,6 +53,7 @@ pub struct Turn {
     pub name: [u8; 2],
     pub schema: u8,
     pub query: u8,
+    pub options: Options,
     pub row: Row,
 }
 
@@ -53,8 +63,8 @@ pub fn next(seed: u64) -> u64 {
         .wrapping_add(1_442_695_040_888_963_407)
 }
 
-// One of `count` letters from `first` on.
-fn letter(seed: u64, shift: u32, first: u8, count: u8) -> u8
+/// One of `count` letters from `first` on.
+pub fn letter(seed: u64, shift: u32, first: u8, count: u8) -> u8
     requires some { 0 < count }
     requires small { first + count ≤ 255 }
     requires within { shift ≤ 63 }
@@ -64,11 +74,12 @@ fn letter(seed: u64, shift: u32, first: u8, count: u8) -> u8
 
 pub fn turn_of(seed: u64) -> Turn {
     Turn {
-        kind: letter(seed, 48, 0, 16),
+        kind: letter(seed, 40, 0, 24),
         to: [letter(seed, 26, b'a', 3), letter(seed, 29, b'a', 6)],
         name: [b'i', letter(seed, 44, b'x', 3)],
         schema: letter(seed, 46, 0, 3),
-        query: letter(seed, 56, 0, 24),
+        query: letter(seed, 56, 0, 28),
+        options: options_of(seed),
         row: row_of(seed),
     }
 }
@@ -76,9 +87,31 @@ pub fn turn_of(seed: u64) -> Turn {
 fn row_of(seed: u64) -> Row {
     Row {
         key: [letter(seed, 20, b'a', 3), letter(seed, 23, b'a', 6)],
-        text: [letter(seed, 33, b'p', 5), b' ', letter(seed, 36, b'P', 5)],
-        number: letter(seed, 52, b'0', 12),
-        tags: [letter(seed, 39, b'A', 3), b',', letter(seed, 41, b'a', 3)],
+        text: [cased(seed, 33, b'p', 5), b' ', cased(seed, 36, b'p', 5)],
+        tags: [cased(seed, 39, b'a', 3), b',', cased(seed, 42, b'a', 3)],
+        number: Some(number_of(seed)),
+    }
+}
+
+// The same as a small letter or a capital.
+fn cased(seed: u64, shift: u32, first: u8, count: u8) -> u8
+    requires some { 0 < count }
+    requires small { first + count ≤ 255 }
+    requires least { 20 ≤ shift }
+    requires most { shift ≤ 63 }
+{
+    let small = letter(seed, shift, first, count);
+    if letter(seed, shift - 20, 0, 2) == 0 {
+        return small.to_ascii_uppercase();
+    }
+    small
+}
+
+// A digit from 1 to 7, or a byte that is no number.
+fn number_of(seed: u64) -> u8 {
+    match letter(seed, 52, b'0', 8) {
+        b'0' => b'x',
+        digit => digit,
     }
 }
 
@@ -87,7 +120,7 @@ pub fn write_line(line: &mut Vec<u8>, turn: &Turn) {
     line.clear();
     put(line, verb(turn.kind));
     match turn.kind {
-        0..=7 => put(line, &turn.row.key),
+        0..=7 | 22.. => put(line, &turn.row.key),
         12 => {}
         _ => put(line, &turn.name),
     }
@@ -108,10 +141,11 @@ pub fn put_line(out: &mut Vec<u8>, text: &[u8], number: usize) {
 
 fn verb(kind: u8) -> &'static [u8] {
     match kind {
-        0..=5 => b"HSET/",
+        0..=4 | 22.. => b"HSET/",
+        5 => b"HDEL/",
         6 => b"DEL/",
         7 => b"RENAME/",
-        8 => b"FT.CREATE/",
+        8 | 20 | 21 => b"FT.CREATE/",
         9 => b"FT.ALTER/",
         10 | 11 => b"FT.DROPINDEX/",
         12 => b"FT._LIST",
@@ -123,22 +157,32 @@ fn verb(kind: u8) -> &'static [u8] {
 // Appends the words behind the key or the index.
 fn put_rest(line: &mut Vec<u8>, turn: &Turn) {
     match turn.kind {
-        0..=5 => put_fields(line, &turn.row),
+        0..=7 | 22.. => put_behind_key(line, turn),
+        8 | 20 | 21 => put(line, schema(turn.schema)),
+        9 => put(line, b"/SCHEMA/ADD/n/NUMERIC"),
+        11 => put(line, b"/DD"),
+        13 => put(line, b"/g"),
+        14..=19 => put_search(line, turn),
+        _ => {}
+    }
+}
+
+fn put_behind_key(line: &mut Vec<u8>, turn: &Turn) {
+    match turn.kind {
+        5 => put(line, b"/n"),
+        6 => {}
         7 => {
             put(line, b"/");
             put(line, &turn.to);
         }
-        8 => put(line, schema(turn.schema)),
-        9 => put(line, b"/SCHEMA/ADD/n/NUMERIC"),
-        11 => put(line, b"/DD"),
-        13 => put(line, b"/g"),
-        14 | 15 => {
-            put(line, b"/");
-            put(line, query_of(turn.query));
-            put(line, b"/NOCONTENT");
-        }
-        _ => {}
+        _ => put_fields(line, &turn.row),
     }
+}
+
+fn put_search(line: &mut Vec<u8>, turn: &Turn) {
+    put(line, b"/");
+    put(line, query_of(turn.query));
+    put_options(line, &turn.options);
 }
 
 // Appends the words of HSET behind the key.
@@ -147,8 +191,10 @@ fn put_fields(line: &mut Vec<u8>, row: &Row) {
     put(line, &row.text);
     put(line, b"/g/");
     put(line, &row.tags);
-    put(line, b"/n/");
-    put(line, &[row.number]);
+    if let Some(number) = row.number {
+        put(line, b"/n/");
+        put(line, &[number]);
+    }
 }
 
 fn schema(which: u8) -> &'static [u8] {

@@ -13,12 +13,12 @@ short : (line : List ℕ) (span : Span) → length (word_at line span) ≤ lengt
 short line span = omega (arith, length-take (span.to - span.from) (drop span.from line), length-drop span.from line)
 
 -- the bytes of all words are not many
-few : (line : List ℕ) (spans : List Span) (sum : ℕ) → length line ≤ 100 → fold (λ a word. a + length word) sum (words_of line spans) ≤ sum + length spans * 100
+few : (line : List ℕ) (spans : List Span) (sum : ℕ) → length line ≤ 200 → fold (λ a word. a + length word) sum (words_of line spans) ≤ sum + length spans * 200
 few line [] sum h = omega arith
 few line (span ∷ spans) sum h = omega (arith, short line span, few line spans (sum + length (word_at line span)) h)
 
 -- the words of a short line keep the limits
-small : (line : List ℕ) (spans : List Span) (words : List (List ℕ)) → words ≡ words_of line spans → length line ≤ 100 → length spans ≤ 100 → KeepsLimits words
+small : (line : List ℕ) (spans : List Span) (words : List (List ℕ)) → words ≡ words_of line spans → length line ≤ 200 → length spans ≤ 200 → KeepsLimits words
 small line spans words same h k = rw same (record {
   number = omega (arith, length-map spans (word_at line));
   each = All-map (λ word. length word ≤ MAX_WORD_BYTES) (word_at line) spans (λ i d within. omega (arith, short line (slice_index_or spans i d)));

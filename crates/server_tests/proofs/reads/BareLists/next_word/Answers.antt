@@ -1,7 +1,0 @@
-use Rattle.std.specs.List.Sorted.{IsStrictlySortedBy}
-use Rattle.server_tests.proofs.reads.BareLists.next_word.Goals as goal
-
--- no name is there
-pub returns-clause-rise : goal.returns-clause-rise
-unfolding IsStrictlySortedBy
-returns-clause-rise c = tt
