@@ -29,21 +29,21 @@ pub fn page_by_field<T: Lists, L: Ledger>(
     alloc: Global,
     lists: &T,
     store: &mut HashStore,
-    candidates: Candidates,
+    candidates: &mut Candidates,
     shape: &Shape<'_>,
     key: SortKey<'_>,
     steps: &mut Steps<L>,
 ) -> Result<Reply, NoMemory>
     requires lists { AreLists (T.held lists.now) }
-    requires ready { MayAsk (T.held lists.now) candidates 1 }
-    requires known { AreKnown (in_candidates (T.held lists.now) candidates) (T.named lists.now).keys store.old.space }
+    requires ready { MayAsk (T.held lists.now) candidates.old 1 }
+    requires known { AreKnown (in_candidates (T.held lists.now) candidates.old) (T.named lists.now).keys store.old.space }
     requires window { shape.now.offset + shape.now.num < 2 ^ 64 }
     ensures reply { IfOk result (λ reply. reply ≡ page_by shape.now
-        (order_by key.entry (docs_in (in_candidates (T.held lists.now) candidates) store.old.space))) }
+        (order_by key.entry (docs_in (in_candidates (T.held lists.now) candidates.old) store.old.space))) }
 
     // What is read.
     ensures reads { OnOk result (store.new.reads ≡ reads_after store.old.reads
-        (length (docs_in (in_candidates (T.held lists.now) candidates) store.old.space))) }
+        (length (docs_in (in_candidates (T.held lists.now) candidates.old) store.old.space))) }
     ensures rises { store.old.reads ≤ store.new.reads }
 
     ensures space { store.new.space ≡ store.old.space }
@@ -53,20 +53,15 @@ pub fn page_by_field<T: Lists, L: Ledger>(
 {
     let keys = ListOf::from_vec(vec![in alloc; key.by]?);
     let mut first = FirstRows::new(alloc, keys, shape.offset + shape.num);
-    let mut candidates = candidates;
-    let total = offer_all(
-        &mut first,
-        alloc,
-        lists,
-        store,
-        &mut candidates,
-        shape,
-        key,
-        steps,
-    );
-    drop(candidates);
-    let total = total?;
-    into_page(alloc, total, first.into_rows()?, shape.offset)
+    match offer_all(
+        &mut first, alloc, lists, store, candidates, shape, key, steps,
+    ) {
+        Ok(total) => first_page(alloc, total, first, shape.offset),
+        Err(fault) => {
+            drop(first);
+            Err(fault)
+        }
+    }
 }
 
 // Offers the rows of all documents, where none was offered before, and answers how many there are.
@@ -186,6 +181,21 @@ fn value_of(alloc: Global, key: SortKey<'_>, doc: &Doc) -> Result<Value, NoMemor
         return Ok(number(text.as_slice()).map_or(Value::Null, Value::Num));
     }
     Ok(Value::Text(Bytes::from_slice(alloc, text.as_slice())?))
+}
+
+// The reply of so many documents, of whose first rows those from a place on are shown.
+fn first_page(
+    alloc: Global,
+    total: u64,
+    first: FirstRows<ListOf<Reply>>,
+    offset: usize,
+) -> Result<Reply, NoMemory>
+    requires few { total < 2 ^ 63 }
+    ensures { IfOk result (λ reply. reply
+        ≡ Array (Number (pos total) ∷ flat_map (λ row. row.item) (drop offset first.rows))) }
+{
+    let rows = first.into_rows()?;
+    into_page(alloc, total, rows, offset)
 }
 
 // The reply of so many documents, of which the rows from a place on are shown.

@@ -24,19 +24,19 @@ pub fn page_by_ids<T: Lists, L: Ledger>(
     alloc: Global,
     lists: &T,
     store: &mut HashStore,
-    mut candidates: Candidates,
+    candidates: &mut Candidates,
     shape: &Shape<'_>,
     steps: &mut Steps<L>,
 ) -> Result<Reply, NoMemory>
     requires lists { AreLists (T.held lists.now) }
-    requires ready { MayAsk (T.held lists.now) candidates 1 }
-    requires known { AreKnown (in_candidates (T.held lists.now) candidates) (T.named lists.now).keys store.old.space }
+    requires ready { MayAsk (T.held lists.now) candidates.old 1 }
+    requires known { AreKnown (in_candidates (T.held lists.now) candidates.old) (T.named lists.now).keys store.old.space }
     ensures reply { IfOk result (λ reply. reply
-        ≡ page_by shape.now (docs_in (in_candidates (T.held lists.now) candidates) store.old.space)) }
+        ≡ page_by shape.now (docs_in (in_candidates (T.held lists.now) candidates.old) store.old.space)) }
 
     // What is read.
     ensures reads { OnOk result (store.new.reads ≡ reads_after store.old.reads (if shape.now.no_content then 0 else
-        min shape.now.num (length (docs_in (in_candidates (T.held lists.now) candidates) store.old.space) - shape.now.offset))) }
+        min shape.now.num (length (docs_in (in_candidates (T.held lists.now) candidates.old) store.old.space) - shape.now.offset))) }
     ensures rises { store.old.reads ≤ store.new.reads }
 
     ensures space { store.new.space ≡ store.old.space }
@@ -45,17 +45,7 @@ pub fn page_by_ids<T: Lists, L: Ledger>(
     ensures counts { steps.old ≤ steps.new }
 {
     let mut page = Page::new(alloc, shape.num)?;
-    let noted = note_all(
-        &mut page,
-        alloc,
-        lists,
-        store,
-        &mut candidates,
-        shape,
-        steps,
-    );
-    drop(candidates);
-    noted?;
+    note_all(&mut page, alloc, lists, store, candidates, shape, steps)?;
     Ok(page.into_reply())
 }
 

@@ -44,8 +44,13 @@ impl Candidates {
             → in_candidates (T.held lists.now) candidates id ≡ true → in_set (T.held lists.now) iter id ≡ true) }
         ensures ready { IfOk result (λ candidates. MayAsk (T.held lists.now) candidates 1) }
     {
-        let named = named_by(alloc, store, keys)?;
-        Ok(Candidates { iter, named })
+        match named_by(alloc, store, keys) {
+            Ok(named) => Ok(Candidates { iter, named }),
+            Err(fault) => {
+                drop(iter);
+                Err(fault)
+            }
+        }
     }
 
     /// The least of the ids from `from` on, and None exactly where there is none. After an id it may be asked for higher

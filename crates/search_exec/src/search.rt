@@ -54,10 +54,44 @@ pub fn search_reply<T: Lists, L: Ledger>(
     ensures last { store.new.last ≡ store.old.last }
     ensures counts { steps.old ≤ steps.new }
 {
+    let mut candidates = Candidates::new(alloc, lists, store, iter, &search.keys)?;
+    let reply = reply_of(alloc, def, lists, store, &mut candidates, search, steps);
+    drop(candidates);
+    reply
+}
+
+/// What a search answers that counts the documents of some ids.
+fn reply_of<T: Lists, L: Ledger>(
+    alloc: Global,
+    def: &IndexDef,
+    lists: &T,
+    store: &mut HashStore,
+    candidates: &mut Candidates,
+    search: &SearchSpec<'_>,
+    steps: &mut Steps<L>,
+) -> Result<Reply, NoMemory>
+    requires lists { AreLists (T.held lists.now) }
+    requires ready { MayAsk (T.held lists.now) candidates.old 1 }
+    requires known { AreKnown (in_candidates (T.held lists.now) candidates.old) (T.named lists.now).keys store.old.space }
+    requires sorts { SortsBy def.now.fields (search_of search.now) }
+    ensures reply { IfOk result (λ reply. reply ≡ found_reply (search_of search.now) def.now
+        (in_order (search_of search.now).sort def.now
+        (docs_in (in_candidates (T.held lists.now) candidates.old) store.old.space))) }
+    ensures fits { IfOk result (λ reply. IsTrue (fits_wire reply)) }
+
+    // What is read.
+    ensures reads { OnOk result (store.new.reads ≡ reads_after store.old.reads (reads_for (search_of search.now)
+        (length (docs_in (in_candidates (T.held lists.now) candidates.old) store.old.space)))) }
+    ensures rises { store.old.reads ≤ store.new.reads }
+
+    ensures space { store.new.space ≡ store.old.space }
+    ensures ready { store.new.ready ≡ store.old.ready }
+    ensures last { store.new.last ≡ store.old.last }
+    ensures counts { steps.old ≤ steps.new }
+{
     // These tell that the place behind the window has 64 bits.
     let _offset = search.offset;
     let _num = search.num;
-    let candidates = Candidates::new(alloc, lists, store, iter, &search.keys)?;
     let shape = Shape::resolve(alloc, def, search)?;
     page_by_shape(alloc, lists, store, candidates, &shape, steps)
 }
@@ -68,20 +102,20 @@ fn page_by_shape<T: Lists, L: Ledger>(
     alloc: Global,
     lists: &T,
     store: &mut HashStore,
-    candidates: Candidates,
+    candidates: &mut Candidates,
     shape: &Shape<'_>,
     steps: &mut Steps<L>,
 ) -> Result<Reply, NoMemory>
     requires lists { AreLists (T.held lists.now) }
-    requires ready { MayAsk (T.held lists.now) candidates 1 }
-    requires known { AreKnown (in_candidates (T.held lists.now) candidates) (T.named lists.now).keys store.old.space }
+    requires ready { MayAsk (T.held lists.now) candidates.old 1 }
+    requires known { AreKnown (in_candidates (T.held lists.now) candidates.old) (T.named lists.now).keys store.old.space }
     requires window { shape.now.offset + shape.now.num < 2 ^ 64 }
     ensures reply { IfOk result (λ reply. reply ≡ page_by shape.now
-        (ordered_by shape.now.sort (docs_in (in_candidates (T.held lists.now) candidates) store.old.space))) }
+        (ordered_by shape.now.sort (docs_in (in_candidates (T.held lists.now) candidates.old) store.old.space))) }
 
     // What is read.
     ensures reads { OnOk result (store.new.reads ≡ reads_after store.old.reads (reads_by shape.now
-        (length (docs_in (in_candidates (T.held lists.now) candidates) store.old.space)))) }
+        (length (docs_in (in_candidates (T.held lists.now) candidates.old) store.old.space)))) }
     ensures rises { store.old.reads ≤ store.new.reads }
 
     ensures space { store.new.space ≡ store.old.space }

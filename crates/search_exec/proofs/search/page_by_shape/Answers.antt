@@ -13,7 +13,7 @@ use Rattle.search_exec.proofs.search.page_by_shape.Goals.{in_default-via-in-Some
 pub returns-in_default-clause-reply : goal.returns-in_default-clause-reply
 returns-in_default-clause-reply g c =
     let shape = c.args.shape.now in
-    let docs : List Doc = docs_in (in_candidates (g.T.Lists.held c.args.lists.now) c.args.candidates) c.args.store.now.space in
+    let docs : List Doc = docs_in (in_candidates (g.T.Lists.held c.args.lists.now) c.args.candidates.now) c.args.store.now.space in
     let same : page_by shape docs ≡ page_by shape (ordered_by shape.sort docs) =
     elim c.in_default.branch [
       | in_default-via-in-Some+else-shape-gt0 w ↦ page-without-rows shape docs (omega (arith, w.if-shape-gt0.false))

@@ -1,36 +1,21 @@
-use Rattle.std.proofs.Common.{arith}
+use Rattle.std.proofs.Common.{◌≡◌, List, subst}
+use Rattle.std.specs.Prelude.{IfOk, OnOk, length}
 use Rattle.cmd_parse.specs.Seen.{search_of}
-use Rattle.ft_base.proofs.RepliesLaws.{made-fits}
-use Rattle.id_iters.specs.Sets.{in_set}
-use Rattle.search_exec.proofs.SearchLaws.{made-answer, reads-told}
-use Rattle.search_exec.proofs.ShapeLaws.{page-fits}
-use Rattle.search_exec.specs.Candidates.{in_candidates}
-use Rattle.search_exec.specs.Ids.{docs_in, docs_of}
-use Rattle.search_exec.specs.Pages.{ordered_by}
+use Rattle.ft_base.specs.declared.doc.Doc.{Doc}
+use Rattle.ft_machine.specs.Counted.{in_order}
+use Rattle.ft_machine.specs.Shown.{found_reply}
+use Rattle.hash_store.specs.Store.{reads_after}
+use Rattle.search_exec.specs.Ids.{reads_for}
 use Rattle.search_exec.proofs.search.search_reply.Goals as goal
-
-pub page_by_shape-requires-clause-window : goal.page_by_shape-requires-clause-window
-page_by_shape-requires-clause-window g c = omega (arith, c.in_ok-shape.ensures.offset, c.in_ok-shape.ensures.num)
 
 pub returns-clause-reply : goal.returns-clause-reply
 returns-clause-reply g c =
-    let held = g.T.Lists.held c.args.lists.now in
     let what = search_of c.args.search.now in
-    let space = c.args.store.now.space in
-    made-answer c.page_by_shape.result what c.args.def.now c.in_ok-shape.shape (docs_in (in_candidates held c.in_ok-candidates.candidates) space)
-    (docs_of what.keys (docs_in (in_set held c.args.iter) space)) c.in_ok-shape.ensures c.requires.sorts c.in_ok-candidates.ensures.docs c.page_by_shape.ensures.reply
-
-pub returns-clause-fits : goal.returns-clause-fits
-returns-clause-fits g c =
-    let shape = c.in_ok-shape.shape in
-    let docs = docs_in (in_candidates (g.T.Lists.held c.args.lists.now) c.in_ok-candidates.candidates) c.args.store.now.space in
-    made-fits c.page_by_shape.result _ (page-fits shape (ordered_by shape.sort docs)) c.page_by_shape.ensures.reply
+    subst (λ (docs : List Doc). IfOk c.reply_of-reply.result (λ reply. reply ≡ found_reply what c.args.def.now (in_order what.sort c.args.def.now docs)))
+    c.in_ok-candidates.ensures.docs c.reply_of-reply.ensures.reply
 
 pub returns-clause-reads : goal.returns-clause-reads
 returns-clause-reads g c =
-    let held = g.T.Lists.held c.args.lists.now in
     let what = search_of c.args.search.now in
-    let space = c.args.store.now.space in
-    reads-told c.page_by_shape.result what c.args.def.now c.in_ok-shape.shape (docs_in (in_candidates held c.in_ok-candidates.candidates) space)
-    (docs_of what.keys (docs_in (in_set held c.args.iter) space)) c.args.store.now.reads c.page_by_shape.new.store.reads c.in_ok-shape.ensures c.requires.sorts c.in_ok-candidates.ensures.docs
-    c.page_by_shape.ensures.reads
+    subst (λ (docs : List Doc). OnOk c.reply_of-reply.result (c.reply_of-reply.new.store.reads ≡ reads_after c.args.store.now.reads (reads_for what (length docs))))
+    c.in_ok-candidates.ensures.docs c.reply_of-reply.ensures.reads
