@@ -1,4 +1,8 @@
 -- The value that is lent, and what operators and functions see of it.
+use Rattle.std.specs.Prelude.{List, Option}
+use Rattle.ft_base.specs.declared.doc.Doc.{Doc}
+use Rattle.ft_base.specs.declared.row.Cell.{Cell}
+use Rattle.ft_base.specs.declared.row.Row.{Row}
 use Rattle.ft_base.specs.declared.row.Value.{Value}
 use Rattle.ft_base.specs.declared.row.Value.TheVariants as value
 use Rattle.expr_eval.specs.Values.{Operand, Nothing, Number, Bytes, Several, called, denied, joined, negated, num_or_null}
@@ -29,3 +33,7 @@ outer_value (outer.Call func) v = called func v
 outer_value outer.Not v = value.Num (denied v)
 outer_value outer.Neg v = num_or_null (negated v)
 outer_value (outer.RightOf op left) v = num_or_null (joined op (operand_lent left) v)
+
+-- the row of cells and a document that are lent
+abbrev pub row_lent : List Cell → Option Doc → Row
+row_lent cells doc = record { doc = doc; cells = cells }

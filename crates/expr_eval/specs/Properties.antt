@@ -47,10 +47,14 @@ by_alias name hash fields = by_field (alias_of fields name) hash
 abbrev pub by_name : List ℕ → Hash → List Field → Option Value
 by_name name hash fields = option_map (seen_as (has_number fields name)) (get_field hash name)
 
+-- the field that the alias names, else the field of that name, else Null
+abbrev pub in_hash : List ℕ → Hash → List Field → Value
+in_hash name hash fields = unwrap_or (by_alias name hash fields) (unwrap_or (by_name name hash fields) Null)
+
 -- a row that has lost its document has no fields
 abbrev pub in_document : List ℕ → Option Doc → List Field → Value
 in_document name None fields = Null
-in_document name (Some doc) fields = unwrap_or (by_alias name doc.hash fields) (unwrap_or (by_name name doc.hash fields) Null)
+in_document name (Some doc) fields = in_hash name doc.hash fields
 
 -- The row's cell, else the field that the alias names, else the field of that name, else Null.
 abbrev pub property_value : List ℕ → Row → IndexDef → Value

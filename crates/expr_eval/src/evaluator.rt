@@ -7,7 +7,7 @@ ghost use Rattle.expr_eval.specs.Values.{operand_of};
 use crate::functions::called;
 use crate::lent::Lent;
 use crate::operators::{denied, joined, negated};
-use crate::property::property;
+use crate::properties::property;
 use crate::tree::{Expr, Func, Op};
 use ft_base::{Boxed, IndexDef, NoMemory, Row, Value};
 use std::alloc::Global;

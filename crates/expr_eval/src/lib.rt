@@ -14,7 +14,7 @@ mod lent;
 mod lexer;
 mod operators;
 mod parser;
-mod property;
+mod properties;
 mod token;
 mod tree;
 
@@ -22,6 +22,10 @@ mod tree;
 pub use evaluator::eval;
 /// Why a text is no expression.
 pub use fault::ExprFault;
+/// Values that are lent by a row.
+pub use lent::Lent;
+/// The value of a property in a row, and of the fields of a hash, lent.
+pub use properties::{by_alias, by_name, has_number, property, property_in, seen_as};
 /// A text has one answer.
 pub use laws::{one_fault, one_tree, tree_or_fault};
 /// The tree of a text.

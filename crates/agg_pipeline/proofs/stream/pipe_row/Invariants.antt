@@ -1,0 +1,12 @@
+use Rattle.std.specs.Prelude.{◌≡◌, [], ◌∷◌, drop, true}
+use Rattle.std.specs.List.{list_all}
+use Rattle.agg_pipeline.specs.Steps.{piped}
+use Rattle.agg_pipeline.specs.Stream.{is_of_rows}
+use Rattle.agg_pipeline.proofs.stream.pipe_row.Given as goal
+
+-- what the steps that are left make of the row
+abbrev pub invariant-loop-step : goal.invariant-loop-step
+invariant-loop-step l = record {
+  made : piped l.def (drop l.step-index l.steps) (l.row ∷ []) ≡ piped l.def l.steps (l.fn.row ∷ []);
+  left : list_all is_of_rows (drop l.step-index l.steps) ≡ true;
+}

@@ -1,0 +1,15 @@
+pub mod Distinct
+pub mod Equal
+pub mod Grouping
+pub mod Groups
+pub mod Keyed
+pub mod LentRow
+pub mod Made
+pub mod Ranking
+pub mod Reduce
+pub mod Rows
+pub mod Seen
+pub mod Spellings
+pub mod Steps
+pub mod Stream
+pub mod Table

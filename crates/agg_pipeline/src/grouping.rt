@@ -1,0 +1,41 @@
+//! GROUPBY, in one pass over the rows.
+ghost use Rattle.std.specs.Prelude.{◌≡◌, fold, IfOk, OnOk};
+ghost use Rattle.agg_pipeline.specs.Grouping.{grouped};
+ghost use Rattle.agg_pipeline.specs.Table.{note_row};
+
+use crate::lent_row::LentRow;
+use crate::step::Reducer;
+use crate::table::Groups;
+use ft_base::{Bytes, IndexDef, NoMemory, Row};
+use std::alloc::Global;
+
+/// One row for each group, in order of first appearance.
+pub fn group_rows(
+    alloc: Global,
+    def: &IndexDef,
+    by: &[Bytes],
+    reduce: &[Reducer],
+    rows: &[Row],
+) -> Result<Vec<Row>, NoMemory>
+    ensures { IfOk result (λ made. made.items ≡ grouped def.now by.now reduce.now rows.now) }
+{
+    let mut groups = Groups::new(alloc);
+    note_all(&mut groups, def, by, reduce, rows)?;
+    groups.finish(alloc, reduce)
+}
+
+fn note_all(
+    groups: &mut Groups,
+    def: &IndexDef,
+    by: &[Bytes],
+    reduce: &[Reducer],
+    rows: &[Row],
+) -> Result<(), NoMemory>
+    ensures { OnOk result (groups.new
+        ≡ fold (note_row def.now by.now reduce.now) groups.old rows.now) }
+{
+    for row in rows {
+        groups.note(def, by, reduce, LentRow::of(row))?;
+    }
+    Ok(())
+}

@@ -1,0 +1,40 @@
+//! The steps of an aggregate (RediSearch, FT.AGGREGATE), as pure calls on rows.
+//!
+//! A pipeline is a composition of functions on lists of rows (`specs/Steps.antt`). A group is the sublist of the rows with
+//! equal values (`specs/Groups.antt`, `specs/Equal.antt`), and a reducer is a function of its group's values
+//! (`specs/Reduce.antt`). Each step is one pass over the rows; GROUPBY keeps what was made of each group, and no rows.
+//! Read `step.rt` and `specs/Steps.antt` first, then `pipeline.rt`.
+#![tactic(auto)]
+
+mod cells;
+mod distinct;
+mod grouping;
+mod laws;
+mod lent_row;
+mod loading;
+mod pipeline;
+mod row_steps;
+mod seen;
+mod sorting;
+mod spelling;
+mod spellings;
+mod state;
+mod states;
+mod step;
+mod stream;
+mod table;
+
+/// What is true of the definitions, whatever code there is.
+pub use laws::{equal_values, groups_of_all};
+/// Rows that are lent.
+pub use lent_row::LentRow;
+/// The row that a document begins as, and the cells that it has from the start.
+pub use loading::{load, loaded_cells};
+/// What several steps make of rows.
+pub use pipeline::pipe;
+/// The steps, as a command gives them.
+pub use step::{Load, ReduceKind, Reducer, SortKey, Step};
+/// The steps of a stream, which take a row at a time.
+pub use stream::StreamSteps;
+/// The groups of the rows that came so far.
+pub use table::Groups;

@@ -1,0 +1,152 @@
+//! What several reducers made of the rows so far.
+ghost use Rattle.std.specs.Prelude.{◌≡◌, drop, OnOk, IfOk};
+ghost use Rattle.expr_eval.specs.Lending.{value_lent};
+ghost use Rattle.agg_pipeline.specs.LentRow.{row_of};
+ghost use Rattle.agg_pipeline.specs.Made.{finished, finished_cells, set_finished, starts, states_step, step};
+ghost use Rattle.agg_pipeline.specs.Grouping.{value_for};
+ghost use Rattle.agg_pipeline.specs.Rows.{cell, set_cell, set_cells};
+
+use crate::cells::set_cell;
+use crate::lent_row::LentRow;
+use crate::seen::Seen;
+use crate::state::State;
+use crate::step::Reducer;
+use expr_eval::Lent;
+use ft_base::{Bytes, Cell, IndexDef, ListOf, NoMemory};
+use std::alloc::Global;
+use std::marker::Model;
+
+/// A state for each reducer, which a contract sees as their list.
+#[derive(Drop)]
+pub struct States {
+    items: Vec<State>,
+}
+
+impl Model for States {
+    ghost use Rattle.agg_pipeline.specs.Made.{ListOfStates};
+
+    ghost Value = { ListOfStates };
+
+    ghost use Rattle.std.specs.Coded.{coded_list};
+    ghost use Rattle.agg_pipeline.specs.contracts.state.State.{the_row};
+
+    ghost coded = { coded_list the_row.coded };
+
+    ghost view = { λ s. s.items.items };
+}
+
+impl States {
+    /// Nothing was made yet.
+    pub fn new(alloc: Global, reduce: &[Reducer]) -> Result<States, NoMemory>
+        ensures { IfOk result (λ states. states ≡ starts reduce.now) }
+    {
+        let mut items = Vec::new(alloc);
+        for reducer in reduce {
+            items.push(State::new(alloc, reducer.kind))?;
+        }
+        Ok(States { items })
+    }
+
+    /// Takes one more row in.
+    pub fn step(
+        &mut self,
+        def: &IndexDef,
+        reduce: &[Reducer],
+        row: LentRow<'_>,
+        room: &mut Vec<u8>,
+    ) -> Result<(), NoMemory>
+        ensures { OnOk result (self.new ≡ states_step def.now reduce.now self.old (row_of row.entry)) }
+    {
+        step_all(self.items.as_mut_slice(), def, reduce, row, room)
+    }
+
+    /// Sets the cells of what each reducer gives.
+    pub fn finish(
+        self,
+        alloc: Global,
+        reduce: &[Reducer],
+        cells: &mut ListOf<Cell>,
+    ) -> Result<(), NoMemory>
+        ensures { OnOk result (cells.new ≡ set_cells cells.old (finished_cells reduce.now self)) }
+    {
+        let mut reducers = reduce;
+        for state in self.items {
+            reducers = finish_next(alloc, reducers, state, cells)?;
+        }
+        Ok(())
+    }
+}
+
+/// Sets the cell of what the first reducer gives, and answers the reducers behind it.
+fn finish_next<'a>(
+    alloc: Global,
+    reducers: &'a [Reducer],
+    state: State,
+    cells: &mut ListOf<Cell>,
+) -> Result<&'a [Reducer], NoMemory>
+    ensures later { IfOk result (λ later. later.now ≡ drop 1 reducers.now) }
+    ensures cells { OnOk result (cells.new ≡ set_finished cells.old reducers.now state) }
+{
+    match reducers.split_first() {
+        Some((reducer, later)) => {
+            set_finished(alloc, cells, reducer.name.as_slice(), state)?;
+            Ok(later)
+        }
+        None => Ok(reducers),
+    }
+}
+
+/// Sets the cell of what a reducer gives.
+fn set_finished(
+    alloc: Global,
+    cells: &mut ListOf<Cell>,
+    name: &[u8],
+    state: State,
+) -> Result<(), NoMemory>
+    ensures { OnOk result (cells.new ≡ set_cell cells.old (cell name.now (finished state))) }
+{
+    let value = state.finish()?;
+    set_cell(alloc, cells, name, value)
+}
+
+fn step_all(
+    states: &mut [State],
+    def: &IndexDef,
+    reduce: &[Reducer],
+    row: LentRow<'_>,
+    room: &mut Vec<u8>,
+) -> Result<(), NoMemory>
+    ensures { OnOk result (states.new ≡ states_step def.now reduce.now states.old (row_of row.entry)) }
+{
+    let Some((reducer, reducers)) = reduce.split_first() else {
+        return Ok(());
+    };
+    let Some((state, states)) = states.split_first_mut() else {
+        return Ok(());
+    };
+    step_one(state, def, reducer, row, room)?;
+    step_all(states, def, reducers, row, room)
+}
+
+fn step_one(
+    state: &mut State,
+    def: &IndexDef,
+    reducer: &Reducer,
+    row: LentRow<'_>,
+    room: &mut Vec<u8>,
+) -> Result<(), NoMemory>
+    ensures { OnOk result (state.new ≡ step state.old (value_for def.now reducer.now.of (row_of row.entry))) }
+{
+    let value = value_for(def, &reducer.of, row);
+    state.step(Seen::of(&value), room)
+}
+
+/// A row's value of the reducer's property, and Null where it has none.
+fn value_for<'a>(def: &IndexDef, of: &Option<Bytes>, row: LentRow<'a>) -> Lent<'a>
+    ensures { value_lent result ≡ value_for def.now of.now (row_of row.entry) }
+{
+    match of {
+        Some(name) => row.property(name.as_slice(), def),
+        None => Lent::Null,
+    }
+}

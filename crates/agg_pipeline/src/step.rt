@@ -1,0 +1,68 @@
+//! The steps of an aggregate, as a command gives them.
+use expr_eval::Expr;
+use ft_base::{Bytes, ListOf};
+
+/// What is done with the rows.
+#[derive(Drop)]
+pub enum Step {
+    /// GROUPBY: one row for each group of rows with equal values of these properties.
+    Group {
+        by: ListOf<Bytes>,
+        reduce: ListOf<Reducer>,
+    },
+    /// SORTBY: the rows in order, and no more than `max` of them where it is given.
+    Sort {
+        keys: ListOf<SortKey>,
+        max: Option<u64>,
+    },
+    /// APPLY: a cell with the expression's value.
+    Apply {
+        expr: Expr,
+        name: Bytes,
+    },
+    /// FILTER: the rows in which the expression is true.
+    Keep {
+        expr: Expr,
+    },
+    /// LIMIT: the rows of the window.
+    Limit {
+        offset: u32,
+        num: u32,
+    },
+}
+
+/// REDUCE: what is made of a group's values of a property, and the name of its cell.
+#[derive(Debug, Drop)]
+pub struct Reducer {
+    pub kind: ReduceKind,
+    pub of: Option<Bytes>,
+    pub name: Bytes,
+}
+
+/// Which reducer.
+#[derive(Clone, Copy, Debug)]
+pub enum ReduceKind {
+    Count,
+    CountDistinct,
+    Sum,
+    Min,
+    Max,
+    ToList,
+    FirstValue,
+}
+
+/// A property that rows are put in order by.
+#[derive(Debug, Drop)]
+pub struct SortKey {
+    pub name: Bytes,
+    pub descending: bool,
+}
+
+/// LOAD: the properties that have cells in a row from the start.
+#[derive(Debug, Drop)]
+pub enum Load {
+    Nothing,
+    Fields(ListOf<Bytes>),
+    /// All fields of the hash, under their own names.
+    All,
+}

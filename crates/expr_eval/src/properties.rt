@@ -1,0 +1,115 @@
+//! The value of a property in a row.
+ghost use Rattle.std.specs.Prelude.{◌≡◌};
+ghost use Rattle.std.specs.Option.{option_map, option_copied};
+ghost use Rattle.expr_eval.specs.Lending.{row_lent, value_lent};
+ghost use Rattle.expr_eval.specs.Properties.{cell_of, alias_of, has_number, seen_as, by_field, by_alias, by_name, in_document, in_hash, property_value};
+
+use crate::lent::Lent;
+use field_text::number;
+use ft_base::{Cell, Doc, Field, HashRec, IndexDef, Row, Value};
+
+/// The value of a property, lent.
+pub fn property<'a>(name: &[u8], row: &'a Row, def: &IndexDef) -> Lent<'a>
+    ensures { value_lent result ≡ property_value name.now row.now def.now }
+{
+    match cell_of(row.cells.as_slice(), name) {
+        Some(value) => Lent::of(value),
+        None => in_document(name, &row.doc, def.fields.as_slice()),
+    }
+}
+
+/// The same of cells and a document that are no row, lent.
+pub fn property_in<'a>(
+    name: &[u8],
+    cells: &'a [Cell],
+    doc: Option<&'a Doc>,
+    def: &IndexDef,
+) -> Lent<'a>
+    ensures { value_lent result
+        ≡ property_value name.now (row_lent cells.now (option_copied doc.entry)) def.now }
+{
+    match (cell_of(cells, name), doc) {
+        (Some(value), _) => Lent::of(value),
+        (None, Some(doc)) => in_hash(name, &doc.hash, def.fields.as_slice()),
+        (None, None) => Lent::Null,
+    }
+}
+
+fn cell_of<'a>(cells: &'a [Cell], name: &[u8]) -> Option<&'a Value>
+    ensures { option_copied result ≡ cell_of cells.now name.now }
+{
+    for cell in cells {
+        if cell.name.as_slice() == name {
+            return Some(&cell.value);
+        }
+    }
+    None
+}
+
+fn in_document<'a>(name: &[u8], doc: &'a Option<Doc>, fields: &[Field]) -> Lent<'a>
+    ensures { value_lent result ≡ in_document name.now doc.now fields.now }
+{
+    match doc {
+        Some(doc) => in_hash(name, &doc.hash, fields),
+        None => Lent::Null,
+    }
+}
+
+/// The hash's field that an alias names, else the hash's field of this very name.
+fn in_hash<'a>(name: &[u8], hash: &'a HashRec, fields: &[Field]) -> Lent<'a>
+    ensures { value_lent result ≡ in_hash name.now hash.now fields.now }
+{
+    match by_alias(name, hash, fields) {
+        Some(value) => value,
+        None => match by_name(name, hash, fields) {
+            Some(value) => value,
+            None => Lent::Null,
+        },
+    }
+}
+
+/// The hash's field that an alias names.
+pub fn by_alias<'a>(name: &[u8], hash: &'a HashRec, fields: &[Field]) -> Option<Lent<'a>>
+    ensures { option_map value_lent result ≡ by_alias name.now hash.now fields.now }
+{
+    let field = alias_of(fields, name)?;
+    let text = hash.get(field.name.as_slice())?;
+    Some(seen_as(field.kind.is_numeric(), text.as_slice()))
+}
+
+fn alias_of<'a>(fields: &'a [Field], name: &[u8]) -> Option<&'a Field>
+    ensures { option_copied result ≡ alias_of fields.now name.now }
+{
+    for field in fields {
+        if field.alias.as_slice() == name {
+            return Some(field);
+        }
+    }
+    None
+}
+
+/// The hash's field of this very name.
+pub fn by_name<'a>(name: &[u8], hash: &'a HashRec, fields: &[Field]) -> Option<Lent<'a>>
+    ensures { option_map value_lent result ≡ by_name name.now hash.now fields.now }
+{
+    let text = hash.get(name)?;
+    Some(seen_as(has_number(fields, name), text.as_slice()))
+}
+
+/// Whether a NUMERIC field reads this field of hashes.
+pub fn has_number(fields: &[Field], name: &[u8]) -> bool
+    ensures { result ≡ has_number fields.now name.now }
+{
+    fields.iter().any(|field| field.kind.is_numeric() && field.name.as_slice() == name)
+}
+
+/// What a stored text is seen as.
+pub fn seen_as(numeric: bool, text: &[u8]) -> Lent<'_>
+    ensures { value_lent result ≡ seen_as numeric text.now }
+{
+    if numeric {
+        Lent::num_or_null(number(text))
+    } else {
+        Lent::Text(text)
+    }
+}
