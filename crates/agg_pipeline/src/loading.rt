@@ -85,9 +85,9 @@ fn own_cells(alloc: Global, def: &IndexDef, doc: &Doc) -> Result<ListOf<Cell>, N
     ensures { IfOk result (λ cells. cells ≡ map (own_cell def.now) doc.now.hash) }
 {
     let mut cells = ListOf::new(alloc);
-    for i in 0..doc.hash.len() {
-        let (name, text) = doc.hash.at(i);
-        cells.push(own_cell(alloc, name, text.as_slice(), def.fields.as_slice())?)?;
+    let mut walk = doc.hash.walk();
+    while let Some((name, text)) = walk.next() {
+        cells.push(own_cell(alloc, name, text, def.fields.as_slice())?)?;
     }
     Ok(cells)
 }

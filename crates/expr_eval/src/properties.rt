@@ -74,7 +74,7 @@ pub fn by_alias<'a>(name: &[u8], hash: &'a HashRec, fields: &[Field]) -> Option<
 {
     let field = alias_of(fields, name)?;
     let text = hash.get(field.name.as_slice())?;
-    Some(seen_as(field.kind.is_numeric(), text.as_slice()))
+    Some(seen_as(field.kind.is_numeric(), text))
 }
 
 fn alias_of<'a>(fields: &'a [Field], name: &[u8]) -> Option<&'a Field>
@@ -93,7 +93,7 @@ pub fn by_name<'a>(name: &[u8], hash: &'a HashRec, fields: &[Field]) -> Option<L
     ensures { option_map value_lent result ≡ by_name name.now hash.now fields.now }
 {
     let text = hash.get(name)?;
-    Some(seen_as(has_number(fields, name), text.as_slice()))
+    Some(seen_as(has_number(fields, name), text))
 }
 
 /// Whether a NUMERIC field reads this field of hashes.

@@ -17,10 +17,10 @@ pub fn in_turn(alloc: Global, hash: &HashRec) -> Result<Reply, NoMemory>
     ensures fits { IfOk result (λ reply. IsTrue (fits_wire reply)) }
 {
     let mut replies = Vec::new(alloc);
-    for i in 0..hash.len() {
-        let (field, value) = hash.at(i);
+    let mut walk = hash.walk();
+    while let Some((field, value)) = walk.next() {
         push_bulk(alloc, &mut replies, field)?;
-        push_bulk(alloc, &mut replies, value.as_slice())?;
+        push_bulk(alloc, &mut replies, value)?;
     }
     Ok(Reply::Array(ListOf::from_vec(replies)))
 }

@@ -3,6 +3,7 @@
 //! A contract sees each of them as plain data: `Bytes` as a list of numbers, `ListOf<T>` as a list
 //! of `T`, the words of a command as a list of lists of bytes, a hash as the list of its fields and
 //! values. So the definitions of the crates above need no map from code to model.
+//! A hash is held in one of two forms (`field_run.rt`, `field_map.rt`), of which no contract tells.
 //! Read `bytes.rt` and `words.rt` first, then `specs/Hash.antt` and `specs/Reply.antt`.
 #![tactic(auto)]
 
@@ -10,6 +11,8 @@ mod boxed;
 mod bytes;
 mod definition;
 mod doc;
+mod field_map;
+mod field_run;
 mod hash_rec;
 mod hash_reply;
 mod limits;
@@ -33,7 +36,7 @@ pub use definition::{Field, FieldKind, IndexDef, StopWords};
 /// A hash under its key, with the number of the event that last wrote it.
 pub use doc::Doc;
 /// The fields of a hash and their values, in order of first setting.
-pub use hash_rec::HashRec;
+pub use hash_rec::{FieldWalk, HashRec};
 /// The fields of a hash and their values in turn.
 pub use hash_reply::in_turn;
 /// The limits of a command on the wire.

@@ -135,7 +135,7 @@ fn searched_number(field: &Field, doc: &Doc) -> Option<i64>
         return None;
     }
     let value = doc.hash.get(field.name.as_slice())?;
-    field_text::number(value.as_slice())
+    field_text::number(value)
 }
 
 /// Adds a number to the ranges of the field with this number, where there are both.

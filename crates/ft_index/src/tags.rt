@@ -76,7 +76,7 @@ fn searched_tags(alloc: Global, field: &Field, doc: &Doc) -> Result<ListOf<Bytes
         return Ok(ListOf::new(alloc));
     }
     match doc.hash.get(field.name.as_slice()) {
-        Some(value) => tags(alloc, value.as_slice(), separator, case),
+        Some(value) => tags(alloc, value, separator, case),
         None => Ok(ListOf::new(alloc)),
     }
 }

@@ -52,7 +52,7 @@ fn field_reads(hash: &HashRec, field: &Field) -> bool
         return true;
     }
     match hash.get(field.name.as_slice()) {
-        Some(value) => number(value.as_slice()).is_some(),
+        Some(value) => number(value).is_some(),
         None => true,
     }
 }

@@ -21,7 +21,7 @@ pub fn field_tokens(
         return Ok(ListOf::new(alloc));
     }
     match doc.hash.get(field.name.as_slice()) {
-        Some(value) => tokens(alloc, value.as_slice(), &def.stops),
+        Some(value) => tokens(alloc, value, &def.stops),
         None => Ok(ListOf::new(alloc)),
     }
 }

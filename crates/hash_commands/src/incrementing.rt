@@ -13,12 +13,11 @@ ghost use Rattle.ft_machine.specs.Reads.{hash_in};
 ghost use Rattle.ft_machine.specs.Step.{last_number};
 ghost use Rattle.indexed_store.specs.Preparing.{Prepares, Stays, WaitsFor};
 
-use ft_base::{Bytes, HashRec, NoMemory, Words, read_int};
+use ft_base::{HashRec, NoMemory, Words, read_int};
 use hash_store::ReadyPut;
 use indexed_store::{Change, IndexedStore};
 use itoa::Buffer;
 use reply_buffer::ReplyBuffer;
-use std::alloc::Global;
 
 /// Prepares HINCRBY, and writes the reply.
 pub fn hincrby<'a>(held: &mut IndexedStore, args: &Words<'a>, reply: &mut ReplyBuffer) -> Change<'a>
@@ -67,16 +66,15 @@ fn set_number(
     ensures stays { Stays held.old held.new }
 {
     let mut hash = held.copy_of(key)?;
-    set_to(&mut hash, held.alloc, field, number)?;
+    set_to(&mut hash, field, number)?;
     held.prepare_hash(key, hash)
 }
 
-fn set_to(hash: &mut HashRec, alloc: Global, field: &[u8], number: i64) -> Result<(), NoMemory>
+fn set_to(hash: &mut HashRec, field: &[u8], number: i64) -> Result<(), NoMemory>
     ensures set { OnOk result (hash.new ≡ set_field hash.old field.now (signed_decimal number)) }
     ensures short { length (signed_decimal number) ≤ MAX_WORD_BYTES }
 {
     let mut buffer = Buffer::new();
-    let value = Bytes::from_slice(alloc, buffer.format(number).as_bytes())?;
-    hash.set(field, value)?;
+    hash.put(field, buffer.format(number).as_bytes())?;
     Ok(())
 }

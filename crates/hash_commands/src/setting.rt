@@ -76,7 +76,7 @@ fn copy_with(
 {
     let mut hash = held.copy_of(key)?;
     let before = hash.len();
-    set_pairs(&mut hash, held.alloc, pairs)?;
+    set_pairs(&mut hash, pairs)?;
     let fresh = hash.len() - before;
     Ok((hash, fresh))
 }

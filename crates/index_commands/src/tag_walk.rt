@@ -110,7 +110,7 @@ fn field_tags(alloc: Global, doc: &Doc, field: &Field) -> Result<ListOf<Bytes>, 
         return Ok(ListOf::new(alloc));
     };
     match doc.hash.get(field.name.as_slice()) {
-        Some(value) => tags(alloc, value.as_slice(), separator, case),
+        Some(value) => tags(alloc, value, separator, case),
         None => Ok(ListOf::new(alloc)),
     }
 }

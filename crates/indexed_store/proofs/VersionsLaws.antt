@@ -1,8 +1,6 @@
 -- New versions of a hash: which fields a set of them has, and what is left without them.
-use Rattle.std.proofs.Common.{◌≡◌, ◌<◌, ◌≤◌, ◌+◌, ℕ, suc, Bool, true, false, List, [], ◌∷◌, ◌++◌, length, take, drop, Option, Some, None, refl, sym, ap, ◌∙◌, subst, inl, inr, arith, append_assoc, drop-cons}
-use Rattle.std.specs.Prelude.{◌||◌, filter, is_some, not, slice_get, slice_index_or}
-use Rattle.std.specs.Borrow.{Bor}
-use Rattle.std.specs.Option.{option_copied}
+use Rattle.std.proofs.Common.{◌≡◌, ◌<◌, ◌≤◌, ◌+◌, ℕ, Bool, true, false, List, [], ◌∷◌, ◌++◌, length, take, Option, Some, None, refl, sym, ap, ◌∙◌, subst, inl, inr, arith, append_assoc}
+use Rattle.std.specs.Prelude.{◌||◌, filter, if◌then◌else◌, is_some, not, slice_index_or}
 use Rattle.std.specs.Cmp.{IsEquivalence}
 use Rattle.std.specs.List.{AllByRecursion, IsDistinct, list_any}
 use Rattle.std.specs.Map.{keys_of}
@@ -14,7 +12,6 @@ use Rattle.std.proofs.lemmas.List.{append-nil, take_more}
 use Rattle.std.proofs.lemmas.List.Filters.{length-filter_both}
 use Rattle.std.proofs.lemmas.List.Folds.{list_any-append}
 use Rattle.std.proofs.lemmas.Map.Keys.{IsDistinct-head, IsDistinct-tail}
-use Rattle.std.proofs.lemmas.Option.{get_or_from_slice_get, slice_get_within}
 use Rattle.std.proofs.lemmas.Slice.Eq.{bytes_eq-Decides}
 use Rattle.ft_base.specs.Hash.{Hash, HasDistinctFields, get_field, set_field}
 use Rattle.ft_machine.specs.Writes.{without_fields}
@@ -87,13 +84,6 @@ pub record Copies (keep : List ℕ × List ℕ → Bool) (hash left rest : Hash)
 pub copies-none : (keep : List ℕ × List ℕ → Bool) (hash : Hash) → HasDistinctFields hash → Copies keep hash [] hash
 copies-none keep hash distinct = record { whole = refl; apart = apart-none hash; distinct = distinct }
 
--- the field at a place comes next
-pub rest-at : (hash : Hash) (i : ℕ) (pair : List ℕ × List ℕ) → slice_get hash i ≡ Some pair → drop i hash ≡ pair ∷ drop (i + 1) hash
-rest-at hash i pair there =
-    let up : suc i ≡ i + 1 = omega arith in
-    drop-cons hash i pair (slice_get_within hash i pair there)
-    ∙ (ap (λ (p : List ℕ × List ℕ). p ∷ drop (suc i) hash) (get_or_from_slice_get hash i pair pair there) ∙ ap (λ (n : ℕ). pair ∷ drop n hash) up)
-
 copied : (keep : List ℕ × List ℕ → Bool) (hash left new rest : Hash) (pair : List ℕ × List ℕ) → keep pair ≡ true → new ≡ set_field left pair.0 pair.1 → Copies keep hash left (pair ∷ rest) → Copies keep hash new rest
 copied keep hash left new rest pair kept set before =
     let more : new ≡ left ++ pair ∷ [] = set ∙ set-new left pair.0 pair.1 before.apart.0 in
@@ -109,31 +99,21 @@ passed keep hash left rest pair kept before =
     let whole : left ++ filter keep rest ≡ filter keep hash = rw kept at before.whole in
     record { whole = whole; apart = before.apart.1; distinct = IsDistinct-tail bytes_eq pair.0 (keys_of rest) before.distinct }
 
--- a field is copied, or passed over
-pub copies-kept : (keep : List ℕ × List ℕ → Bool) (hash left new : Hash) (i : ℕ) (pair : List ℕ × List ℕ) → slice_get hash i ≡ Some pair → keep pair ≡ true → new ≡ set_field left pair.0 pair.1
-    → Copies keep hash left (drop i hash) → Copies keep hash new (drop (i + 1) hash)
-copies-kept keep hash left new i pair there kept set before =
-    copied keep hash left new (drop (i + 1) hash) pair kept set (subst (Copies keep hash left) (rest-at hash i pair there) before)
-
-pub copies-passed : (keep : List ℕ × List ℕ → Bool) (hash left : Hash) (i : ℕ) (pair : List ℕ × List ℕ) → slice_get hash i ≡ Some pair → keep pair ≡ false
-    → Copies keep hash left (drop i hash) → Copies keep hash left (drop (i + 1) hash)
-copies-passed keep hash left i pair there kept before = passed keep hash left (drop (i + 1) hash) pair kept (subst (Copies keep hash left) (rest-at hash i pair there) before)
+-- the next field is copied, or passed over where another hash has it
+pub copies-next : (gone hash left new next rest : Hash) (pair : List ℕ × List ℕ) → next ≡ pair ∷ rest
+    → new ≡ (if is_some (get_field gone pair.0) then left else set_field left pair.0 pair.1)
+    → Copies (λ (field : List ℕ × List ℕ). not (is_some (get_field gone field.0))) hash left next → Copies (λ (field : List ℕ × List ℕ). not (is_some (get_field gone field.0))) hash new rest
+copies-next gone hash left new next rest pair first set before =
+    let keep = λ (field : List ℕ × List ℕ). not (is_some (get_field gone field.0)) in
+    let begun = subst (Copies keep hash left) first before in
+    elim (cases_Bool (is_some (get_field gone pair.0))) [
+      | inl there ↦ subst (λ (h : Hash). Copies keep hash h rest) (sym (rw there at set)) (passed keep hash left rest pair (ap not there) begun)
+      | inr away ↦ copied keep hash left new rest pair (ap not away) (rw away at set) begun
+    ]
 
 -- all that pass are copied
 pub copies-done : (keep : List ℕ × List ℕ → Bool) (hash left : Hash) → Copies keep hash left [] → left ≡ filter keep hash
 copies-done keep hash left done = sym (append-nil left) ∙ done.whole
-
-twice-not : (b : Bool) → not (not b) ≡ b
-twice-not true = refl
-twice-not false = refl
-
-copied-there : {X : Type 0} (found : Option (Bor X)) (got : Option X) → option_copied found ≡ got → is_some got ≡ is_some found
-copied-there None got is = ap is_some (sym is)
-copied-there (Some x) got is = ap is_some (sym is)
-
--- whether a field passes, as a look-up says
-pub passes : {X : Type 0} (found : Option (Bor X)) (got : Option X) (none : Bool) → option_copied found ≡ got → is_some found ≡ not none → not (is_some got) ≡ none
-passes found got none is tested = ap not (copied-there found got is ∙ tested) ∙ twice-not none
 
 -- no more fields than before
 pub filter-fewer : (keep : List ℕ × List ℕ → Bool) (hash : Hash) → length (filter keep hash) ≤ length hash

@@ -45,8 +45,8 @@ fn names_of(alloc: Global, hash: &HashRec) -> Result<Reply, NoMemory>
     ensures reply { IfOk result (λ reply. reply ≡ Array (names hash.now)) }
 {
     let mut replies = Vec::new(alloc);
-    for i in 0..hash.len() {
-        let (field, _) = hash.at(i);
+    let mut walk = hash.walk();
+    while let Some((field, _)) = walk.next() {
         replies.push(Reply::Bulk(Bytes::from_slice(alloc, field)?))?;
     }
     Ok(Reply::Array(ListOf::from_vec(replies)))
@@ -71,9 +71,9 @@ fn all_values(alloc: Global, hash: &HashRec) -> Result<Reply, NoMemory>
     ensures reply { IfOk result (λ reply. reply ≡ Array (values hash.now)) }
 {
     let mut replies = Vec::new(alloc);
-    for i in 0..hash.len() {
-        let (_, value) = hash.at(i);
-        replies.push(Reply::Bulk(Bytes::from_slice(alloc, value.as_slice())?))?;
+    let mut walk = hash.walk();
+    while let Some((_, value)) = walk.next() {
+        replies.push(Reply::Bulk(Bytes::from_slice(alloc, value)?))?;
     }
     Ok(Reply::Array(ListOf::from_vec(replies)))
 }

@@ -7,7 +7,7 @@ ghost use Rattle.ft_base.specs.declared.reply.Reply.TheVariants.{Array};
 ghost use Rattle.hash_store.specs.Store.{after_read};
 ghost use Rattle.ft_machine.specs.Reads.{hash_in, value_reply};
 
-use ft_base::{HashRec, ListOf, NoMemory, Reply, Words};
+use ft_base::{Bytes, HashRec, ListOf, NoMemory, Reply, Words};
 use hash_store::HashStore;
 use std::alloc::Global;
 
@@ -36,7 +36,7 @@ fn value_of(alloc: Global, hash: &HashRec, field: &[u8]) -> Result<Reply, NoMemo
     ensures fits { IfOk result (λ reply. IsTrue (fits_wire reply)) }
 {
     match hash.get(field) {
-        Some(value) => Ok(Reply::Bulk(value.clone()?)),
+        Some(value) => Ok(Reply::Bulk(Bytes::from_slice(alloc, value)?)),
         None => Ok(Reply::NullBulk),
     }
 }

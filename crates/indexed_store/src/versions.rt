@@ -1,14 +1,14 @@
 //! New versions of a key's hash: a copy with fields set, or without some. The store keeps its own.
-ghost use Rattle.std.specs.Prelude.{◌≡◌, ◌≤◌, ◌-◌, List, ℕ, filter, length, not, is_some, IfOk, OnOk};
+ghost use Rattle.std.specs.Prelude.{◌≡◌, ◌≤◌, ◌-◌, List, ℕ, filter, length, not, is_some, if◌then◌else◌, IfOk, OnOk};
 ghost use Rattle.std.specs.List.{list_any};
 ghost use Rattle.std.specs.Str.{bytes_eq};
-ghost use Rattle.ft_base.specs.Hash.{get_field, set_field};
+ghost use Rattle.ft_base.specs.Hash.{HasDistinctFields, get_field, set_field};
 ghost use Rattle.ft_base.specs.Space.{doc_of};
 ghost use Rattle.ft_machine.specs.Writes.{number_in, set_pairs, without_fields};
 ghost use Rattle.ft_machine.specs.Reads.{hash_in};
 ghost use Rattle.hash_store.specs.Store.{after_read};
 
-use ft_base::{Bytes, HashRec, NoMemory, Words, read_int};
+use ft_base::{HashRec, NoMemory, Words, read_int};
 use hash_store::HashStore;
 use std::alloc::Global;
 
@@ -26,13 +26,12 @@ pub fn copy_of(store: &mut HashStore, alloc: Global, key: &[u8]) -> Result<HashR
 }
 
 /// Sets pairs of fields and values from the left.
-pub fn set_pairs(hash: &mut HashRec, alloc: Global, pairs: &Words<'_>) -> Result<(), NoMemory>
+pub fn set_pairs(hash: &mut HashRec, pairs: &Words<'_>) -> Result<(), NoMemory>
     ensures pairs { OnOk result (hash.new ≡ set_pairs hash.old pairs.now) }
     ensures longer { OnOk result (length hash.old ≤ length hash.new) }
 {
     for i in 0..pairs.len() / 2 {
-        let value = Bytes::from_slice(alloc, pairs.word(2 * i + 1))?;
-        hash.set(pairs.word(2 * i), value)?;
+        hash.put(pairs.word(2 * i), pairs.word(2 * i + 1))?;
     }
     Ok(())
 }
@@ -60,43 +59,52 @@ pub fn left_of(
 
 /// A copy of a hash without some fields.
 fn without_fields(hash: &HashRec, alloc: Global, fields: &Words<'_>) -> Result<HashRec, NoMemory>
+    requires { HasDistinctFields hash.now }
     ensures { IfOk result (λ left. left ≡ without_fields hash.now fields.now) }
 {
     let gone = set_of(alloc, fields)?;
     without(hash, alloc, &gone)
 }
 
-/// The fields as those of a hash, by which they are found without a walk.
+/// The fields as those of a hash: one of many is found without a walk over them all.
 fn set_of(alloc: Global, fields: &Words<'_>) -> Result<HashRec, NoMemory>
     ensures { IfOk result (λ set. (field : List ℕ)
         → is_some (get_field set field) ≡ list_any (bytes_eq field) fields.now) }
 {
     let mut set = HashRec::new(alloc);
     for i in 0..fields.len() {
-        set.set(fields.word(i), Bytes::new(alloc))?;
+        set.put(fields.word(i), b"")?;
     }
     Ok(set)
 }
 
 /// A copy of a hash without the fields that another has.
 fn without(hash: &HashRec, alloc: Global, gone: &HashRec) -> Result<HashRec, NoMemory>
+    requires { HasDistinctFields hash.now }
     ensures { IfOk result (λ left. left
         ≡ filter (λ (field : List ℕ × List ℕ). not (is_some (get_field gone.now field.0))) hash.now) }
 {
     let mut left = HashRec::new(alloc);
-    for i in 0..hash.len() {
-        let (field, value) = hash.at(i);
-        if gone.get(field).is_none() {
-            keep(&mut left, field, value)?;
-        }
+    let mut walk = hash.walk();
+    while let Some((field, value)) = walk.next() {
+        keep_unless(gone, &mut left, field, value)?;
     }
     Ok(left)
 }
 
-fn keep(left: &mut HashRec, field: &[u8], value: &Bytes) -> Result<(), NoMemory>
-    ensures { OnOk result (left.new ≡ set_field left.old field.now value.now) }
+/// Sets a field of a copy, but for one that another hash has.
+fn keep_unless(
+    gone: &HashRec,
+    left: &mut HashRec,
+    field: &[u8],
+    value: &[u8],
+) -> Result<(), NoMemory>
+    ensures { OnOk result (left.new
+        ≡ (if is_some (get_field gone.now field.now) then left.old else set_field left.old field.now value.now)) }
 {
-    left.set(field, value.clone()?)?;
+    if gone.get(field).is_none() {
+        left.put(field, value)?;
+    }
     Ok(())
 }
 
@@ -117,7 +125,7 @@ fn number_in(hash: &HashRec, field: &[u8]) -> Option<i64>
     ensures { result ≡ number_in (get_field hash.now field.now) }
 {
     match hash.get(field) {
-        Some(value) => read_int(value.as_slice()),
+        Some(value) => read_int(value),
         None => Some(0),
     }
 }

@@ -68,7 +68,7 @@ fn values_fit(hash: &HashRec) -> bool
     ensures { IsTrue result → ValuesFit hash.now }
 {
     'values: for i in 0..hash.len() {
-        if 1_000 < hash.at(i).1.as_slice().len() {
+        if 1_000 < hash.at(i).1.len() {
             return false;
         }
     }

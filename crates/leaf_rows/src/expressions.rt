@@ -234,15 +234,15 @@ fn hash_of(alloc: Global, pairs: &[Vec<u8>]) -> Result<HashRec, NoMemory> {
         let Some((name, value, others)) = first_pair(rest) else {
             break;
         };
-        set_field(alloc, &mut hash, name, value)?;
+        set_field(&mut hash, name, value)?;
         rest = others;
     }
     Ok(hash)
 }
 
-fn set_field(alloc: Global, hash: &mut HashRec, name: &[u8], value: &[u8]) -> Result<(), NoMemory> {
+fn set_field(hash: &mut HashRec, name: &[u8], value: &[u8]) -> Result<(), NoMemory> {
     if !matches!(name, [b':' | b'.', ..]) {
-        let _fresh = hash.set(name, Bytes::from_slice(alloc, value)?)?;
+        let _fresh = hash.put(name, value)?;
     }
     Ok(())
 }

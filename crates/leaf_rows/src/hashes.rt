@@ -80,7 +80,7 @@ fn put_removed(hash: &mut HashRec, field: &[u8], out: &mut Answer) {
 fn put_left(hash: &HashRec, field: &[u8], out: &mut Answer) {
     out.put(b" ");
     match hash.get(field) {
-        Some(value) => out.put_word(value.as_slice()),
+        Some(value) => out.put_word(value),
         None => out.put(b"none"),
     }
     put_fields(hash, out);
@@ -88,11 +88,11 @@ fn put_left(hash: &HashRec, field: &[u8], out: &mut Answer) {
 
 fn put_fields(hash: &HashRec, out: &mut Answer) {
     out.put(b":");
-    for i in 0..hash.len() {
-        let (field, value) = hash.at(i);
+    let mut walk = hash.walk();
+    while let Some((field, value)) = walk.next() {
         out.put(b" ");
         out.put_word(field);
         out.put(b"=");
-        out.put_word(value.as_slice());
+        out.put_word(value);
     }
 }

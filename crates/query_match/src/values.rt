@@ -35,7 +35,7 @@ fn field_tags(alloc: Global, doc: &Doc, field: &Field) -> Result<ListOf<Bytes>, 
         return Ok(ListOf::new(alloc));
     };
     match doc.hash.get(field.name.as_slice()) {
-        Some(value) => Ok(tags(alloc, value.as_slice(), separator, case)?),
+        Some(value) => Ok(tags(alloc, value, separator, case)?),
         None => Ok(ListOf::new(alloc)),
     }
 }
@@ -78,5 +78,5 @@ fn field_number(doc: &Doc, field: &Field) -> Option<i64>
         return None;
     }
     let value = doc.hash.get(field.name.as_slice())?;
-    number(value.as_slice())
+    number(value)
 }

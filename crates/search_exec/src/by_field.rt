@@ -178,9 +178,9 @@ fn value_of(alloc: Global, key: SortKey<'_>, doc: &Doc) -> Result<Value, NoMemor
         return Ok(Value::Null);
     };
     if key.numeric {
-        return Ok(number(text.as_slice()).map_or(Value::Null, Value::Num));
+        return Ok(number(text).map_or(Value::Null, Value::Num));
     }
-    Ok(Value::Text(Bytes::from_slice(alloc, text.as_slice())?))
+    Ok(Value::Text(Bytes::from_slice(alloc, text)?))
 }
 
 // The reply of so many documents, of whose first rows those from a place on are shown.

@@ -194,7 +194,7 @@ fn push_field(
 {
     if let Some(value) = hash.get(shown.field) {
         replies.push(Reply::Bulk(Bytes::from_slice(alloc, shown.name)?))?;
-        replies.push(Reply::Bulk(value.clone()?))?;
+        replies.push(Reply::Bulk(Bytes::from_slice(alloc, value)?))?;
     }
     Ok(())
 }

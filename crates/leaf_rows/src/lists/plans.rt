@@ -102,7 +102,7 @@ fn doc(alloc: Global, id: u64, text: &[u8]) -> Result<Doc, NoMemory>
     ensures { IfOk result (λ doc. doc.id ≡ id) }
 {
     let mut hash = HashRec::new(alloc);
-    hash.set(b"t", Bytes::from_slice(alloc, text)?)?;
+    hash.put(b"t", text)?;
     let key = Bytes::new(alloc);
     Ok(Doc { id, key, hash })
 }
@@ -111,7 +111,7 @@ fn values_fit(hash: &HashRec) -> bool
     ensures { IsTrue result → ValuesFit hash.now }
 {
     'values: for i in 0..hash.len() {
-        if 100 < hash.at(i).1.as_slice().len() {
+        if 100 < hash.at(i).1.len() {
             return false;
         }
     }

@@ -1,15 +1,15 @@
-use Rattle.std.proofs.Common.{◌∙◌, ap, refl, sym, subst, List}
+use Rattle.std.proofs.Common.{◌∙◌, ◌++◌, ap, sym, subst, List}
 use Rattle.std.specs.Prelude.{IsTrue}
+use Rattle.std.proofs.lemmas.List.{append-nil}
+use Rattle.ft_base.specs.Hash.{Hash, in_turn}
 use Rattle.ft_base.specs.Reply.{fits_wire}
 use Rattle.ft_base.specs.declared.reply.Reply.{Reply}
-use Rattle.ft_base.specs.declared.reply.Reply.TheVariants.{Array, Bulk}
-use Rattle.ft_base.proofs.RepliesLaws.{grown-twice, in_turn-fits, in_turn-next}
+use Rattle.ft_base.specs.declared.reply.Reply.TheVariants.{Array}
+use Rattle.ft_base.proofs.RepliesLaws.{in_turn-fits}
 use Rattle.ft_base.proofs.hash_reply.in_turn.Goals as goal
 
-pub loop-i-preserved : goal.loop-i-preserved
-loop-i-preserved c =
-    grown-twice _ _ _ _ _ (Bulk c.at.result.0.now) (Bulk c.as_slice.result.now) _ _ c.in_ok-push_bulk.ensures c.in_ok-push_bulk-2.ensures c.loop-i.invariant refl
-    (ap Bulk c.as_slice.ensures) (in_turn-next c.args.hash.now c.loop-i.i _ c.at.ensures)
-
 pub returns-clause-fits : goal.returns-clause-fits
-returns-clause-fits c = subst (λ (replies : List Reply). IsTrue (fits_wire (Array replies))) (sym (c.from_vec.ensures ∙ c.loop-i.invariant)) (in_turn-fits _)
+returns-clause-fits c =
+    let items = c.loop-field.replies.items in
+    let whole = sym (append-nil items) ∙ (ap (λ (rest : Hash). items ++ in_turn rest) (sym c.in_default.ensures.0) ∙ c.loop-field.invariant) in
+    subst (λ (replies : List Reply). IsTrue (fits_wire (Array replies))) (sym (c.from_vec.ensures ∙ whole)) (in_turn-fits c.args.hash.now)

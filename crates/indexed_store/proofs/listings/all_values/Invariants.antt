@@ -1,7 +1,10 @@
-use Rattle.std.specs.Prelude.{◌≡◌, take}
+use Rattle.std.specs.Prelude.{◌≡◌, ◌++◌, length}
 use Rattle.ft_machine.specs.Reads.{values}
 use Rattle.indexed_store.proofs.listings.all_values.Given as goal
 
--- the replies so far
-abbrev pub invariant-loop-i : goal.invariant-loop-i
-invariant-loop-i l = l.replies.items ≡ values (take l.i l.hash)
+-- the replies so far and those of the fields that are left are the whole
+abbrev pub invariant-loop-value : goal.invariant-loop-value
+invariant-loop-value l = l.replies.items ++ values l.walk ≡ values l.hash
+
+abbrev pub decreases-loop-value : goal.decreases-loop-value
+decreases-loop-value l = length l.walk

@@ -1,4 +1,4 @@
-use Rattle.std.proofs.Common.{◌∙◌, ap, arith, List, ℕ}
+use Rattle.std.proofs.Common.{◌∙◌, [], ap, arith, List, ℕ}
 use Rattle.std.specs.List.{list_any}
 use Rattle.std.specs.Str.{bytes_eq}
 use Rattle.std.proofs.lemmas.List.{take_all}
@@ -7,7 +7,7 @@ use Rattle.indexed_store.proofs.versions.set_of.Goals as goal
 
 pub loop-i-preserved : goal.loop-i-preserved
 loop-i-preserved c =
-    set-next c.loop-i.set c.set.new.self c.args.fields.now c.loop-i.i c.word.result.now c.new.result (omega (arith, c.loop-i-test.true, c.len-i-end.ensures)) c.word.ensures c.in_ok-set.ensures.ok c.loop-i.invariant
+    set-next c.loop-i.set c.put.new.self c.args.fields.now c.loop-i.i c.word.result.now [] (omega (arith, c.loop-i-test.true, c.len-i-end.ensures)) c.word.ensures c.in_ok-put.ensures.ok c.loop-i.invariant
 
 pub returns : goal.returns
 returns c field =

@@ -5,8 +5,8 @@ use Rattle.indexed_store.proofs.versions.set_pairs.Goals as goal
 
 pub loop-i-preserved : goal.loop-i-preserved
 loop-i-preserved c =
-    pairs-step c.loop-i.hash c.set.new.self c.args.pairs.now c.loop-i.i c.word-in-loop-i.result.now c.in_ok-value.value (omega (arith, c.loop-i-test.true, c.len-i-end.ensures)) c.word-in-loop-i.ensures
-    (c.in_ok-value.ensures ∙ c.word.ensures) c.in_ok-set.ensures.ok ∙ c.loop-i.invariant
+    pairs-step c.loop-i.hash c.put.new.self c.args.pairs.now c.loop-i.i c.word.result.now c.word-in-loop-i.result.now (omega (arith, c.loop-i-test.true, c.len-i-end.ensures)) c.word.ensures c.word-in-loop-i.ensures
+    c.in_ok-put.ensures.ok ∙ c.loop-i.invariant
 
 pub returns-clause-pairs : goal.returns-clause-pairs
 returns-clause-pairs c = pairs-done c.args.hash.now c.loop-i.hash c.args.pairs.now c.loop-i.i (omega (arith, c.loop-i-test.false, c.len-i-end.ensures)) c.loop-i.invariant
