@@ -1,6 +1,7 @@
 pub mod CellsLaws
 pub mod DistinctLaws
 pub mod EqualLaws
+pub mod FeedLaws
 pub mod GroupLaws
 pub mod GroupsLaws
 pub mod KeyedLaws

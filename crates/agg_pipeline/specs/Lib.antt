@@ -1,5 +1,6 @@
 pub mod Distinct
 pub mod Equal
+pub mod Feeding
 pub mod Grouping
 pub mod Groups
 pub mod Keyed

@@ -8,6 +8,7 @@
 
 mod cells;
 mod distinct;
+mod feed;
 mod grouping;
 mod laws;
 mod lent_row;
@@ -24,6 +25,8 @@ mod step;
 mod stream;
 mod table;
 
+/// The rows of an aggregate while its documents come.
+pub use feed::Feed;
 /// What is true of the definitions, whatever code there is.
 pub use laws::{equal_values, groups_of_all};
 /// Rows that are lent.

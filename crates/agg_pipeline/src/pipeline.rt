@@ -7,7 +7,7 @@ use crate::row_steps::{apply_all, keep_rows, limit_rows};
 use crate::sorting::sort_rows;
 use crate::step::Step;
 use expr_eval::Expr;
-use ft_base::{IndexDef, ListOf, NoMemory, Row};
+use ft_base::{IndexDef, NoMemory, Row};
 use std::alloc::Global;
 
 /// What the steps make of the rows.
@@ -15,12 +15,12 @@ pub fn pipe(
     alloc: Global,
     def: &IndexDef,
     rows: Vec<Row>,
-    steps: &ListOf<Step>,
+    steps: &[Step],
 ) -> Result<Vec<Row>, NoMemory>
     ensures { IfOk result (λ made. made.items ≡ piped def.now steps.now rows.items) }
 {
     let mut rows = rows;
-    for step in steps.as_slice() {
+    for step in steps {
         rows = step_rows(alloc, def, rows, step)?;
     }
     Ok(rows)

@@ -72,7 +72,8 @@ fn keep(
     }
 }
 
-fn push_row(rows: &mut Vec<Row>, row: Row) -> Result<(), NoMemory>
+/// One row more.
+pub fn push_row(rows: &mut Vec<Row>, row: Row) -> Result<(), NoMemory>
     ensures { OnOk result (rows.new.items ≡ rows.old.items ++ row ∷ []) }
 {
     rows.push(row)?;

@@ -5,7 +5,7 @@ ghost use Rattle.agg_pipeline.specs.Rows.{loaded};
 ghost use Rattle.agg_pipeline.specs.Steps.{applied, is_kept, piped, step_rows};
 ghost use Rattle.agg_pipeline.specs.Stream.{is_of_rows};
 
-use crate::loading::load;
+use crate::loading;
 use crate::row_steps::{apply, is_kept};
 use crate::step::{Load, Step};
 use expr_eval::Expr;
@@ -50,9 +50,24 @@ impl StreamSteps {
         ensures { IfOk result (λ row. option_to_list row
             ≡ piped def.now self.now.1 (loaded self.now.0 def.now doc.now ∷ [])) }
     {
-        let row = load(self.alloc, &self.load, def, copy_doc(self.alloc, doc)?)?;
-        pipe_row(self.alloc, def, self.steps.as_slice(), row)
+        pipe_doc(self.alloc, def, &self.load, self.steps.as_slice(), doc)
     }
+}
+
+/// The row that a document becomes by LOAD and steps that take a row at a time, and none where a FILTER drops it. The
+/// document is copied, as its row owns it.
+pub fn pipe_doc(
+    alloc: Global,
+    def: &IndexDef,
+    load: &Load,
+    steps: &[Step],
+    doc: &Doc,
+) -> Result<Option<Row>, NoMemory>
+    ensures { IfOk result (λ made. list_all is_of_rows steps.now ≡ true
+        → option_to_list made ≡ piped def.now steps.now (loaded load.now def.now doc.now ∷ [])) }
+{
+    let row = loading::load(alloc, load, def, copy_doc(alloc, doc)?)?;
+    pipe_row(alloc, def, steps, row)
 }
 
 fn copy_doc(alloc: Global, doc: &Doc) -> Result<Doc, NoMemory>
@@ -74,8 +89,8 @@ fn pipe_row(
     steps: &[Step],
     row: Row,
 ) -> Result<Option<Row>, NoMemory>
-    requires { list_all is_of_rows steps.now ≡ true }
-    ensures { IfOk result (λ made. option_to_list made ≡ piped def.now steps.now (row ∷ [])) }
+    ensures { IfOk result (λ made. list_all is_of_rows steps.now ≡ true
+        → option_to_list made ≡ piped def.now steps.now (row ∷ [])) }
 {
     let mut row = row;
     for step in steps {
@@ -89,8 +104,8 @@ fn pipe_row(
 
 /// What one such step makes of a row.
 fn step_row(alloc: Global, def: &IndexDef, step: &Step, row: Row) -> Result<Option<Row>, NoMemory>
-    requires { is_of_rows step.now ≡ true }
-    ensures { IfOk result (λ made. option_to_list made ≡ step_rows def.now step.now (row ∷ [])) }
+    ensures { IfOk result (λ made. is_of_rows step.now ≡ true
+        → option_to_list made ≡ step_rows def.now step.now (row ∷ [])) }
 {
     match step {
         Step::Apply { expr, name } => apply_row(alloc, def, expr, name.as_slice(), row),
@@ -132,7 +147,7 @@ fn are_of_rows(steps: &[Step]) -> bool
 }
 
 /// Whether a step takes a row at a time.
-fn is_of_rows(step: &Step) -> bool
+pub fn is_of_rows(step: &Step) -> bool
     ensures { result ≡ is_of_rows step.now }
 {
     matches!(step, Step::Apply { .. } | Step::Keep { .. })

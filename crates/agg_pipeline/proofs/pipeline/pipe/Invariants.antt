@@ -4,4 +4,4 @@ use Rattle.agg_pipeline.proofs.pipeline.pipe.Given as goal
 
 -- what the steps that are left make of the rows
 abbrev pub invariant-loop-step : goal.invariant-loop-step
-invariant-loop-step l = piped l.def (drop l.step-index l.step-items) l.rows.items ≡ piped l.def l.fn.steps l.fn.rows.items
+invariant-loop-step l = piped l.def (drop l.step-index l.steps) l.rows.items ≡ piped l.def l.fn.steps l.fn.rows.items

@@ -6,7 +6,7 @@ use Rattle.agg_pipeline.proofs.stream.pipe_row.Given as goal
 
 -- what the steps that are left make of the row
 abbrev pub invariant-loop-step : goal.invariant-loop-step
-invariant-loop-step l = record {
+invariant-loop-step l = list_all is_of_rows l.steps ≡ true → record {
   made : piped l.def (drop l.step-index l.steps) (l.row ∷ []) ≡ piped l.def l.steps (l.fn.row ∷ []);
   left : list_all is_of_rows (drop l.step-index l.steps) ≡ true;
 }

@@ -1,0 +1,281 @@
+//! The rows of an aggregate while its documents come one by one, so that a document is copied only where a row must hold it.
+ghost use Rattle.std.specs.Prelude.{◌≡◌, ◌<◌, ◌≤◌, ◌∷◌, ◌++◌, [], List, length, map, fold, not, option_to_list, position, true, IfOk, IfSome, OnOk};
+ghost use Rattle.std.specs.List.{list_all};
+ghost use Rattle.ft_base.specs.declared.definition.IndexDef.{IndexDef};
+ghost use Rattle.ft_base.specs.declared.doc.Doc.{Doc};
+ghost use Rattle.ft_base.specs.declared.row.Row.{Row as ARow};
+ghost use Rattle.agg_pipeline.specs.declared.feed.Made.TheVariants.{Groups as AGroups};
+ghost use Rattle.agg_pipeline.specs.declared.step.Load.{Load};
+ghost use Rattle.agg_pipeline.specs.declared.step.Step.{Step as AStep};
+ghost use Rattle.agg_pipeline.specs.Feeding.{Holds, IsMade, first_count, first_steps, later_steps};
+ghost use Rattle.agg_pipeline.specs.Rows.{loaded};
+ghost use Rattle.agg_pipeline.specs.Steps.{piped};
+ghost use Rattle.agg_pipeline.specs.Stream.{is_of_rows};
+ghost use Rattle.agg_pipeline.specs.Table.{Table, finished_row, note_row};
+
+use crate::lent_row::LentRow;
+use crate::loading::loaded_cells;
+use crate::pipeline::pipe;
+use crate::row_steps::push_row;
+use crate::step::{Load, Reducer, Step};
+use crate::stream::{is_of_rows, pipe_doc};
+use crate::table::Groups;
+use ft_base::{Bytes, Doc, IndexDef, NoMemory, Row};
+use std::alloc::Global;
+
+/// What was made of the documents that came, by LOAD and the first steps. The steps that take a row at a time are done as
+/// a document comes, so that what a FILTER drops is never held; a GROUPBY behind them takes the row in at once.
+#[derive(Drop)]
+pub struct Feed<'a> {
+    alloc: Global,
+    def: &'a IndexDef,
+    load: &'a Load,
+    first: &'a [Step],
+    later: &'a [Step],
+    made: Made,
+}
+
+/// The rows so far, or their groups.
+#[derive(Drop)]
+pub enum Made {
+    Rows(Vec<Row>),
+    Groups(Groups),
+}
+
+impl<'a> Feed<'a> {
+    /// No document came yet. No memory is taken.
+    pub fn new(alloc: Global, def: &'a IndexDef, load: &'a Load, steps: &'a [Step]) -> Feed<'a>
+        ensures { Holds def.now load.now steps.now [] result }
+    {
+        let later = later_steps(steps);
+        Feed {
+            alloc,
+            def,
+            load,
+            first: first_steps(steps),
+            later,
+            made: begin(alloc, later),
+        }
+    }
+
+    /// Takes one more document in. After an `Err` the feed may only be dropped.
+    pub fn note(&mut self, doc: &Doc) -> Result<(), NoMemory>
+        ensures { OnOk result ((def : IndexDef) (load : Load) (steps : List AStep) (docs : List Doc)
+            → Holds def load steps docs self.old → Holds def load steps (docs ++ doc.now ∷ []) self.new) }
+    {
+        match &mut self.made {
+            Made::Rows(rows) => hold_doc(self.alloc, self.def, self.load, self.first, rows, doc),
+            Made::Groups(groups) => {
+                group_doc(
+                    self.alloc, self.def, self.load, self.first, self.later, groups, doc,
+                )
+            }
+        }
+    }
+
+    /// What all the steps make of the documents that came.
+    pub fn finish(self) -> Result<Vec<Row>, NoMemory>
+        ensures { IfOk result (λ rows. (def : IndexDef) (load : Load) (steps : List AStep) (docs : List Doc)
+            → Holds def load steps docs self.entry → rows.items ≡ piped def steps (map (loaded load def) docs)) }
+    {
+        let Feed {
+            alloc,
+            def,
+            later,
+            made,
+            ..
+        } = self;
+        match made {
+            Made::Rows(rows) => pipe(alloc, def, rows, later),
+            Made::Groups(groups) => finish_groups(alloc, def, groups, later),
+        }
+    }
+}
+
+/// What is held before a document comes.
+fn begin(alloc: Global, later: &[Step]) -> Made
+    ensures { (def : IndexDef) → IsMade def later.now [] result }
+{
+    match later.first() {
+        Some(Step::Group { .. }) => Made::Groups(Groups::new(alloc)),
+        _ => Made::Rows(Vec::new(alloc)),
+    }
+}
+
+/// Adds the row that the first steps make of a document, where they keep it.
+fn hold_doc(
+    alloc: Global,
+    def: &IndexDef,
+    load: &Load,
+    first: &[Step],
+    rows: &mut Vec<Row>,
+    doc: &Doc,
+) -> Result<(), NoMemory>
+    ensures { OnOk result (list_all is_of_rows first.now ≡ true → rows.new.items
+        ≡ rows.old.items ++ piped def.now first.now (loaded load.now def.now doc.now ∷ [])) }
+{
+    let made = pipe_doc(alloc, def, load, first, doc)?;
+    hold_row(rows, made)
+}
+
+/// Adds a row, where there is one.
+fn hold_row(rows: &mut Vec<Row>, made: Option<Row>) -> Result<(), NoMemory>
+    ensures { OnOk result (rows.new.items ≡ rows.old.items ++ option_to_list made) }
+{
+    match made {
+        Some(row) => push_row(rows, row),
+        None => Ok(()),
+    }
+}
+
+/// Takes a document into its group, where a GROUPBY comes behind the first steps.
+fn group_doc(
+    alloc: Global,
+    def: &IndexDef,
+    load: &Load,
+    first: &[Step],
+    later: &[Step],
+    groups: &mut Groups,
+    doc: &Doc,
+) -> Result<(), NoMemory>
+    ensures { OnOk result (list_all is_of_rows first.now ≡ true → (rows : List ARow)
+        → IsMade def.now later.now rows (AGroups groups.old)
+        → IsMade def.now later.now (rows ++ piped def.now first.now (loaded load.now def.now doc.now ∷ [])) (AGroups groups.new)) }
+{
+    match later.first() {
+        Some(Step::Group { by, reduce }) => {
+            note_doc(
+                alloc,
+                def,
+                load,
+                first,
+                by.as_slice(),
+                reduce.as_slice(),
+                groups,
+                doc,
+            )
+        }
+        // No feed holds groups for other steps.
+        _ => Ok(()),
+    }
+}
+
+/// Takes the row that the first steps make of a document into its group, where they keep it.
+fn note_doc(
+    alloc: Global,
+    def: &IndexDef,
+    load: &Load,
+    first: &[Step],
+    by: &[Bytes],
+    reduce: &[Reducer],
+    groups: &mut Groups,
+    doc: &Doc,
+) -> Result<(), NoMemory>
+    ensures { OnOk result (list_all is_of_rows first.now ≡ true → groups.new
+        ≡ fold (note_row def.now by.now reduce.now) groups.old (piped def.now first.now (loaded load.now def.now doc.now ∷ []))) }
+{
+    if first.is_empty() {
+        return note_lent(alloc, def, load, by, reduce, groups, doc);
+    }
+    let made = pipe_doc(alloc, def, load, first, doc)?;
+    note_made(def, by, reduce, groups, &made)
+}
+
+/// Takes a row into its group, where there is one.
+fn note_made(
+    def: &IndexDef,
+    by: &[Bytes],
+    reduce: &[Reducer],
+    groups: &mut Groups,
+    made: &Option<Row>,
+) -> Result<(), NoMemory>
+    ensures { OnOk result (groups.new
+        ≡ fold (note_row def.now by.now reduce.now) groups.old (option_to_list made.now)) }
+{
+    match made {
+        Some(row) => groups.note(def, by, reduce, LentRow::of(row)),
+        None => Ok(()),
+    }
+}
+
+/// Takes the row that a document begins as into its group. The document is lent, and not copied.
+fn note_lent(
+    alloc: Global,
+    def: &IndexDef,
+    load: &Load,
+    by: &[Bytes],
+    reduce: &[Reducer],
+    groups: &mut Groups,
+    doc: &Doc,
+) -> Result<(), NoMemory>
+    ensures { OnOk result (groups.new
+        ≡ note_row def.now by.now reduce.now groups.old (loaded load.now def.now doc.now)) }
+{
+    let cells = loaded_cells(alloc, load, def, doc)?;
+    let row = LentRow {
+        cells: cells.as_slice(),
+        doc: Some(doc),
+    };
+    groups.note(def, by, reduce, row)
+}
+
+/// What the later steps make of the rows whose groups these are.
+fn finish_groups(
+    alloc: Global,
+    def: &IndexDef,
+    groups: Groups,
+    later: &[Step],
+) -> Result<Vec<Row>, NoMemory>
+    ensures { IfOk result (λ made. (rows : List ARow)
+        → IsMade def.now later.now rows (AGroups groups) → made.items ≡ piped def.now later.now rows) }
+{
+    let (reduce, behind) = group_and_behind(later);
+    let rows = groups.finish(alloc, reduce)?;
+    pipe(alloc, def, rows, behind)
+}
+
+/// The reducers of the GROUPBY that comes first, and the steps behind it.
+fn group_and_behind(later: &[Step]) -> (&[Reducer], &[Step])
+    ensures { (def : IndexDef) (rows : List ARow) (table : Table)
+        → IsMade def later.now rows (AGroups table)
+        → piped def result.1.now (map (finished_row result.0.now) table) ≡ piped def later.now rows }
+{
+    match later.split_first() {
+        Some((Step::Group { reduce, .. }, behind)) => (reduce.as_slice(), behind),
+        // No feed holds groups for other steps.
+        _ => (&[], &[]),
+    }
+}
+
+/// The first steps, which take a row at a time.
+fn first_steps(steps: &[Step]) -> &[Step]
+    ensures { result.now ≡ first_steps steps.now }
+{
+    &steps[..first_count(steps)]
+}
+
+/// The steps behind them.
+fn later_steps(steps: &[Step]) -> &[Step]
+    ensures { result.now ≡ later_steps steps.now }
+{
+    &steps[first_count(steps)..]
+}
+
+/// How many of the first steps take a row at a time.
+fn first_count(steps: &[Step]) -> usize
+    ensures count { result ≡ first_count steps.now }
+    ensures within { result ≤ length steps.now }
+{
+    match first_other(steps) {
+        Some(place) => place,
+        None => steps.len(),
+    }
+}
+
+/// The place of the first step that takes all rows at once.
+fn first_other(steps: &[Step]) -> Option<usize>
+    ensures place { result ≡ position (λ (step : AStep). not (is_of_rows step)) steps.now }
+    ensures within { IfSome result (λ place. place < length steps.now) }
+{
+    steps.iter().position(|step| !is_of_rows(step))
+}
