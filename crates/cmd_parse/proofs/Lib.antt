@@ -1,9 +1,15 @@
+pub mod AggregateBehind
+pub mod AggregateExamples
+pub mod AggregateLaws
 pub mod BehindLaws
 pub mod Examples
+pub mod ExpressionLaws
+pub mod LoopLaws
 pub mod OptionLaws
 pub mod OptionsLaws
 pub mod PairLaws
 pub mod ParamLaws
+pub mod PartsRead
 pub mod PlaceLaws
 pub mod SearchExamples
 pub mod SearchLaws

@@ -72,7 +72,7 @@ filter_at-Ok all words read behind e =
     subst (λ (r : Filter × List Word). Behind all r.1 × IsAt all r.0.at r.0.field) same (end_at-Ok all low.read.1 high.read behind_low high.first_is, named.1)
 
 -- SORTBY
-direction_at-Behind : (all words : List Word) → Behind all words → Behind all (direction_at words).1
+pub direction_at-Behind : (all words : List Word) → Behind all words → Behind all (direction_at words).1
 direction_at-Behind all [] behind = behind
 direction_at-Behind all (word ∷ words) behind = by_tests (is_name word (codes "ASC")) (is_name word (codes "DESC"))
   where

@@ -19,11 +19,11 @@ use Rattle.cmd_parse.specs.declared.stop.Stop.TheVariants.{Fault}
 use Rattle.cmd_parse.proofs.OptionsLaws.{some-left}
 
 -- the first word of a text, and the others
-abbrev pieces : List ℕ → List ℕ × List Word
+abbrev pub pieces : List ℕ → List ℕ × List Word
 pieces [] = ([], [])
 pieces (b ∷ text) = cond (b == 32) ([], (pieces text).0 ∷ (pieces text).1) (b ∷ (pieces text).0, (pieces text).1)
 
-abbrev words : List ℕ → List Word
+abbrev pub words : List ℕ → List Word
 words text = (pieces text).0 ∷ (pieces text).1
 
 -- what FT.SEARCH asks that has these options behind an index and a query
@@ -114,23 +114,23 @@ million = next_digit 1000000 (codes "100000") (lit≤ tt) (lit< tt) hundred_thou
 after_million : decimal 1000001 ≡ codes "1000001"
 after_million = next_digit 1000001 (codes "100000") (lit≤ tt) (lit< tt) hundred_thousand
 
-is_0 : int_of (codes "0") ≡ Some (pos 0)
+pub is_0 : int_of (codes "0") ≡ Some (pos 0)
 unfolding int_of
 is_0 = rw (decimal_digit 0 (lit< tt)) refl
 
-is_1 : int_of (codes "1") ≡ Some (pos 1)
+pub is_1 : int_of (codes "1") ≡ Some (pos 1)
 unfolding int_of
 is_1 = rw (decimal_digit 1 (lit< tt)) refl
 
-is_2 : int_of (codes "2") ≡ Some (pos 2)
+pub is_2 : int_of (codes "2") ≡ Some (pos 2)
 unfolding int_of
 is_2 = rw (decimal_digit 2 (lit< tt)) refl
 
-is_3 : int_of (codes "3") ≡ Some (pos 3)
+pub is_3 : int_of (codes "3") ≡ Some (pos 3)
 unfolding int_of
 is_3 = rw (decimal_digit 3 (lit< tt)) refl
 
-is_4 : int_of (codes "4") ≡ Some (pos 4)
+pub is_4 : int_of (codes "4") ≡ Some (pos 4)
 unfolding int_of
 is_4 = rw (decimal_digit 4 (lit< tt)) refl
 
@@ -145,7 +145,7 @@ is_more = rw after_million refl
 thirty_three : decimal 33 ≡ codes "33"
 thirty_three = next_digit 33 (codes "3") (lit≤ tt) (lit< tt) (decimal_digit 3 (lit< tt))
 
-x_is_none : int_of (codes "x") ≡ None
+pub x_is_none : int_of (codes "x") ≡ None
 unfolding int_of
 x_is_none = rw thirty_three refl
 

@@ -4,7 +4,7 @@ use Rattle.std.specs.List.{All}
 use Rattle.ft_base.specs.declared.limits.TheConstants.{MAX_WORD_BYTES}
 use Rattle.ft_schema.specs.Lawful.{IsLawful as AreLawful}
 use Rattle.cmd_parse.specs.Lawful.{Lawful}
-use Rattle.cmd_parse.specs.Read.{Asked, Plain, CreateIndex, AlterIndex, Search}
+use Rattle.cmd_parse.specs.Read.{Asked, Plain, CreateIndex, AlterIndex, Search, Aggregate}
 
 -- no argument is longer than a word may be
 abbrev pub AreWords : List (List ℕ) → Type 0
@@ -17,3 +17,4 @@ IsAsked (Plain verb args) = Lawful verb args × AreWords args
 IsAsked (CreateIndex index) = AreLawful index.fields
 IsAsked (AlterIndex index fields) = AreLawful fields
 IsAsked (Search what) = length what.query ≤ MAX_WORD_BYTES
+IsAsked (Aggregate what) = length what.query ≤ MAX_WORD_BYTES

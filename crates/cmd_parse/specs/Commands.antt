@@ -4,7 +4,7 @@ use Rattle.std.specs.List.{find}
 use Rattle.ft_base.specs.Names.{is_name}
 use Rattle.cmd_parse.specs.declared.command.Verb.TheVariants.{Ping, Echo, Select, Quit, Hset, Hsetnx, Hget, Hmget, Hgetall, Hdel, Hlen, Hexists, Hincrby, Hkeys, Hvals, Del, Exists, TypeOf, Dbsize, Rename, Flushall, DropIndex, ListIndexes, Info, TagVals}
 use Rattle.cmd_parse.specs.declared.table.Form.{Form}
-use Rattle.cmd_parse.specs.declared.table.Form.TheVariants.{Between, AtLeast, InPairs, Create, Alter, Search, Unbuilt}
+use Rattle.cmd_parse.specs.declared.table.Form.TheVariants.{Between, AtLeast, InPairs, Create, Alter, Search, Aggregate, Unbuilt}
 
 -- The table of commands. The numbers are numbers of words, the name among them; in pairs only even ones are lawful.
 abbrev pub commands : List (List ℕ × Form)
@@ -37,7 +37,7 @@ commands =
     ∷ (codes "FT.INFO", Between Info 2 2)
     ∷ (codes "FT.TAGVALS", Between TagVals 3 3)
     ∷ (codes "FT.SEARCH", Search)
-    ∷ (codes "FT.AGGREGATE", Unbuilt)
+    ∷ (codes "FT.AGGREGATE", Aggregate)
     ∷ (codes "FT.CURSOR", Unbuilt)
     ∷ (codes "FT.DEBUG", Unbuilt)
     ∷ []

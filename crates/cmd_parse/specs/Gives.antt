@@ -12,3 +12,8 @@ Stops (Fault cause left) read = read ≡ Err (Fault cause left)
 abbrev pub Gives : {X A : Type 0} → (X → A) → Result X Stop → Result A Stop → Type 0
 Gives view (Ok x) read = read ≡ Ok (view x)
 Gives view (Err stop) read = Stops stop read
+
+-- the same of an answer that leaves no words and needs no memory: seen by view, it is the other one
+abbrev pub IsSeen : {X A E : Type 0} → (X → A) → Result X E → Result A E → Type 0
+IsSeen view (Ok x) given = given ≡ Ok (view x)
+IsSeen view (Err e) given = given ≡ Err e

@@ -1,9 +1,15 @@
+pub mod Aggregate
+pub mod AggregateNames
+pub mod AggregateSteps
+pub mod AggregateWords
+pub mod Aggregating
 pub mod Asking
 pub mod Commands
 pub mod Filters
 pub mod Given
 pub mod Gives
 pub mod Lawful
+pub mod LawfulAggregate
 pub mod LawfulSearch
 pub mod OptionNames
 pub mod Options

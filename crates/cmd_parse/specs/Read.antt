@@ -8,8 +8,10 @@ use Rattle.ft_base.specs.declared.definition.Field.{Field}
 use Rattle.ft_base.specs.declared.definition.IndexDef.{IndexDef}
 use Rattle.ft_schema.specs.Schema.{alter, create}
 use Rattle.ft_schema.specs.declared.fault.SchemaFault.{SchemaFault}
+use Rattle.cmd_parse.specs.Aggregating.{Aggregating, aggregate}
 use Rattle.cmd_parse.specs.Commands.{form_of}
 use Rattle.cmd_parse.specs.Searching.{Searching, search}
+use Rattle.cmd_parse.specs.declared.aggregate_words.CursorSpec.{CursorSpec}
 use Rattle.cmd_parse.specs.declared.command.Verb.{Verb}
 use Rattle.cmd_parse.specs.declared.command.Verb.TheVariants.{Select, Hincrby, Flushall, DropIndex}
 use Rattle.cmd_parse.specs.declared.command.CmdFault.{CmdFault}
@@ -24,6 +26,7 @@ pub data Asked : Type 0 where
   CreateIndex : (index : IndexDef) → Asked
   AlterIndex : (index : List ℕ) → (fields : List Field) → Asked
   Search : (what : Searching) → Asked
+  Aggregate : (what : Aggregating) → Asked
 
 -- whether a word may stand behind FLUSHALL
 abbrev pub is_flush_word : List ℕ → Bool
@@ -69,6 +72,15 @@ abbrev pub searched : Result Searching CmdFault → Result Asked CmdFault
 searched (Ok what) = Ok (Search what)
 searched (Err fault) = Err fault
 
+-- FT.AGGREGATE asks what is made of what its query finds, or has the first fault of its words. One with a cursor is not built.
+abbrev pub unless_cursor : Option CursorSpec → Aggregating → Result Asked CmdFault
+unless_cursor None what = Ok (Aggregate what)
+unless_cursor (Some cursor) what = Err NotBuilt
+
+abbrev pub aggregated : Result Aggregating CmdFault → Result Asked CmdFault
+aggregated (Ok what) = unless_cursor what.cursor what
+aggregated (Err fault) = Err fault
+
 -- a command of this form, whose words are its name and arguments
 abbrev pub read_as : Option Form → ℕ → List ℕ → List (List ℕ) → Result Asked CmdFault
 read_as None serial name args = Err Unknown
@@ -81,6 +93,7 @@ read_as (Some Create) serial name args = if nat_le 5 (suc (length args)) then cr
 read_as (Some Alter) serial name args =
     if nat_le 6 (suc (length args)) then altered (slice_index_or args 0 []) (alter (name ∷ args)) else Err Arity
 read_as (Some form.Search) serial name args = searched (search (name ∷ args))
+read_as (Some form.Aggregate) serial name args = aggregated (aggregate (name ∷ args))
 read_as (Some Unbuilt) serial name args = Err NotBuilt
 
 -- What the words of a command ask, where an index that it creates has this serial.
@@ -88,11 +101,12 @@ abbrev pub read : ℕ → List (List ℕ) → Result Asked CmdFault
 read serial [] = Err Unknown
 read serial (name ∷ args) = read_as (form_of name) serial name args
 
--- whether words behind the name may want memory: those of a schema do, and the options of a search
+-- whether words behind the name may want memory: those of a schema do, the options of a search, and the parts of an aggregate
 abbrev pub wants_memory : Option Form → List (List ℕ) → Bool
 wants_memory (Some Create) args = nat_le 5 (suc (length args))
 wants_memory (Some Alter) args = nat_le 6 (suc (length args))
 wants_memory (Some form.Search) args = nat_le 4 (suc (length args))
+wants_memory (Some form.Aggregate) args = nat_le 4 (suc (length args))
 wants_memory _ args = false
 
 -- whether words are read with memory

@@ -1,6 +1,7 @@
 -- What a reader of the code answers, against what the words ask.
 use Rattle.std.specs.Prelude.{◌≡◌, ℕ, List, Result, Ok, Err, IsTrue}
-use Rattle.cmd_parse.specs.Read.{Asked, Plain, CreateIndex, AlterIndex, Search, read, takes_memory}
+use Rattle.cmd_parse.specs.Aggregating.{aggregate_of}
+use Rattle.cmd_parse.specs.Read.{Asked, Plain, CreateIndex, AlterIndex, Search, Aggregate, read, takes_memory}
 use Rattle.cmd_parse.specs.Seen.{search_of}
 use Rattle.cmd_parse.specs.declared.command.CmdFault.{CmdFault}
 use Rattle.cmd_parse.specs.declared.command.CmdFault.TheVariants.{NoMemory}
@@ -13,6 +14,7 @@ command_of (command.Plain verb args) = Plain verb args
 command_of (command.Create index) = CreateIndex index
 command_of (command.Alter index fields) = AlterIndex index.now fields
 command_of (command.Search spec) = Search (search_of spec)
+command_of (command.Aggregate spec) = Aggregate (aggregate_of spec)
 
 -- A command or a fault is what the words ask. Memory is wanting where they are read with it alone.
 abbrev pub IsReading : ℕ → List (List ℕ) → Result Command CmdFault → Type 0

@@ -2,6 +2,7 @@
 ghost use Rattle.std.specs.Prelude.{◌≡◌};
 ghost use Rattle.cmd_parse.specs.declared.command.CmdFault.TheVariants as fault;
 
+use crate::aggregate::AggregateSpec;
 use crate::search::SearchSpec;
 use ft_base::{Boxed, Field, IndexDef, ListOf, NoMemory, Words};
 use ft_schema::SchemaFault;
@@ -57,6 +58,8 @@ pub enum Command<'a> {
     },
     /// The documents of an index that a query finds.
     Search(SearchSpec<'a>),
+    /// What is made of the documents of an index that a query finds.
+    Aggregate(AggregateSpec<'a>),
 }
 
 /// Why the words ask nothing.

@@ -55,7 +55,7 @@ pub fn option_of(word: &[u8]) -> SearchOption
     }
 }
 
-fn is_left_out(word: &[u8]) -> bool
+pub fn is_left_out(word: &[u8]) -> bool
     ensures { result ≡ is_left_out word.now }
 {
     is_name(word, b"WITHSCORES")

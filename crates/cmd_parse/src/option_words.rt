@@ -158,7 +158,7 @@ pub fn sort<'a>(total: usize, words: &Words<'a>) -> Result<(SortSpec<'a>, Words<
 }
 
 /// Whether the direction is DESC, and the words behind a direction.
-fn direction<'a>(words: &Words<'a>) -> (bool, Words<'a>)
+pub fn direction<'a>(words: &Words<'a>) -> (bool, Words<'a>)
     ensures read { result ≡ direction_at words.now }
     ensures within { length result.1 ≤ length words.now }
 {

@@ -49,7 +49,7 @@ pub fn options<'a>(alloc: Global, total: usize, words: &Words<'a>) -> Result<Giv
     Ok(given)
 }
 
-fn is_at_end(words: &Words<'_>) -> bool
+pub fn is_at_end(words: &Words<'_>) -> bool
     ensures { result ≡ is_at_end words.now }
 {
     words.len() == 0

@@ -1,10 +1,11 @@
 //! A command from its words, in the order of refusals: an unknown name, a command that is not built,
 //! a wrong number of words, and the first fault of the words from the left.
 ghost use Rattle.std.specs.Prelude.{◌≡◌, ◌≢◌, ◌<◌, ◌≤◌, ◌+◌, [], length, drop, slice_index_or, Err, Ok, Some, IfOk, IsTrue, MatchResult};
+ghost use Rattle.cmd_parse.specs.Aggregating.{aggregate, aggregate_of};
 ghost use Rattle.cmd_parse.specs.Asking.{AreWords, IsAsked};
 ghost use Rattle.cmd_parse.specs.Commands.{form_of};
 ghost use Rattle.cmd_parse.specs.Lawful.{HasSerial, IsLawful, IsLawfulForm, LawfulNumber};
-ghost use Rattle.cmd_parse.specs.Read.{altered, created, first_fault, is_flush_word, plain, searched, select_fault};
+ghost use Rattle.cmd_parse.specs.Read.{aggregated, altered, created, first_fault, is_flush_word, plain, searched, select_fault};
 ghost use Rattle.cmd_parse.specs.Reading.{IsReading, asked_of, command_of};
 ghost use Rattle.cmd_parse.specs.Searching.{search};
 ghost use Rattle.cmd_parse.specs.declared.command.CmdFault.TheVariants.{NoMemory};
@@ -12,6 +13,7 @@ ghost use Rattle.ft_base.specs.Number.{int_of};
 ghost use Rattle.ft_base.specs.declared.limits.TheConstants.{MAX_WORDS};
 ghost use Rattle.ft_schema.specs.Schema.{alter, create};
 
+use crate::aggregate::{AggregateSpec, read_aggregate};
 use crate::command::{CmdFault, Command, Verb};
 use crate::search::read_search;
 use crate::table::{Form, form_of};
@@ -19,8 +21,8 @@ use ft_base::{Boxed, Words, is_name, read_int};
 use ft_schema::{SchemaFault, read_alter, read_create};
 use std::alloc::Global;
 
-/// Reads a command. An index that it creates gets the serial. Only the words of a schema and the options
-/// of a search are read with memory; all else is lent from the words.
+/// Reads a command. An index that it creates gets the serial. Only the words of a schema, the options
+/// of a search and the parts of an aggregate are read with memory; all else is lent from the words.
 pub fn read_command<'a>(
     alloc: Global,
     words: Words<'a>,
@@ -63,6 +65,7 @@ fn read_as<'a>(
         Form::Create if 5 <= count => create(alloc, words, serial),
         Form::Alter if 6 <= count => alter(alloc, words),
         Form::Search if 3 <= count => search(alloc, words),
+        Form::Aggregate if 3 <= count => aggregate(alloc, words),
         Form::Unbuilt => Err(CmdFault::NotBuilt),
         _ => Err(CmdFault::Arity),
     }
@@ -169,4 +172,30 @@ fn search<'a>(alloc: Global, words: &Words<'a>) -> Result<Command<'a>, CmdFault>
         Ok(spec) => Ok(Command::Search(spec)),
         Err(fault) => Err(fault),
     }
+}
+
+/// FT.AGGREGATE.
+fn aggregate<'a>(alloc: Global, words: &Words<'a>) -> Result<Command<'a>, CmdFault>
+    requires number { 3 ≤ length words.now }
+    requires limit { length words.now ≤ MAX_WORDS }
+    ensures exact { MatchResult result
+        (λ command. aggregated (aggregate words.now) ≡ Ok (command_of command))
+        (λ fault. fault ≢ NoMemory → aggregated (aggregate words.now) ≡ Err fault) }
+    ensures memory { result ≡ Err NoMemory → 4 ≤ length words.now }
+    ensures lawful { IfOk result (λ command. IsLawful words.now (command_of command)) }
+{
+    match read_aggregate(alloc, words) {
+        Ok(spec) => built(spec),
+        Err(fault) => Err(fault),
+    }
+}
+
+/// An aggregate without a cursor; one with a cursor is not built.
+fn built<'a>(spec: AggregateSpec<'a>) -> Result<Command<'a>, CmdFault>
+    ensures { asked_of result ≡ aggregated (Ok (aggregate_of spec.entry)) }
+{
+    if spec.cursor.is_some() {
+        return Err(CmdFault::NotBuilt);
+    }
+    Ok(Command::Aggregate(spec))
 }

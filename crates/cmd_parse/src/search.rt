@@ -84,7 +84,7 @@ fn names_none(fields: &Option<Words<'_>>) -> bool
 }
 
 /// The fault of a stop, placed by the number of all words.
-fn placed(total: usize, stop: Stop) -> CmdFault
+pub fn placed(total: usize, stop: Stop) -> CmdFault
     requires { total < 2 ^ 32 }
     ensures { result ≡ placed total stop }
 {

@@ -21,6 +21,8 @@ pub enum Form {
     Alter,
     /// FT.SEARCH.
     Search,
+    /// FT.AGGREGATE.
+    Aggregate,
     /// A command that is not built.
     Unbuilt,
 }
@@ -59,7 +61,7 @@ pub fn form_of(name: &[u8]) -> Option<Form>
         (b"FT.INFO", Form::Between(Verb::Info, 2, 2)),
         (b"FT.TAGVALS", Form::Between(Verb::TagVals, 3, 3)),
         (b"FT.SEARCH", Form::Search),
-        (b"FT.AGGREGATE", Form::Unbuilt),
+        (b"FT.AGGREGATE", Form::Aggregate),
         (b"FT.CURSOR", Form::Unbuilt),
         (b"FT.DEBUG", Form::Unbuilt),
     ];

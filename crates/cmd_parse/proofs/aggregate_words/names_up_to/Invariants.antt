@@ -1,0 +1,11 @@
+use Rattle.std.proofs.Common.{[], length}
+use Rattle.cmd_parse.specs.AggregateWords.{are_behind, name_at}
+use Rattle.cmd_parse.proofs.LoopLaws.{GoesOn}
+use Rattle.cmd_parse.proofs.aggregate_words.names_up_to.Given as goal
+
+-- what is read from here is what is read of all words
+abbrev pub invariant-reading : goal.invariant-reading
+invariant-reading l = GoesOn (are_behind l.behind) (name_at l.form) [] l.words l.names l.rest
+
+abbrev pub decreases-reading : goal.decreases-reading
+decreases-reading l = length l.rest
