@@ -9,7 +9,7 @@ ghost use Rattle.indexed_store.specs.Preparing.{Prepares};
 
 use crate::plain::prepare_plain;
 use cmd_parse::Command;
-use index_commands::{alter, answer_search, create};
+use index_commands::{alter, answer_aggregate, answer_search, create};
 use indexed_store::{Change, IndexedStore};
 use reply_buffer::ReplyBuffer;
 
@@ -33,6 +33,10 @@ pub fn prepare_command<'a>(
         Command::Alter { index, fields } => alter(held, index, &fields, reply),
         Command::Search(search) => {
             answer_search(held, &search, reply);
+            Change::Nothing
+        }
+        Command::Aggregate(aggregate) => {
+            answer_aggregate(held, &aggregate, reply);
             Change::Nothing
         }
     }

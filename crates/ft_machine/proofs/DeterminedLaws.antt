@@ -15,8 +15,7 @@ use Rattle.ft_base.specs.declared.query.Query.{Query}
 use Rattle.ft_base.specs.declared.reply.Reply.{Reply}
 use Rattle.ft_base.specs.declared.reply.Reply.TheVariants.{Fault, Line, Number}
 use Rattle.std.specs.Str.{bytes_eq}
-use Rattle.cmd_parse.specs.Read.{Asked, Plain, CreateIndex, AlterIndex, Search, read}
-use Rattle.cmd_parse.specs.Searching.{Searching}
+use Rattle.cmd_parse.specs.Read.{Asked, Plain, CreateIndex, AlterIndex, Search, Aggregate, read}
 use Rattle.cmd_parse.specs.declared.command.CmdFault.{CmdFault}
 use Rattle.cmd_parse.specs.declared.command.Verb.{Verb}
 use Rattle.cmd_parse.specs.declared.command.Verb.TheVariants.{Ping, Echo, Select, Quit, Hset, Hsetnx, Hget, Hmget, Hgetall, Hdel, Hlen, Hexists, Hincrby, Hkeys, Hvals, Del, Exists, TypeOf, Dbsize, Rename, Flushall, DropIndex, ListIndexes, Info, TagVals}
@@ -29,13 +28,13 @@ use Rattle.query_grammar.specs.declared.fault.QueryFault.TheVariants.{Syntax, Un
 use Rattle.ft_schema.specs.Schema.{extended}
 use Rattle.ft_schema.specs.declared.fault.SchemaFault.{SchemaFault}
 use Rattle.ft_base.specs.Words.{first, second, third}
+use Rattle.ft_machine.specs.Answering.{IsAnswered, answer_reply, queried}
 use Rattle.ft_machine.specs.Definitions.{Defined, index_of}
 use Rattle.ft_machine.specs.Determined.{DifferInRecords}
 use Rattle.ft_machine.specs.Indexes.{altered, altered_to, defines, dropped, index_over, most_indexes, unknown_index}
 use Rattle.ft_machine.specs.Info.{informed}
 use Rattle.ft_machine.specs.Machine.{Outcome, State, answered, at_moment, hash_of, just, wanting}
 use Rattle.ft_machine.specs.PlainCommands.{plain}
-use Rattle.ft_machine.specs.Searching.{IsAnswered, answer_reply, searched}
 use Rattle.ft_machine.specs.Step.{Answers, given, last_number, outcomes, read_gives, words_give}
 use Rattle.ft_machine.specs.Writes.{hincrby, hset_unless, number_in, rename}
 
@@ -148,9 +147,10 @@ informed-after : (index : Option Defined) (state : State) (outcome : Outcome) �
 informed-after None state outcome e = ap (λ (o : Outcome). o.after) e
 informed-after (Some index) state outcome e = e.1
 
-searched-after : (index : Option Defined) (what : Searching) (state : State) (outcome : Outcome) → searched index what state outcome → outcome.after ≡ state
-searched-after None what state outcome e = ap (λ (o : Outcome). o.after) e
-searched-after (Some index) what state outcome e = e.1
+queried-after : (index : Option Defined) (params : List Param) (query : List ℕ) (given : IndexDef → Query → Reply) (state : State) (outcome : Outcome)
+    → queried index params query given state outcome → outcome.after ≡ state
+queried-after None params query given state outcome e = ap (λ (o : Outcome). o.after) e
+queried-after (Some index) params query given state outcome e = e.1
 
 -- FT.INFO, by its verb
 abbrev PlainAfter : Verb → Type 0
@@ -169,7 +169,8 @@ given-state (Plain verb args) number state a b x y = elim (plain-one verb args n
 ]
 given-state (CreateIndex index) number state a b x y = ap (λ (o : Outcome). o.after) (x ∙ sym y)
 given-state (AlterIndex index fields) number state a b x y = ap (λ (o : Outcome). o.after) (x ∙ sym y)
-given-state (Search what) number state a b x y = same-after a b state (searched-after _ what state a x) (searched-after _ what state b y)
+given-state (Search what) number state a b x y = same-after a b state (queried-after _ _ _ _ state a x) (queried-after _ _ _ _ state b y)
+given-state (Aggregate what) number state a b x y = same-after a b state (queried-after _ _ _ _ state a x) (queried-after _ _ _ _ state b y)
 
 by-made : (made outcome : Outcome) (state : State) → outcome ≡ made → IsSettled state made → IsSettled state outcome
 by-made made outcome state is settled = subst (λ (o : Outcome). IsSettled state o) (sym is) settled
@@ -181,7 +182,8 @@ given-settled (Plain verb args) number state a x = elim (plain-one verb args num
 ]
 given-settled (CreateIndex index) number state a x = by-made _ a state x (created-settled (is_some (index_of state.definitions index.name)) (nat_le most_indexes (length state.definitions)) state (created_after index state) (codes "Index already exists") (codes "Too many indexes"))
 given-settled (AlterIndex index fields) number state a x = by-made _ a state x (altered-settled _ fields state)
-given-settled (Search what) number state a x = inl (searched-after _ what state a x)
+given-settled (Search what) number state a x = inl (queried-after _ _ _ _ state a x)
+given-settled (Aggregate what) number state a x = inl (queried-after _ _ _ _ state a x)
 
 -- what says that memory is wanting, and what is settled and says so, leave the state
 want-state : (a b : Outcome) (state : State) → IsSettled state a → b ≡ wanting state → spelling a.reply ≡ spelling b.reply → a.after ≡ state
@@ -262,13 +264,15 @@ one-told laws def params end (Err stop) (Ok q) b ka kb x y = absurd x
 one-told laws def params end (Err stop) (Err f) (Ok q) ka kb x y = absurd y
 one-told laws def params end (Err stop) (Err f) (Err g) ka kb x y = ap (λ (f : QueryFault). Err f) (as-lexical def params end stop f ka x ∙ sym (as-lexical def params end stop g kb y))
 
-one-answered : Laws → (def : IndexDef) (what : Searching) (docs : List Doc) (a b : Reply) → IsAnswered def what docs a → IsAnswered def what docs b → a ≡ b
-one-answered laws def what docs a b x y =
-    x.same ∙ (ap (answer_reply what def docs) (one-told laws def what.params _ (lexemes what.query) x.answer y.answer x.read y.read x.text y.text) ∙ sym y.same)
+one-answered : Laws → (def : IndexDef) (params : List Param) (query : List ℕ) (given : Query → Reply) (a b : Reply)
+    → IsAnswered def params query given a → IsAnswered def params query given b → a ≡ b
+one-answered laws def params query given a b x y =
+    x.same ∙ (ap (answer_reply given) (one-told laws def params _ (lexemes query) x.answer y.answer x.read y.read x.text y.text) ∙ sym y.same)
 
-one-searched : Laws → (index : Option Defined) (what : Searching) (state : State) (a b : Outcome) → searched index what state a → searched index what state b → a.reply ≡ b.reply
-one-searched laws None what state a b x y = ap (λ (o : Outcome). o.reply) (x ∙ sym y)
-one-searched laws (Some index) what state a b x y = one-answered laws index.def what state.space a.reply b.reply x.0 y.0
+one-queried : Laws → (index : Option Defined) (params : List Param) (query : List ℕ) (given : IndexDef → Query → Reply) (state : State) (a b : Outcome)
+    → queried index params query given state a → queried index params query given state b → a.reply ≡ b.reply
+one-queried laws None params query given state a b x y = ap (λ (o : Outcome). o.reply) (x ∙ sym y)
+one-queried laws (Some index) params query given state a b x y = one-answered laws index.def params query (given index.def) a.reply b.reply x.0 y.0
 
 -- whether FT.INFO is asked of no index that is there
 abbrev NotInfo : Result Asked CmdFault → State → Type 0
@@ -295,7 +299,8 @@ given-reply laws (Plain verb args) number state other_than a b x y = elim (plain
 ]
 given-reply laws (CreateIndex index) number state other_than a b x y = ap (λ (o : Outcome). o.reply) (x ∙ sym y)
 given-reply laws (AlterIndex index fields) number state other_than a b x y = ap (λ (o : Outcome). o.reply) (x ∙ sym y)
-given-reply laws (Search what) number state other_than a b x y = one-searched laws _ what state a b x y
+given-reply laws (Search what) number state other_than a b x y = one-queried laws _ _ _ _ state a b x y
+given-reply laws (Aggregate what) number state other_than a b x y = one-queried laws _ _ _ _ state a b x y
 
 -- an outcome that does not tell of want of memory
 abbrev Says : Outcome → Type 0

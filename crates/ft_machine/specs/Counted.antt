@@ -1,5 +1,5 @@
 -- Which documents a search counts (RediSearch, FT.SEARCH: INKEYS and FILTER), and in which order they stand (SORTBY).
-use Rattle.std.specs.Prelude.{ℕ, ℤ, List, [], ◌∷◌, ◌++◌, Bool, true, false, ◌&&◌, not, min, filter, fold, position, Option, Some, None, is_none, if◌then◌else◌}
+use Rattle.std.specs.Prelude.{ℕ, ℤ, List, [], ◌∷◌, ◌++◌, Bool, true, false, ◌&&◌, not, min, filter, fold, position, Option, Some, None, if◌then◌else◌}
 use Rattle.std.specs.List.{find, flat_map, list_all, list_any}
 use Rattle.std.specs.Str.{bytes_eq}
 use Rattle.cmd_parse.specs.Filters.{Filter}
@@ -18,7 +18,6 @@ use Rattle.ft_base.specs.declared.row.Value.TheVariants as value
 use Rattle.ft_meaning.specs.Holds.{found_of, holds}
 use Rattle.row_sort.specs.Order.{value_order}
 use Rattle.row_sort.specs.Sorting.{sorted}
-use Rattle.row_sort.specs.declared.order.Direction.{Direction}
 
 -- whether a key is among those that are named, where some are
 abbrev pub is_among : Option (List (List ℕ)) → List ℕ → Bool

@@ -1,3 +1,5 @@
+pub mod Aggregating
+pub mod Answering
 pub mod Counted
 pub mod Definitions
 pub mod Determined

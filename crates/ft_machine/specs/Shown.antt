@@ -1,5 +1,5 @@
 -- How the documents that a search counts are shown (RediSearch, FT.SEARCH: NOCONTENT, RETURN and LIMIT).
-use Rattle.std.specs.Prelude.{ℕ, pos, List, [], ◌∷◌, length, take, drop, Bool, true, false, ◌==◌, Option, Some, None, if◌then◌else◌}
+use Rattle.std.specs.Prelude.{ℕ, pos, List, [], ◌∷◌, length, take, drop, ◌==◌, Option, Some, None, if◌then◌else◌}
 use Rattle.std.specs.List.{find, flat_map}
 use Rattle.std.specs.Str.{bytes_eq}
 use Rattle.cmd_parse.specs.Searching.{Searching}

@@ -1,12 +1,13 @@
 -- One step of the machine: a command at an event's number and a moment gives a reply and the next state.
 use Rattle.std.specs.Prelude.{◌≡◌, ◌<◌, ◌≤◌, ◌⊎◌, ℕ, List, [], ◌+◌, ◌^◌, min, slice_index_or, Result, Ok, Err, IsTrue, codes}
-use Rattle.cmd_parse.specs.Read.{Asked, Plain, CreateIndex, AlterIndex, Search, read, takes_memory}
+use Rattle.cmd_parse.specs.Read.{Asked, Plain, CreateIndex, AlterIndex, Search, Aggregate, read, takes_memory}
 use Rattle.cmd_parse.specs.Refusals.{refusal}
 use Rattle.cmd_parse.specs.declared.command.CmdFault.{CmdFault}
 use Rattle.ft_base.specs.Memory.{out_of_memory}
 use Rattle.ft_base.specs.Reply.{spelling}
 use Rattle.ft_base.specs.declared.reply.Reply.{Reply}
 use Rattle.ft_base.specs.declared.reply.Reply.TheVariants.{Fault}
+use Rattle.ft_machine.specs.Aggregating.{aggregated}
 use Rattle.ft_machine.specs.Definitions.{index_of}
 use Rattle.ft_machine.specs.Indexes.{altered, created}
 use Rattle.ft_machine.specs.Machine.{Outcome, State, answered, at_moment, just, wanting}
@@ -19,6 +20,7 @@ given (Plain verb args) number state = plain verb args number state
 given (CreateIndex index) number state = just (created index state)
 given (AlterIndex index fields) number state = just (altered (index_of state.definitions index) fields state)
 given (Search what) number state = searched (index_of state.definitions what.index) what state
+given (Aggregate what) number state = aggregated (index_of state.definitions what.index) what state
 
 -- Whether a command may be answered that memory is wanting.
 abbrev pub MayWant : Asked → Type 0

@@ -25,7 +25,7 @@ use Rattle.inverted_list.specs.Listing.{RisesAbove, last_id}
 use Rattle.ft_machine.specs.Indexes.{unknown_index}
 use Rattle.ft_machine.specs.Machine.{State, answered}
 use Rattle.ft_machine.specs.Step.{Does, Told}
-use Rattle.index_commands.proofs.SearchLaws.{named}
+use Rattle.index_commands.proofs.AnsweringLaws.{named}
 
 -- as many ids as rise up to a number are no more than the number
 pub rising-few : {X : Type 0} (low : ℕ) (rows : List (ℕ × X)) → RisesAbove low rows → low + length rows ≤ last_id low rows

@@ -1,3 +1,5 @@
+pub mod AggregateLaws
+pub mod AnsweringLaws
 pub mod ExactLaws
 pub mod FilterLaws
 pub mod IndexCommandLaws

@@ -1,9 +1,10 @@
-//! The commands of indexes: FT.CREATE, FT.ALTER, FT.DROPINDEX, FT._LIST, FT.TAGVALS, FT.INFO and FT.SEARCH.
+//! The commands of indexes: FT.CREATE, FT.ALTER, FT.DROPINDEX, FT._LIST, FT.TAGVALS, FT.INFO, FT.SEARCH and FT.AGGREGATE.
 //!
 //! Each writes its reply; those that change an index answer the change, of which nothing is seen yet. What each gives is
-//! defined in `ft_machine`. Read `definitions.rt` first, then `search.rt`, `info.rt` and `index_reads.rt`.
+//! defined in `ft_machine`. Read `definitions.rt` first, then `search.rt`, `aggregate.rt`, `info.rt` and `index_reads.rt`.
 #![tactic(auto)]
 
+mod aggregate;
 mod attributes;
 mod definitions;
 mod filters;
@@ -14,6 +15,8 @@ mod info_words;
 mod search;
 mod tag_walk;
 
+/// FT.AGGREGATE.
+pub use aggregate::answer_aggregate;
 /// FT.CREATE, FT.ALTER and FT.DROPINDEX.
 pub use definitions::{alter, create, drop_named};
 /// FT._LIST and FT.TAGVALS.

@@ -192,7 +192,7 @@ fn found_in<L: Ledger>(
 }
 
 /// The ids of what a query finds in an index.
-fn ids_found<L: Ledger>(
+pub fn ids_found<L: Ledger>(
     store: &HashStore,
     index: &FtIndex,
     alloc: Global,

@@ -1,25 +1,26 @@
--- A set of ids, asked for the least from a number on: each answer is the id of the next document.
-use Rattle.std.proofs.Common.{◌≡◌, ◌<◌, ◌≤◌, ◌+◌, ℕ, Bool, true, false, ◌&&◌, List, [], ◌∷◌, map, filter, refl, sym, ap, ◌∙◌, inl, inr, arith}
-use Rattle.std.specs.Prelude.{Option, Some, nat_eq, nat_le}
+-- A set of ids, asked for the least from a number on: each answer is the id of the next document, and all are answered.
+use Rattle.std.proofs.Common.{◌≡◌, ◌<◌, ◌≤◌, ◌+◌, ℕ, Bool, true, false, ◌&&◌, List, [], ◌∷◌, ◌++◌, map, filter, refl, sym, ap, ◌∙◌, subst, inl, inr, arith, append-nil, append_assoc}
+use Rattle.std.specs.Prelude.{Option, None, Some, IsSome, nat_eq, nat_le}
 use Rattle.std.specs.List.{AllByRecursion}
-use Rattle.std.specs.List.Sorted.{IsStrictlySortedBy}
+use Rattle.std.specs.List.Sorted.{IsStrictlyIncreasing, IsStrictlySortedBy}
 use Rattle.std.specs.Ordering.{nat_cmp}
 use Rattle.std.specs.declared.cmp.Ordering.TheVariants.{Less}
-use Rattle.std.proofs.lemmas.Bool.{cases_Bool, and_parts, and_right, eqb-true, leb-true, le-leb, lt-leb}
+use Rattle.std.proofs.Math.Bool.{and-false}
+use Rattle.std.proofs.lemmas.Bool.{cases_Bool, and_parts, and_right, eqb-true, false≢true, leb-true, le-leb, lt-leb}
 use Rattle.std.proofs.lemmas.Bool.Decides.{nat_tests}
-use Rattle.std.proofs.lemmas.Map.Keys.{sorted_head, sorted_tail}
+use Rattle.std.proofs.lemmas.Map.Keys.{sorted_from_strictly_increasing, sorted_head, sorted_tail}
 use Rattle.ft_base.specs.declared.doc.Doc.{Doc}
 use Rattle.id_iters.specs.Held.{Held}
-use Rattle.id_iters.specs.Least.{IsLeastAt, NoneFrom}
-use Rattle.id_iters.specs.Sets.{about, in_set}
+use Rattle.id_iters.specs.Least.{IsLeast, IsLeastAt, NoneFrom}
+use Rattle.id_iters.specs.Sets.{About, about, in_set, living}
 use Rattle.id_iters.specs.declared.iter.Iter.{Iter}
-use Rattle.search_exec.specs.Ids.{doc_at}
+use Rattle.search_exec.specs.Ids.{doc_at, docs_in}
 
 abbrev ids : List Doc → List ℕ
 ids docs = map (λ (doc : Doc). doc.id) docs
 
 -- the documents whose ids a set has, from a number on
-abbrev pub docs_from : ℕ → (ℕ → Bool) → List Doc → List Doc
+abbrev docs_from : ℕ → (ℕ → Bool) → List Doc → List Doc
 docs_from from has docs = filter (λ (doc : Doc). nat_le from doc.id && has doc.id) docs
 
 -- a document is passed over where its id fails wherever it is asked for
@@ -50,7 +51,7 @@ at-above low n (d ∷ docs) doc less found =
       | inr away ↦ at-above low n docs doc less.1 (rw away at found)
     ]
 
-pub next : (from n : ℕ) (has : ℕ → Bool) (docs : List Doc) (doc : Doc) → IsStrictlySortedBy nat_cmp (ids docs) → doc_at n docs ≡ Some doc → IsLeastAt has from n
+next : (from n : ℕ) (has : ℕ → Bool) (docs : List Doc) (doc : Doc) → IsStrictlySortedBy nat_cmp (ids docs) → doc_at n docs ≡ Some doc → IsLeastAt has from n
     → docs_from from has docs ≡ doc ∷ docs_from (n + 1) has docs
 next from n has [] doc rise found least = cc (found)
 next from n has (d ∷ docs) doc rise found least =
@@ -77,10 +78,61 @@ next from n has (d ∷ docs) doc rise found least =
     ]
 
 -- where no id is answered, no document is left
-pub none-left : (from : ℕ) (has : ℕ → Bool) (docs : List Doc) → NoneFrom has from → docs_from from has docs ≡ []
+none-left : (from : ℕ) (has : ℕ → Bool) (docs : List Doc) → NoneFrom has from → docs_from from has docs ≡ []
 none-left from has [] none = refl
 none-left from has (doc ∷ docs) none = rw (missed from doc.id has (none.fails doc.id)) (none-left from has docs none)
 
 -- an id that an iterator has live is live
 pub live-first : (held : Held) (iter : Iter) (id : ℕ) → in_set held iter id ≡ true → held.live id ≡ true
 live-first held iter id has_it = (and_parts (held.live id) ((about held iter).has id) has_it).0
+
+-- What is told of the documents of the ids that were answered, and that these with those of the ids from a number on are all.
+pub record IsAsked (told : List Doc → Type 0) (has : ℕ → Bool) (docs : List Doc) (from : ℕ) : Type 0 where
+  pub so_far : List Doc
+  pub holds : told so_far
+  pub whole : docs_in has docs ≡ so_far ++ docs_from from has docs
+
+-- all documents of a set have ids from 1 on, if its ids are
+all-from : (has : ℕ → Bool) (docs : List Doc) → ((id : ℕ) → has id ≡ true → 1 ≤ id) → docs_in has docs ≡ docs_from 1 has docs
+all-from has [] above = refl
+all-from has (doc ∷ docs) above =
+    elim (cases_Bool (has doc.id)) [
+      | inl here ↦ rw (here, le-leb 1 doc.id (above doc.id here), all-from has docs above) refl
+      | inr away ↦ rw (away, and-false (nat_le 1 doc.id), all-from has docs above) refl
+    ]
+
+-- at first no id is answered
+pub asked-none : (told : List Doc → Type 0) (has : ℕ → Bool) (docs : List Doc) → ((id : ℕ) → has id ≡ true → 1 ≤ id) → told [] → IsAsked told has docs 1
+asked-none told has docs above none = record {
+  so_far = [];
+  holds = none;
+  whole = all-from has docs above;
+}
+
+-- an id is answered
+pub asked-next : (told more : List Doc → Type 0) (has : ℕ → Bool) (docs : List Doc) (from n : ℕ) → IsStrictlyIncreasing (ids docs) → IsLeastAt has from n → IsSome (doc_at n docs)
+    → ((shown : List Doc) (doc : Doc) → doc_at n docs ≡ Some doc → told shown → more (shown ++ doc ∷ [])) → IsAsked told has docs from → IsAsked more has docs (n + 1)
+asked-next told more has docs from n rise least stored noted asked = pick (doc_at n docs) refl stored
+  where
+    pick : (at : Option Doc) → doc_at n docs ≡ at → IsSome at → IsAsked more has docs (n + 1)
+    pick None is some = absurd (false≢true some)
+    pick (Some doc) is some = record {
+      so_far = asked.so_far ++ doc ∷ [];
+      holds = noted asked.so_far doc is asked.holds;
+      whole =
+          asked.whole
+          ∙ (ap (λ (rest : List Doc). asked.so_far ++ rest) (next from n has docs doc (sorted_from_strictly_increasing (ids docs) rise) is least)
+          ∙ sym (append_assoc asked.so_far (doc ∷ []) (docs_from (n + 1) has docs)));
+    }
+
+-- no id is left
+pub asked-ended : (told : List Doc → Type 0) (has : ℕ → Bool) (docs : List Doc) (from : ℕ) → NoneFrom has from → IsAsked told has docs from → told (docs_in has docs)
+asked-ended told has docs from none asked =
+    let whole = asked.whole ∙ (ap (λ (rest : List Doc). asked.so_far ++ rest) (none-left from has docs none) ∙ append-nil asked.so_far) in
+    subst told (sym whole) asked.holds
+
+-- an answer of an iterator that was asked is one of what it was
+pub iter-same : (held : Held) (first now : Iter) (from : ℕ) (said answer : Option ℕ) → about held now ≡ about held first → said ≡ answer → IsLeast (in_set held now) from said
+    → IsLeast (in_set held first) from answer
+iter-same held first now from said answer same is least =
+    subst (λ (answer : Option ℕ). IsLeast (in_set held first) from answer) is (subst (λ (part : About). IsLeast (living held.live part) from said) same least)

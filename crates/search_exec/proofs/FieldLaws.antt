@@ -1,33 +1,23 @@
 -- The first rows of all that are ranked are the rows of the first documents in the order of a key.
-use Rattle.std.proofs.Common.{◌≡◌, ◌≤◌, ℕ, Bool, true, ◌+◌, List, [], ◌∷◌, ◌++◌, length, map, take, drop, Ordering, Less, Equal, Greater, is_lt, refl, sym, ap, ◌∙◌, inl, inr, arith, append-nil, append_assoc}
-use Rattle.std.specs.Prelude.{Option, None, Some, IsSome, IfOk, Result, nat_le, pos}
+use Rattle.std.proofs.Common.{◌≡◌, ℕ, ◌+◌, List, [], ◌∷◌, ◌++◌, length, map, take, drop, Ordering, Less, Equal, Greater, is_lt, refl, sym, ap, ◌∙◌, inl, inr, arith, append-nil}
+use Rattle.std.specs.Prelude.{IfOk, Result, pos}
 use Rattle.std.specs.List.{drop-map, flat_map, take-map}
-use Rattle.std.specs.List.Sorted.{IsStrictlyIncreasing}
 use Rattle.std.specs.Ordering.{ordering_then}
-use Rattle.std.proofs.lemmas.Bool.{cases_Bool, false≢true, le-leb}
-use Rattle.std.proofs.Math.Bool.{and-false}
+use Rattle.std.proofs.lemmas.Bool.{cases_Bool}
 use Rattle.std.proofs.Math.Seq.{take-nil}
 use Rattle.std.proofs.lemmas.Grind.{flat_map-append}
 use Rattle.std.proofs.lemmas.List.{drop-take, length_push, map-append}
-use Rattle.std.proofs.lemmas.Map.Keys.{sorted_from_strictly_increasing}
 use Rattle.std.proofs.lemmas.Result.{IfOk-weaker}
 use Rattle.ft_base.specs.declared.doc.Doc.{Doc}
 use Rattle.ft_base.specs.declared.reply.Reply.{Reply}
 use Rattle.ft_base.specs.declared.reply.Reply.TheVariants.{Array, Number}
-use Rattle.id_iters.specs.Held.{Held}
-use Rattle.id_iters.specs.Least.{IsLeast, IsLeastAt, NoneFrom}
 use Rattle.row_sort.proofs.OrderLaws.{row_weak}
 use Rattle.row_sort.proofs.SortingLaws.{first-push, length-sorted}
 use Rattle.row_sort.specs.Order.{row_order, value_order}
 use Rattle.row_sort.specs.Sorting.{placed, sorted}
 use Rattle.row_sort.specs.declared.rows.Ranked.{Ranked}
-use Rattle.search_exec.proofs.AskLaws.{docs_from, next, none-left}
-use Rattle.search_exec.proofs.CandidatesLaws.{answer-same}
-use Rattle.search_exec.specs.Candidates.{about_candidates, in_candidates}
-use Rattle.search_exec.specs.Ids.{doc_at, docs_in}
 use Rattle.search_exec.specs.Ranks.{first_ranked, ranked}
 use Rattle.search_exec.specs.Shapes.{order_by, page_by, row_by, value_by}
-use Rattle.search_exec.specs.declared.candidates.Candidates.{Candidates}
 use Rattle.search_exec.specs.declared.shape.Shape.{Shape}
 use Rattle.search_exec.specs.declared.shape.SortKey.{SortKey}
 
@@ -93,31 +83,14 @@ page-made made shape key docs total most rows first each count handed offered wi
     (λ reply same. same ∙ (ap (λ (n : ℕ). Array (Number (pos n) ∷ items rows)) number
     ∙ ap (λ (replies : List Reply). Array (Number (pos (length (order_by key docs))) ∷ replies)) shown)) each
 
--- The rows of the documents of the ids that were answered were offered, and these with those of the ids from a number on are all.
-pub record IsOffered (has : ℕ → Bool) (shape : Shape) (key : SortKey) (most : ℕ) (docs : List Doc) (from total : ℕ) (rows : List (Ranked (List Reply))) : Type 0 where
-  pub so_far : List Doc
-  pub ranked_first : rows ≡ first_ranked shape key most so_far
-  pub count : total ≡ length so_far
-  pub whole : docs_in has docs ≡ so_far ++ docs_from from has docs
-
--- all documents of a set have ids from 1 on, if its ids are
-all-from : (has : ℕ → Bool) (docs : List Doc) → ((id : ℕ) → has id ≡ true → 1 ≤ id) → docs_in has docs ≡ docs_from 1 has docs
-all-from has [] above = refl
-all-from has (doc ∷ docs) above =
-    elim (cases_Bool (has doc.id)) [
-      | inl here ↦ rw (here, le-leb 1 doc.id (above doc.id here), all-from has docs above) refl
-      | inr away ↦ rw (away, and-false (nat_le 1 doc.id), all-from has docs above) refl
-    ]
+-- The rows of so many documents were offered.
+pub record AreOffered (shape : Shape) (key : SortKey) (most total : ℕ) (rows : List (Ranked (List Reply))) (docs : List Doc) : Type 0 where
+  pub ranked_first : rows ≡ first_ranked shape key most docs
+  pub count : total ≡ length docs
 
 -- at first nothing is offered
-pub offered-none : (has : ℕ → Bool) (shape : Shape) (key : SortKey) (most : ℕ) (docs : List Doc) (rows : List (Ranked (List Reply))) → ((id : ℕ) → has id ≡ true → 1 ≤ id) → rows ≡ []
-    → IsOffered has shape key most docs 1 0 rows
-offered-none has shape key most docs rows above none = record {
-  so_far = [];
-  ranked_first = none ∙ sym (take-nil most);
-  count = refl;
-  whole = all-from has docs above;
-}
+pub offered-none : (shape : Shape) (key : SortKey) (most : ℕ) (rows : List (Ranked (List Reply))) → rows ≡ [] → AreOffered shape key most 0 rows []
+offered-none shape key most rows none = record { ranked_first = none ∙ sym (take-nil most); count = refl }
 
 -- one more row is taken in
 more-ranked : (shape : Shape) (key : SortKey) (most : ℕ) (docs : List Doc) (doc : Doc)
@@ -126,37 +99,12 @@ more-ranked shape key most docs doc =
     first-push (row_order (key.by ∷ [])) (row_weak (key.by ∷ [])) most (map (ranked shape key) docs) (ranked shape key doc)
     ∙ ap (λ rows. take most (sorted (row_order (key.by ∷ [])) rows)) (sym (map-append (ranked shape key) docs (doc ∷ [])))
 
-pub offered-next : (has : ℕ → Bool) (shape : Shape) (key : SortKey) (most : ℕ) (docs : List Doc) (from n total : ℕ) (old new : List (Ranked (List Reply)))
-    → IsStrictlyIncreasing (map (λ (doc : Doc). doc.id) docs) → IsLeastAt has from n → IsSome (doc_at n docs)
-    → ((doc : Doc) → doc_at n docs ≡ Some doc → new ≡ take most (sorted (row_order (key.by ∷ [])) (old ++ ranked shape key doc ∷ [])))
-    → IsOffered has shape key most docs from total old → IsOffered has shape key most docs (n + 1) (total + 1) new
-offered-next has shape key most docs from n total old new rise least stored taken offered = pick (doc_at n docs) refl stored
-  where
-    pick : (at : Option Doc) → doc_at n docs ≡ at → IsSome at → IsOffered has shape key most docs (n + 1) (total + 1) new
-    pick None is some = absurd (false≢true some)
-    pick (Some doc) is some = record {
-      so_far = offered.so_far ++ doc ∷ [];
-      ranked_first =
-          taken doc is
-          ∙ (ap (λ rows. take most (sorted (row_order (key.by ∷ [])) (rows ++ ranked shape key doc ∷ []))) offered.ranked_first
-          ∙ more-ranked shape key most offered.so_far doc);
-      count = omega (arith, offered.count, length_push offered.so_far doc);
-      whole =
-          offered.whole
-          ∙ (ap (λ (rest : List Doc). offered.so_far ++ rest) (next from n has docs doc (sorted_from_strictly_increasing (map (λ (doc : Doc). doc.id) docs) rise) is least)
-          ∙ sym (append_assoc offered.so_far (doc ∷ []) (docs_from (n + 1) has docs)));
-    }
-
--- where no id is answered, the rows of all documents were offered
-pub offered-ended : (held : Held) (first now : Candidates) (shape : Shape) (key : SortKey) (most : ℕ) (docs : List Doc) (from total : ℕ) (rows : List (Ranked (List Reply))) (said : Option ℕ)
-    → about_candidates held now ≡ about_candidates held first → said ≡ None → IsLeast (in_candidates held now) from said
-    → IsOffered (in_candidates held first) shape key most docs from total rows
-    → (rows ≡ first_ranked shape key most (docs_in (in_candidates held first) docs)) × (total ≡ length (docs_in (in_candidates held first) docs))
-offered-ended held first now shape key most docs from total rows said same is least offered =
-    let has = in_candidates held first in
-    let none : NoneFrom has from = answer-same held first now from said None same is least in
-    let all : docs_in has docs ≡ offered.so_far =
-    offered.whole ∙ (ap (λ (rest : List Doc). offered.so_far ++ rest) (none-left from has docs none) ∙ append-nil offered.so_far) in (
-      offered.ranked_first ∙ ap (first_ranked shape key most) (sym all),
-      offered.count ∙ ap (λ (docs : List Doc). length docs) (sym all),
-    )
+pub offered-next : (shape : Shape) (key : SortKey) (most total : ℕ) (old new : List (Ranked (List Reply))) (docs : List Doc) (doc : Doc)
+    → new ≡ take most (sorted (row_order (key.by ∷ [])) (old ++ ranked shape key doc ∷ [])) → AreOffered shape key most total old docs → AreOffered shape key most (total + 1) new (docs ++ doc ∷ [])
+offered-next shape key most total old new docs doc taken offered = record {
+  ranked_first =
+      taken
+      ∙ (ap (λ rows. take most (sorted (row_order (key.by ∷ [])) (rows ++ ranked shape key doc ∷ []))) offered.ranked_first
+      ∙ more-ranked shape key most docs doc);
+  count = omega (arith, offered.count, length_push docs doc);
+}

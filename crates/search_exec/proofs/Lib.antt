@@ -1,7 +1,9 @@
+pub mod AggregateLaws
 pub mod AskLaws
 pub mod CandidatesLaws
 pub mod FieldLaws
 pub mod FoundLaws
 pub mod PageLaws
+pub mod RowsReplyLaws
 pub mod SearchLaws
 pub mod ShapeLaws

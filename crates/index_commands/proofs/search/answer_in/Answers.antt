@@ -2,7 +2,8 @@ use Rattle.std.proofs.Common.{inl, inr, refl, sym}
 use Rattle.cmd_parse.specs.Seen.{search_of}
 use Rattle.ft_machine.specs.Indexes.{unknown_index}
 use Rattle.ft_machine.specs.Step.{last_number}
-use Rattle.index_commands.proofs.SearchLaws.{searches-fault_of, searches-found, searches-none}
+use Rattle.index_commands.proofs.AnsweringLaws.{queries-fault_of, queries-found, queries-none}
+use Rattle.index_commands.proofs.SearchLaws.{is-search, search_query}
 use Rattle.indexed_store.proofs.NamedLaws.{named-has}
 use Rattle.indexed_store.specs.Standing.{IndexStands, markers_at}
 use Rattle.query_grammar.specs.Refusals.{query_refusal}
@@ -18,17 +19,20 @@ answer_parsed-requires-clause-few c =
 
 pub returns-in_default-clause-does : goal.returns-in_default-clause-does
 returns-in_default-clause-does c number state all same =
-    searches-none c.args.indexes.now state number (search_of c.args.search.now) _ same (sym c.in_default.ensures) c.set_fault.ensures.bytes
+    let what = search_of c.args.search.now in
+    queries-none (search_query what) number state (is-search what number state) c.args.indexes.now same _ (sym c.in_default.ensures) c.set_fault.ensures.bytes
 
 pub returns-in-Ok-clause-does : goal.returns-in-Ok-clause-does
 returns-in-Ok-clause-does c number state all same =
-    searches-found c.args.indexes.now c.in-Some.index.now c.def.result.now state number (search_of c.args.search.now) _ c.in-Ok.query c.args.store.now.space
-    same (sym c.in-Some.ensures) c.def.ensures.def all c.in-Ok.ensures.exact c.answer_parsed.ensures.found
+    let what = search_of c.args.search.now in
+    queries-found (search_query what) number state (is-search what number state) c.args.indexes.now same c.in-Some.index.now c.def.result.now _ c.in-Ok.query c.args.store.now.space
+    (sym c.in-Some.ensures) c.def.ensures.def all c.in-Ok.ensures.exact c.answer_parsed.ensures.found
 
 pub returns-in-Err-clause-does : goal.returns-in-Err-clause-does
 returns-in-Err-clause-does c number state all same =
-    searches-fault_of c.args.indexes.now c.in-Some.index.now c.def.result.now state number (search_of c.args.search.now) _ c.in-Err.fault
-    same (sym c.in-Some.ensures) c.def.ensures.def c.in-Err.ensures.exact c.set_query_refusal.ensures.bytes
+    let what = search_of c.args.search.now in
+    queries-fault_of (search_query what) number state (is-search what number state) c.args.indexes.now same c.in-Some.index.now c.def.result.now _ c.in-Err.fault
+    (sym c.in-Some.ensures) c.def.ensures.def c.in-Err.ensures.exact c.set_query_refusal.ensures.bytes
 
 pub returns-in_default-clause-reads : goal.returns-in_default-clause-reads
 returns-in_default-clause-reads c = inr (inl ((unknown_index, c.set_fault.ensures.bytes), refl))

@@ -1,11 +1,12 @@
 use Rattle.std.proofs.Common.{◌≡◌, ◌+◌, ◌∷◌, [], ◌++◌, ℕ, List, refl, sym, ap, ◌∙◌, subst, arith}
-use Rattle.std.specs.Prelude.{Option, Some, IfSome, take}
+use Rattle.std.specs.Prelude.{Option, None, Some, IfSome, take}
 use Rattle.ft_base.specs.declared.doc.Doc.{Doc}
 use Rattle.hash_store.specs.Store.{reads_after}
 use Rattle.row_sort.specs.Order.{row_order}
 use Rattle.row_sort.specs.Sorting.{sorted}
-use Rattle.search_exec.proofs.CandidatesLaws.{least-next, live-candidate}
-use Rattle.search_exec.proofs.FieldLaws.{offered-ended, offered-next, offered-none}
+use Rattle.search_exec.proofs.AskLaws.{asked-ended, asked-next, asked-none}
+use Rattle.search_exec.proofs.CandidatesLaws.{answer-same, least-next, live-candidate}
+use Rattle.search_exec.proofs.FieldLaws.{AreOffered, offered-next, offered-none}
 use Rattle.search_exec.specs.Candidates.{about_candidates, in_candidates, MayAsk}
 use Rattle.search_exec.specs.Ids.{doc_at}
 use Rattle.search_exec.specs.Ranks.{ranked}
@@ -16,8 +17,8 @@ asking-init g c =
     let held = g.T.Lists.held c.args.lists.now in
     let first = c.args.candidates.now in
     record {
-      offered = offered-none (in_candidates held first) c.args.shape.now c.args.key c.args.first.now.most c.args.store.now.space c.args.first.now.rows
-          (λ id has_it. c.requires.lists.above id (live-candidate held first id has_it)) c.requires.none;
+      asked = asked-none (AreOffered c.args.shape.now c.args.key c.args.first.now.most 0 c.args.first.now.rows) (in_candidates held first) c.args.store.now.space
+          (λ id has_it. c.requires.lists.above id (live-candidate held first id has_it)) (offered-none c.args.shape.now c.args.key c.args.first.now.most c.args.first.now.rows c.requires.none);
       same = refl {a = about_candidates held first};
       may_ask = c.requires.ready;
       most = refl;
@@ -41,6 +42,7 @@ asking-preserved g c =
     let shape = c.args.shape.now in
     let key = c.args.key in
     let docs = c.args.store.now.space in
+    let most = c.args.first.now.most in
     let id = c.in-Some.id in
     let was = c.asking.invariant in
     let next = c.in_ok-offer_id.ensures in
@@ -52,7 +54,9 @@ asking-preserved g c =
     ∙ (ap (λ (most : ℕ). take most (sorted (row_order c.asking.first.by) (c.asking.first.rows ++ ranked shape key doc ∷ []))) was.most
     ∙ ap (λ by. take c.args.first.now.most (sorted (row_order by) (c.asking.first.rows ++ ranked shape key doc ∷ []))) (was.by ∙ c.requires.keys)) in
     record {
-      offered = offered-next has shape key c.args.first.now.most docs c.asking.from id c.asking.total c.asking.first.rows c.offer_id.new.first.rows was.rise least (c.requires.known.stored id least.passes) taken was.offered;
+      asked = asked-next (AreOffered shape key most c.asking.total c.asking.first.rows) (AreOffered shape key most (c.asking.total + 1) c.offer_id.new.first.rows) has docs c.asking.from id was.rise least
+          (c.requires.known.stored id least.passes)
+          (λ (so_far : List Doc) (doc : Doc) (found : doc_at id docs ≡ Some doc). offered-next shape key most c.asking.total c.asking.first.rows c.offer_id.new.first.rows so_far doc (taken doc found)) was.asked;
       same = c.in_ok-id.ensures.same ∙ was.same;
       may_ask = subst (λ (answer : Option ℕ). IfSome answer (λ id. MayAsk held c.seek.new.self (id + 1))) c.in-Some.is c.in_ok-id.ensures.ready;
       most = next.most ∙ was.most;
@@ -70,16 +74,23 @@ asking-preserved g c =
 
 pub returns-clause-rows : goal.returns-clause-rows
 returns-clause-rows g c =
-    (offered-ended (g.T.Lists.held c.args.lists.now) c.args.candidates.now c.asking.candidates c.args.shape.now c.args.key c.args.first.now.most c.args.store.now.space c.asking.from c.asking.total
-    c.asking.first.rows c.in_ok-id.field-0 c.asking.invariant.same c.in_default.is c.in_ok-id.ensures.least c.asking.invariant.offered).0
+    let held = g.T.Lists.held c.args.lists.now in
+    let first = c.args.candidates.now in
+    (asked-ended (AreOffered c.args.shape.now c.args.key c.args.first.now.most c.asking.total c.asking.first.rows) (in_candidates held first) c.args.store.now.space c.asking.from
+    (answer-same held first c.asking.candidates c.asking.from c.in_ok-id.field-0 None c.asking.invariant.same c.in_default.is c.in_ok-id.ensures.least) c.asking.invariant.asked).ranked_first
 
 pub returns-clause-total : goal.returns-clause-total
 returns-clause-total g c =
-    (offered-ended (g.T.Lists.held c.args.lists.now) c.args.candidates.now c.asking.candidates c.args.shape.now c.args.key c.args.first.now.most c.args.store.now.space c.asking.from c.asking.total
-    c.asking.first.rows c.in_ok-id.field-0 c.asking.invariant.same c.in_default.is c.in_ok-id.ensures.least c.asking.invariant.offered).1
+    let held = g.T.Lists.held c.args.lists.now in
+    let first = c.args.candidates.now in
+    (asked-ended (AreOffered c.args.shape.now c.args.key c.args.first.now.most c.asking.total c.asking.first.rows) (in_candidates held first) c.args.store.now.space c.asking.from
+    (answer-same held first c.asking.candidates c.asking.from c.in_ok-id.field-0 None c.asking.invariant.same c.in_default.is c.in_ok-id.ensures.least) c.asking.invariant.asked).count
 
 pub returns-clause-reads : goal.returns-clause-reads
 returns-clause-reads g c =
-    let ended = offered-ended (g.T.Lists.held c.args.lists.now) c.args.candidates.now c.asking.candidates c.args.shape.now c.args.key c.args.first.now.most c.args.store.now.space c.asking.from c.asking.total
-    c.asking.first.rows c.in_ok-id.field-0 c.asking.invariant.same c.in_default.is c.in_ok-id.ensures.least c.asking.invariant.offered in
-    c.asking.invariant.reads ∙ ap (reads_after c.args.store.now.reads) ended.1
+    let held = g.T.Lists.held c.args.lists.now in
+    let first = c.args.candidates.now in
+    c.asking.invariant.reads
+    ∙ ap (reads_after c.args.store.now.reads)
+    (asked-ended (AreOffered c.args.shape.now c.args.key c.args.first.now.most c.asking.total c.asking.first.rows) (in_candidates held first) c.args.store.now.space c.asking.from
+    (answer-same held first c.asking.candidates c.asking.from c.in_ok-id.field-0 None c.asking.invariant.same c.in_default.is c.in_ok-id.ensures.least) c.asking.invariant.asked).count

@@ -3,7 +3,8 @@ use Rattle.std.specs.List.Sorted.{IsStrictlyIncreasing}
 use Rattle.ft_base.specs.declared.doc.Doc.{Doc}
 use Rattle.hash_store.specs.Store.{reads_after}
 use Rattle.search_exec.specs.Candidates.{about_candidates, in_candidates, MayAsk}
-use Rattle.search_exec.proofs.FieldLaws.{IsOffered}
+use Rattle.search_exec.proofs.AskLaws.{IsAsked}
+use Rattle.search_exec.proofs.FieldLaws.{AreOffered}
 use Rattle.search_exec.proofs.by_field.offer_all.Given as goal
 
 -- The rows of the documents of the ids so far were offered, and these with the documents of the ids from here on are all.
@@ -11,7 +12,7 @@ abbrev pub invariant-asking : goal.invariant-asking
 invariant-asking g l =
     let held = g.T.Lists.held l.lists in
     record {
-      offered : IsOffered (in_candidates held l.fn.candidates) l.shape l.key l.fn.first.most l.fn.store.space l.from l.total l.first.rows;
+      asked : IsAsked (AreOffered l.shape l.key l.fn.first.most l.total l.first.rows) (in_candidates held l.fn.candidates) l.fn.store.space l.from;
       same : about_candidates held l.candidates ≡ about_candidates held l.fn.candidates;
       may_ask : MayAsk held l.candidates l.from;
       most : l.first.most ≡ l.fn.first.most;

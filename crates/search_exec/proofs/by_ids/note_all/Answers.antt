@@ -1,10 +1,12 @@
 use Rattle.std.proofs.Common.{◌≡◌, ◌+◌, ℕ, List, sym, ◌∙◌, subst, arith}
-use Rattle.std.specs.Prelude.{Option, Some, IfSome}
+use Rattle.std.specs.Prelude.{Option, None, Some, IfSome}
 use Rattle.ft_base.specs.declared.doc.Doc.{Doc}
-use Rattle.search_exec.proofs.CandidatesLaws.{least-next, live-candidate}
-use Rattle.search_exec.proofs.PageLaws.{asked-ended, asked-next, reads-told}
+use Rattle.search_exec.proofs.AskLaws.{asked-ended, asked-next}
+use Rattle.search_exec.proofs.CandidatesLaws.{answer-same, least-next, live-candidate}
+use Rattle.search_exec.proofs.PageLaws.{AreShown, reads-told}
 use Rattle.search_exec.specs.Candidates.{MayAsk, in_candidates}
 use Rattle.search_exec.specs.Ids.{doc_at, docs_in}
+use Rattle.search_exec.specs.Pages.{Shows}
 use Rattle.search_exec.proofs.by_ids.note_all.Goals as goal
 
 pub asking-preserved : goal.asking-preserved
@@ -18,7 +20,7 @@ asking-preserved g c =
     let next = c.in_ok-note_id.ensures in
     let noted = λ (shown : List Doc) (doc : Doc) (found : doc_at id docs ≡ Some doc). next.shown shown doc (subst (λ (docs : List Doc). doc_at id docs ≡ Some doc) (sym c.asking.invariant.space) found) in
     record {
-      asked = asked-next c.args.shape.now has docs c.asking.from id c.asking.page c.note_id.new.page c.asking.invariant.rise least (c.requires.known.stored id least.passes) noted c.asking.invariant.asked;
+      asked = asked-next (AreShown c.args.shape.now c.asking.page) (AreShown c.args.shape.now c.note_id.new.page) has docs c.asking.from id c.asking.invariant.rise least (c.requires.known.stored id least.passes) noted c.asking.invariant.asked;
       same = c.in_ok-id.ensures.same ∙ c.asking.invariant.same;
       may_ask = subst (λ (answer : Option ℕ). IfSome answer (λ id. MayAsk held c.seek.new.self (id + 1))) c.in-Some.is c.in_ok-id.ensures.ready;
       few = omega (arith, next.total, least.reached);
@@ -34,11 +36,16 @@ asking-preserved g c =
 
 pub returns-clause-shown : goal.returns-clause-shown
 returns-clause-shown g c =
-    asked-ended c.args.shape.now (g.T.Lists.held c.args.lists.now) c.args.candidates.now c.asking.candidates c.args.store.now.space c.asking.from c.in_ok-id.field-0 c.asking.page c.asking.invariant.same c.in_default.is c.in_ok-id.ensures.least c.asking.invariant.asked
+    let held = g.T.Lists.held c.args.lists.now in
+    let first = c.args.candidates.now in
+    asked-ended (AreShown c.args.shape.now c.asking.page) (in_candidates held first) c.args.store.now.space c.asking.from
+    (answer-same held first c.asking.candidates c.asking.from c.in_ok-id.field-0 None c.asking.invariant.same c.in_default.is c.in_ok-id.ensures.least) c.asking.invariant.asked
 
 pub returns-clause-reads : goal.returns-clause-reads
 returns-clause-reads g c =
     let held = g.T.Lists.held c.args.lists.now in
-    let docs = c.args.store.now.space in
-    let shows = asked-ended c.args.shape.now held c.args.candidates.now c.asking.candidates docs c.asking.from c.in_ok-id.field-0 c.asking.page c.asking.invariant.same c.in_default.is c.in_ok-id.ensures.least c.asking.invariant.asked in
-    reads-told c.args.shape.now c.args.store.now.reads c.asking.store.reads (docs_in (in_candidates held c.args.candidates.now) docs) c.asking.page c.asking.invariant.reads shows
+    let first = c.args.candidates.now in
+    let docs = docs_in (in_candidates held first) c.args.store.now.space in
+    let shows : Shows c.args.shape.now docs c.asking.page = asked-ended (AreShown c.args.shape.now c.asking.page) (in_candidates held first) c.args.store.now.space c.asking.from
+    (answer-same held first c.asking.candidates c.asking.from c.in_ok-id.field-0 None c.asking.invariant.same c.in_default.is c.in_ok-id.ensures.least) c.asking.invariant.asked in
+    reads-told c.args.shape.now c.args.store.now.reads c.asking.store.reads docs c.asking.page c.asking.invariant.reads shows

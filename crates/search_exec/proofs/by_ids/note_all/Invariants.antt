@@ -2,7 +2,8 @@ use Rattle.std.specs.Prelude.{◌≡◌, ◌<◌, ◌≤◌, ◌-◌, ◌^◌, m
 use Rattle.std.specs.List.Sorted.{IsStrictlyIncreasing}
 use Rattle.ft_base.specs.declared.doc.Doc.{Doc}
 use Rattle.hash_store.specs.Store.{reads_after}
-use Rattle.search_exec.proofs.PageLaws.{IsAsked}
+use Rattle.search_exec.proofs.AskLaws.{IsAsked}
+use Rattle.search_exec.proofs.PageLaws.{AreShown}
 use Rattle.search_exec.specs.Candidates.{MayAsk, about_candidates, in_candidates}
 use Rattle.search_exec.specs.Pages.{reads_of}
 use Rattle.search_exec.proofs.by_ids.note_all.Given as goal
@@ -12,7 +13,7 @@ abbrev pub invariant-asking : goal.invariant-asking
 invariant-asking g l =
     let held = g.T.Lists.held l.lists in
     record {
-      asked : IsAsked l.shape (in_candidates held l.fn.candidates) l.fn.store.space l.from l.page;
+      asked : IsAsked (AreShown l.shape l.page) (in_candidates held l.fn.candidates) l.fn.store.space l.from;
       same : about_candidates held l.candidates ≡ about_candidates held l.fn.candidates;
       may_ask : MayAsk held l.candidates l.from;
       few : l.page.total < l.from;

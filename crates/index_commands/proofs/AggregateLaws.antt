@@ -1,0 +1,28 @@
+-- An aggregate is a command that has a query; and what is made of the documents of a set.
+use Rattle.std.specs.Prelude.{◌≡◌, ℕ, List, Result, Ok, Err, IfOk}
+use Rattle.std.proofs.Common.{ap, ◌∙◌}
+use Rattle.agg_pipeline.specs.declared.step.Load.{Load}
+use Rattle.agg_pipeline.specs.declared.step.Step.{Step}
+use Rattle.cmd_parse.specs.Aggregating.{Aggregating}
+use Rattle.cmd_parse.specs.Read.{Aggregate}
+use Rattle.ft_base.specs.declared.definition.IndexDef.{IndexDef}
+use Rattle.ft_base.specs.declared.doc.Doc.{Doc}
+use Rattle.ft_base.specs.declared.reply.Reply.{Reply}
+use Rattle.ft_machine.specs.Aggregating.{aggregate_reply, aggregate_rows, rows_reply}
+use Rattle.ft_machine.specs.Machine.{State}
+use Rattle.index_commands.proofs.AnsweringLaws.{IsQuery, Queried}
+
+-- an aggregate, as a command that has a query
+abbrev pub aggregate_query : Aggregating → Queried
+aggregate_query what = record { asks = Aggregate what; name = what.index; params = what.params; query = what.query; reply = aggregate_reply what }
+
+pub is-aggregate : (what : Aggregating) (number : ℕ) (state : State) → IsQuery (aggregate_query what) number state
+is-aggregate what number state = record { gives = λ outcome x. x; may = tt }
+
+-- the rows of the documents of a set are those of the documents that were found, by the index's definition and all the steps
+pub rows-by : {E : Type 0} (load : Load) (given steps : List Step) (def same : IndexDef) (docs found : List Doc) (made : Result Reply E) → given ≡ steps → def ≡ same → docs ≡ found
+    → IfOk made (λ reply. reply ≡ rows_reply (aggregate_rows load given def docs)) → IfOk made (λ reply. reply ≡ rows_reply (aggregate_rows load steps same found))
+rows-by load given steps def same docs found (Ok reply) lent its all is =
+    is ∙ (ap (λ (s : List Step). rows_reply (aggregate_rows load s def docs)) lent
+    ∙ (ap (λ (d : IndexDef). rows_reply (aggregate_rows load steps d docs)) its ∙ ap (λ (ds : List Doc). rows_reply (aggregate_rows load steps same ds)) all))
+rows-by load given steps def same docs found (Err e) lent its all is = is

@@ -1,0 +1,33 @@
+use Rattle.std.proofs.Common.{sym}
+use Rattle.cmd_parse.specs.Aggregating.{aggregate_of}
+use Rattle.ft_machine.specs.Step.{last_number}
+use Rattle.index_commands.proofs.AnsweringLaws.{queries-fault_of, queries-found, queries-none}
+use Rattle.index_commands.proofs.AggregateLaws.{is-aggregate, aggregate_query}
+use Rattle.indexed_store.proofs.NamedLaws.{named-has}
+use Rattle.indexed_store.specs.Standing.{IndexStands, markers_at}
+use Rattle.index_commands.proofs.aggregate.answer_in.Goals as goal
+
+pub answer_parsed-requires-clause-stands : goal.answer_parsed-requires-clause-stands
+answer_parsed-requires-clause-stands c =
+    (named-has (IndexStands c.args.store.now.space last_number (markers_at last_number)) c.args.indexes.now c.args.aggregate.now.index.now c.in-Some.index.now c.requires.step.stand (sym c.in-Some.ensures)).documents
+
+pub answer_parsed-requires-clause-few : goal.answer_parsed-requires-clause-few
+answer_parsed-requires-clause-few c =
+    (named-has (IndexStands c.args.store.now.space last_number (markers_at last_number)) c.args.indexes.now c.args.aggregate.now.index.now c.in-Some.index.now c.requires.step.stand (sym c.in-Some.ensures)).earlier
+
+pub returns-in_default-clause-does : goal.returns-in_default-clause-does
+returns-in_default-clause-does c number state all same =
+    let what = aggregate_of c.args.aggregate.now in
+    queries-none (aggregate_query what) number state (is-aggregate what number state) c.args.indexes.now same _ (sym c.in_default.ensures) c.set_fault.ensures.bytes
+
+pub returns-in-Ok-clause-does : goal.returns-in-Ok-clause-does
+returns-in-Ok-clause-does c number state all same =
+    let what = aggregate_of c.args.aggregate.now in
+    queries-found (aggregate_query what) number state (is-aggregate what number state) c.args.indexes.now same c.in-Some.index.now c.def.result.now _ c.in-Ok.query c.args.store.now.space
+    (sym c.in-Some.ensures) c.def.ensures.def all c.in-Ok.ensures.exact c.answer_parsed.ensures.found
+
+pub returns-in-Err-clause-does : goal.returns-in-Err-clause-does
+returns-in-Err-clause-does c number state all same =
+    let what = aggregate_of c.args.aggregate.now in
+    queries-fault_of (aggregate_query what) number state (is-aggregate what number state) c.args.indexes.now same c.in-Some.index.now c.def.result.now _ c.in-Err.fault
+    (sym c.in-Some.ensures) c.def.ensures.def c.in-Err.ensures.exact c.set_query_refusal.ensures.bytes

@@ -1,0 +1,145 @@
+//! FT.AGGREGATE: the query is parsed by the fields of its index, and its steps make rows of the documents found.
+ghost use Rattle.std.specs.Prelude.{◌≡◌, ◌<◌, ◌≤◌, ◌^◌, ◌⊎◌, ℕ, length, IfOk, IsTrue};
+ghost use Rattle.std.specs.List.{All};
+ghost use Rattle.cmd_parse.specs.Aggregating.{aggregate_of};
+ghost use Rattle.cmd_parse.specs.Read.{Aggregate};
+ghost use Rattle.ft_base.specs.Memory.{out_of_memory};
+ghost use Rattle.ft_base.specs.Reply.{fits_wire, spelling};
+ghost use Rattle.ft_base.specs.declared.doc.Doc.{Doc};
+ghost use Rattle.ft_base.specs.declared.limits.TheConstants.{MAX_WORD_BYTES};
+ghost use Rattle.ft_index.specs.Index.{Indexes, IsIndex};
+ghost use Rattle.ft_machine.specs.Aggregating.{aggregate_reply};
+ghost use Rattle.ft_machine.specs.Machine.{State};
+ghost use Rattle.ft_machine.specs.Step.{Does, last_number};
+ghost use Rattle.ft_meaning.specs.Meaning.{ValuesFit};
+ghost use Rattle.indexed_store.specs.DefinitionsOf.{definitions_of};
+ghost use Rattle.indexed_store.specs.Holding.{state_at};
+ghost use Rattle.indexed_store.specs.Preparing.{OnlyReads};
+ghost use Rattle.indexed_store.specs.Standing.{InStep};
+
+use crate::search::ids_found;
+use cmd_parse::AggregateSpec;
+use ft_base::{NoMemory, Query, Reply, Steps};
+use ft_index::FtIndex;
+use hash_store::HashStore;
+use indexed_store::{IndexedStore, index_named};
+use query_parse::parse;
+use reply_buffer::ReplyBuffer;
+use search_exec::aggregate_reply;
+use std::alloc::Global;
+use std::marker::Brand;
+use std::sync::ledger::{Blank, Ledger};
+
+/// Makes rows of the documents that a query finds in an index, and writes the reply.
+pub fn answer_aggregate(
+    held: &mut IndexedStore,
+    aggregate: &AggregateSpec<'_>,
+    reply: &mut ReplyBuffer,
+)
+    requires number { held.old.next < last_number }
+    requires query { length aggregate.now.query.now ≤ MAX_WORD_BYTES }
+    ensures does { (latest : ℕ) → Does (Aggregate (aggregate_of aggregate.now)) held.old.next (state_at latest held.old)
+        reply.new.bytes (state_at latest held.old) }
+    ensures stays { OnlyReads held.old held.new }
+    ensures room { reply.old.room ≤ reply.new.room }
+{
+    answer_in(
+        &mut held.store,
+        held.indexes.as_slice(),
+        held.alloc,
+        aggregate,
+        reply,
+    );
+}
+
+/// The same over the documents and the indexes by themselves, before the last event.
+fn answer_in(
+    store: &mut HashStore,
+    indexes: &[FtIndex],
+    alloc: Global,
+    aggregate: &AggregateSpec<'_>,
+    reply: &mut ReplyBuffer,
+)
+    requires query { length aggregate.now.query.now ≤ MAX_WORD_BYTES }
+    requires step { InStep store.old indexes.now last_number }
+    ensures does { (number : ℕ) (state : State) → state.space ≡ store.old.space
+        → state.definitions ≡ definitions_of indexes.now
+        → Does (Aggregate (aggregate_of aggregate.now)) number state reply.new.bytes state }
+    ensures space { store.new.space ≡ store.old.space }
+    ensures ready { store.new.ready ≡ store.old.ready }
+    ensures last { store.new.last ≡ store.old.last }
+    ensures room { reply.old.room ≤ reply.new.room }
+{
+    let Some(index) = index_named(indexes, aggregate.index) else {
+        return reply.set_fault(b"Unknown index name");
+    };
+    match parse(alloc, aggregate.query, index.def(), &aggregate.params) {
+        Ok(query) => answer_parsed(store, index, alloc, query, aggregate, reply),
+        Err(fault) => reply.set_query_refusal(fault),
+    }
+}
+
+/// Writes what the steps make of the documents that a query finds in an index.
+fn answer_parsed(
+    store: &mut HashStore,
+    index: &FtIndex,
+    alloc: Global,
+    query: Query,
+    aggregate: &AggregateSpec<'_>,
+    reply: &mut ReplyBuffer,
+)
+    requires stands { Indexes index.now store.old.space }
+    requires sound { IsIndex index.now }
+    requires few { index.now.table.last < 2 ^ 62 }
+    requires values { All (λ (doc : Doc). ValuesFit doc.hash) store.old.space }
+    ensures found { (reply.new.bytes
+        ≡ spelling (aggregate_reply (aggregate_of aggregate.now) store.old.space index.now.def query))
+        ⊎ (reply.new.bytes ≡ spelling out_of_memory) }
+    ensures space { store.new.space ≡ store.old.space }
+    ensures ready { store.new.ready ≡ store.old.ready }
+    ensures last { store.new.last ≡ store.old.last }
+    ensures room { reply.old.room ≤ reply.new.room }
+{
+    let made = rows_in::<Brand>(store, index, alloc, &query, aggregate, Blank::new(1));
+    drop(query);
+    reply.set_made(made);
+}
+
+/// What the steps make of the documents that a query finds in an index.
+fn rows_in<L: Ledger>(
+    store: &mut HashStore,
+    index: &FtIndex,
+    alloc: Global,
+    query: &Query,
+    aggregate: &AggregateSpec<'_>,
+    blank: Blank,
+) -> Result<Reply, NoMemory>
+    requires name { blank.name ≡ L.name }
+    requires parts { blank.parts ≡ L.parts }
+    requires some { 0 < L.parts }
+    requires stands { Indexes index.now store.old.space }
+    requires sound { IsIndex index.now }
+    requires few { index.now.table.last < 2 ^ 62 }
+    requires values { All (λ (doc : Doc). ValuesFit doc.hash) store.old.space }
+    ensures reply { IfOk result (λ reply. reply
+        ≡ aggregate_reply (aggregate_of aggregate.now) store.old.space index.now.def query.now) }
+    ensures fits { IfOk result (λ reply. IsTrue (fits_wire reply)) }
+    ensures space { store.new.space ≡ store.old.space }
+    ensures ready { store.new.ready ≡ store.old.ready }
+    ensures last { store.new.last ≡ store.old.last }
+{
+    let mut counter = Steps::<L>::new(blank);
+    let iter = ids_found(store, index, alloc, query, &mut counter)?;
+    let made = aggregate_reply(
+        alloc,
+        index.def(),
+        index,
+        store,
+        iter,
+        &aggregate.load,
+        aggregate.steps.as_slice(),
+        &mut counter,
+    );
+    drop(counter);
+    made
+}

@@ -1,0 +1,31 @@
+-- What a feed holds of the documents that an iterator finds, and how many of them were read.
+use Rattle.std.proofs.Common.{◌≡◌, ◌<◌, ◌^◌, ℕ, List, [], ◌∷◌, ◌++◌, length, arith}
+use Rattle.std.proofs.lemmas.List.{length_push}
+use Rattle.agg_pipeline.specs.Feeding.{Holds}
+use Rattle.agg_pipeline.specs.declared.feed.Feed.{Feed}
+use Rattle.agg_pipeline.specs.declared.step.Load.{Load}
+use Rattle.agg_pipeline.specs.declared.step.Step.{Step}
+use Rattle.ft_base.specs.declared.definition.IndexDef.{IndexDef}
+use Rattle.ft_base.specs.declared.doc.Doc.{Doc}
+use Rattle.hash_store.specs.Store.{reads_after}
+
+-- A feed that held no document at first holds some, and each of these was read once.
+pub record IsFed (first : Feed) (start : ℕ) (now : Feed) (reads : ℕ) (docs : List Doc) : Type 0 where
+  pub holds : (def : IndexDef) (load : Load) (steps : List Step) → Holds def load steps [] first → Holds def load steps docs now
+  pub count : reads ≡ reads_after start (length docs)
+
+-- at first none was read
+pub fed-none : (first : Feed) (start : ℕ) → start < 2 ^ 64 → IsFed first start first start []
+fed-none first start bits = record {
+  holds = λ def load steps none. none;
+  count = omega (arith, bits);
+}
+
+-- one more document is read and noted
+pub fed-next : (first : Feed) (start : ℕ) (old new : Feed) (reads more : ℕ) (docs : List Doc) (doc : Doc)
+    → ((def : IndexDef) (load : Load) (steps : List Step) (docs : List Doc) → Holds def load steps docs old → Holds def load steps (docs ++ doc ∷ []) new)
+    → more ≡ reads_after reads 1 → IsFed first start old reads docs → IsFed first start new more (docs ++ doc ∷ [])
+fed-next first start old new reads more docs doc noted once fed = record {
+  holds = λ def load steps none. noted def load steps docs (fed.holds def load steps none);
+  count = omega (arith, once, fed.count, length_push docs doc);
+}

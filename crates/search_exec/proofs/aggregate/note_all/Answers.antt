@@ -1,0 +1,73 @@
+use Rattle.std.proofs.Common.{◌≡◌, ◌<◌, ◌+◌, ◌^◌, ℕ, List, refl, sym, ◌∙◌, subst, arith}
+use Rattle.std.specs.Prelude.{Option, None, Some, IfSome}
+use Rattle.ft_base.specs.declared.doc.Doc.{Doc}
+use Rattle.id_iters.specs.Least.{IsLeastAt}
+use Rattle.id_iters.specs.Ready.{Ready}
+use Rattle.id_iters.specs.Sets.{about, in_set}
+use Rattle.search_exec.proofs.AggregateLaws.{IsFed, fed-next, fed-none}
+use Rattle.search_exec.proofs.AskLaws.{asked-ended, asked-next, asked-none, iter-same, live-first}
+use Rattle.search_exec.specs.Ids.{doc_at}
+use Rattle.search_exec.proofs.aggregate.note_all.Goals as goal
+
+pub asking-init : goal.asking-init
+asking-init g c =
+    let held = g.T.Lists.held c.args.lists.now in
+    let iter = c.args.iter.now in
+    let start = c.args.store.now.reads in
+    let bits : start < 2 ^ 64 = omega (arith, c.reads-reads.ensures, c.reads-reads.type_inv) in
+    record {
+      asked = asked-none (IsFed c.args.feed.now start c.args.feed.now start) (in_set held iter) c.args.store.now.space
+          (λ id has_it. c.requires.lists.above id (live-first held iter id has_it)) (fed-none c.args.feed.now start bits);
+      same = refl {a = about held iter};
+      ready_from = c.requires.ready;
+      most = omega arith;
+      rise = c.len-count.ensures.rises;
+      bits = bits;
+      rises = omega arith;
+      space = refl;
+      ready = refl;
+      last = refl;
+      counts = omega arith;
+    }
+
+pub asking-preserved : goal.asking-preserved
+asking-preserved g c =
+    let held = g.T.Lists.held c.args.lists.now in
+    let has = in_set held c.args.iter.now in
+    let first = c.args.feed.now in
+    let start = c.args.store.now.reads in
+    let docs = c.args.store.now.space in
+    let id = c.in-Some.id in
+    let was = c.asking.invariant in
+    let next = c.in_ok-note_id.ensures in
+    let least : IsLeastAt has c.asking.from id = iter-same held c.args.iter.now c.asking.iter c.asking.from c.in_ok-id.field-0 (Some id) was.same c.in-Some.is c.in_ok-id.ensures.least in
+    let noted = λ (shown : List Doc) (doc : Doc) (found : doc_at id docs ≡ Some doc).
+    fed-next first start c.asking.feed c.note_id.new.feed c.asking.store.reads c.note_id.new.store.reads shown doc (next.noted doc (subst (λ (docs : List Doc). doc_at id docs ≡ Some doc) (sym was.space) found)) next.reads in
+    record {
+      asked = asked-next (IsFed first start c.asking.feed c.asking.store.reads) (IsFed first start c.note_id.new.feed c.note_id.new.store.reads) has docs c.asking.from id was.rise least
+          (c.requires.known.stored id least.passes) noted was.asked;
+      same = c.in_ok-id.ensures.same ∙ was.same;
+      ready_from = subst (λ (answer : Option ℕ). IfSome answer (λ id. Ready held c.seek.new.self (id + 1))) c.in-Some.is c.in_ok-id.ensures.ready;
+      most = omega (arith, c.requires.lists.below id (live-first held c.args.iter.now id least.passes));
+      rise = was.rise;
+      bits = was.bits;
+      rises = omega (arith, next.reads, was.rises, was.bits);
+      space = next.space ∙ was.space;
+      ready = next.ready ∙ was.ready;
+      last = next.last ∙ was.last;
+      counts = omega (arith, c.in_ok-id.ensures.counts, was.counts);
+    }
+
+pub returns-clause-noted : goal.returns-clause-noted
+returns-clause-noted g c =
+    let held = g.T.Lists.held c.args.lists.now in
+    let first = c.args.iter.now in
+    (asked-ended (IsFed c.args.feed.now c.args.store.now.reads c.asking.feed c.asking.store.reads) (in_set held first) c.args.store.now.space c.asking.from
+    (iter-same held first c.asking.iter c.asking.from c.in_ok-id.field-0 None c.asking.invariant.same c.in_default.is c.in_ok-id.ensures.least) c.asking.invariant.asked).holds
+
+pub returns-clause-reads : goal.returns-clause-reads
+returns-clause-reads g c =
+    let held = g.T.Lists.held c.args.lists.now in
+    let first = c.args.iter.now in
+    (asked-ended (IsFed c.args.feed.now c.args.store.now.reads c.asking.feed c.asking.store.reads) (in_set held first) c.args.store.now.space c.asking.from
+    (iter-same held first c.asking.iter c.asking.from c.in_ok-id.field-0 None c.asking.invariant.same c.in_default.is c.in_ok-id.ensures.least) c.asking.invariant.asked).count

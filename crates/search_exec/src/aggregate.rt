@@ -1,0 +1,140 @@
+//! What an aggregate answers: the rows that its steps make of the documents that an iterator finds.
+ghost use Rattle.std.specs.Prelude.{◌≡◌, ◌≤◌, ◌∷◌, ◌++◌, [], List, Some, IfOk, IsSome, IsTrue, OnOk, length};
+ghost use Rattle.agg_pipeline.specs.Feeding.{Holds};
+ghost use Rattle.agg_pipeline.specs.declared.step.Load.{Load};
+ghost use Rattle.agg_pipeline.specs.declared.step.Step.{Step as AStep};
+ghost use Rattle.ft_base.specs.Reply.{fits_wire};
+ghost use Rattle.ft_base.specs.declared.definition.IndexDef.{IndexDef};
+ghost use Rattle.ft_base.specs.declared.doc.Doc.{Doc};
+ghost use Rattle.ft_machine.specs.Aggregating.{aggregate_rows, rows_reply};
+ghost use Rattle.hash_store.specs.Store.{reads_after};
+ghost use Rattle.id_iters.specs.Held.{AreLists};
+ghost use Rattle.id_iters.specs.Ready.{Ready};
+ghost use Rattle.id_iters.specs.Sets.{in_set};
+ghost use Rattle.search_exec.specs.Ids.{AreKnown, doc_at, docs_in};
+
+use crate::rows_reply::rows_reply;
+use agg_pipeline::{Feed, Load, Step};
+use ft_base::{IndexDef, NoMemory, Reply, Row, Steps};
+use hash_store::HashStore;
+use id_iters::{Iter, Lists};
+use std::alloc::Global;
+use std::sync::ledger::Ledger;
+
+/// What an aggregate answers that finds the ids of an iterator in an index. Each document that is found is read once, in
+/// order of the ids, and copied only where a row must hold it. The query's text is in the iterator.
+pub fn aggregate_reply<T: Lists, L: Ledger>(
+    alloc: Global,
+    def: &IndexDef,
+    lists: &T,
+    store: &mut HashStore,
+    iter: Iter,
+    load: &Load,
+    steps: &[Step],
+    counter: &mut Steps<L>,
+) -> Result<Reply, NoMemory>
+    requires lists { AreLists (T.held lists.now) }
+    requires ready { Ready (T.held lists.now) iter 1 }
+    requires known { AreKnown (in_set (T.held lists.now) iter) (T.named lists.now).keys store.old.space }
+    ensures reply { IfOk result (λ reply. reply ≡ rows_reply (aggregate_rows load.now steps.now def.now
+        (docs_in (in_set (T.held lists.now) iter) store.old.space))) }
+    ensures fits { IfOk result (λ reply. IsTrue (fits_wire reply)) }
+
+    // What is read.
+    ensures reads { OnOk result (store.new.reads ≡ reads_after store.old.reads
+        (length (docs_in (in_set (T.held lists.now) iter) store.old.space))) }
+    ensures rises { store.old.reads ≤ store.new.reads }
+
+    ensures space { store.new.space ≡ store.old.space }
+    ensures ready { store.new.ready ≡ store.old.ready }
+    ensures last { store.new.last ≡ store.old.last }
+    ensures counts { counter.old ≤ counter.new }
+{
+    let mut iter = iter;
+    let rows = found_rows(alloc, def, lists, store, &mut iter, load, steps, counter);
+    drop(iter);
+    rows_reply(alloc, rows?)
+}
+
+/// The rows that the steps make of the documents that an iterator finds.
+fn found_rows<T: Lists, L: Ledger>(
+    alloc: Global,
+    def: &IndexDef,
+    lists: &T,
+    store: &mut HashStore,
+    iter: &mut Iter,
+    load: &Load,
+    steps: &[Step],
+    counter: &mut Steps<L>,
+) -> Result<Vec<Row>, NoMemory>
+    requires lists { AreLists (T.held lists.now) }
+    requires ready { Ready (T.held lists.now) iter.old 1 }
+    requires known { AreKnown (in_set (T.held lists.now) iter.old) (T.named lists.now).keys store.old.space }
+    ensures rows { IfOk result (λ rows. rows.items ≡ aggregate_rows load.now steps.now def.now
+        (docs_in (in_set (T.held lists.now) iter.old) store.old.space)) }
+
+    ensures reads { OnOk result (store.new.reads ≡ reads_after store.old.reads
+        (length (docs_in (in_set (T.held lists.now) iter.old) store.old.space))) }
+    ensures rises { store.old.reads ≤ store.new.reads }
+
+    ensures space { store.new.space ≡ store.old.space }
+    ensures ready { store.new.ready ≡ store.old.ready }
+    ensures last { store.new.last ≡ store.old.last }
+    ensures counts { counter.old ≤ counter.new }
+{
+    let mut feed = Feed::new(alloc, def, load, steps);
+    note_all(&mut feed, lists, store, iter, counter)?;
+    feed.finish()
+}
+
+/// Notes in a feed of no document those that an iterator finds. Each is read once.
+fn note_all<T: Lists, L: Ledger>(
+    feed: &mut Feed<'_>,
+    lists: &T,
+    store: &mut HashStore,
+    iter: &mut Iter,
+    counter: &mut Steps<L>,
+) -> Result<(), NoMemory>
+    requires lists { AreLists (T.held lists.now) }
+    requires ready { Ready (T.held lists.now) iter.old 1 }
+    requires known { AreKnown (in_set (T.held lists.now) iter.old) (T.named lists.now).keys store.old.space }
+    ensures noted { OnOk result ((def : IndexDef) (load : Load) (steps : List AStep)
+        → Holds def load steps [] feed.old
+        → Holds def load steps (docs_in (in_set (T.held lists.now) iter.old) store.old.space) feed.new) }
+
+    ensures reads { OnOk result (store.new.reads ≡ reads_after store.old.reads
+        (length (docs_in (in_set (T.held lists.now) iter.old) store.old.space))) }
+    ensures rises { store.old.reads ≤ store.new.reads }
+
+    ensures space { store.new.space ≡ store.old.space }
+    ensures ready { store.new.ready ≡ store.old.ready }
+    ensures last { store.new.last ≡ store.old.last }
+    ensures counts { counter.old ≤ counter.new }
+{
+    // These tell that the ids rise, so that each is that of one document, and that the count of reads has 64 bits.
+    let _count = store.len();
+    let _reads = store.reads();
+    let mut from = 1;
+    'asking: while let Some(id) = iter.seek(lists, from, counter)? {
+        note_id(feed, store, id)?;
+        from = id + 1;
+    }
+    Ok(())
+}
+
+/// Notes the document of an id, which is read once.
+fn note_id(feed: &mut Feed<'_>, store: &mut HashStore, id: u64) -> Result<(), NoMemory>
+    requires stored { IsSome (doc_at id store.old.space) }
+    ensures noted { OnOk result ((doc : Doc) → doc_at id store.old.space ≡ Some doc
+        → (def : IndexDef) (load : Load) (steps : List AStep) (docs : List Doc)
+        → Holds def load steps docs feed.old → Holds def load steps (docs ++ doc ∷ []) feed.new) }
+
+    ensures reads { store.new.reads ≡ reads_after store.old.reads 1 }
+    ensures space { store.new.space ≡ store.old.space }
+    ensures ready { store.new.ready ≡ store.old.ready }
+    ensures last { store.new.last ≡ store.old.last }
+{
+    let doc = store.get_by_id(id).unwrap();
+    feed.note(doc)?;
+    Ok(())
+}
