@@ -1,0 +1,3 @@
+mod LogLaws
+mod RuleLaws
+mod SeatLaws
