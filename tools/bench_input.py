@@ -60,6 +60,16 @@ SHOP_OPTIONS = {
 }
 
 
+SHOP_AGGREGATES = 20
+SHOP_PARTS = {
+    "group": ("GROUPBY", 1, "@c", "REDUCE", "COUNT", 0, "REDUCE", "SUM", 1, "@p"),
+    "group-two": ("GROUPBY", 2, "@c", "@p", "REDUCE", "COUNT", 0, "LIMIT", 0, 10),
+    "group-sort": ("GROUPBY", 1, "@c", "REDUCE", "SUM", 1, "@p", "AS", "sum", "SORTBY", 2, "@sum", "DESC", "MAX", 10),
+    "apply-filter": ("APPLY", "@p * 2", "AS", "twice", "FILTER", "@twice > 100000", "GROUPBY", 0, "REDUCE", "COUNT", 0),
+    "aggregate-sort": ("LOAD", 1, "@p", "SORTBY", 1, "@p", "MAX", 10),
+}
+
+
 def shop(count, query, options=()):
     """Documents of eight words, one of twenty tags and one of 100,000 numbers; then the searches."""
     loads = [request("FT.CREATE", "i", "SCHEMA", "t", "TEXT", "c", "TAG", "p", "NUMERIC")]
@@ -67,6 +77,11 @@ def shop(count, query, options=()):
         price = number * 7_919 % 100_000
         loads.append(request("HSET", f"key{number}", "t", text(number), "c", f"color{number % 20}", "p", price))
     return loads + (searches(SHOP_SEARCHES, query, *options) if query else [])
+
+
+def aggregates(count, *parts):
+    """Of all documents of the shop."""
+    return shop(count, None) + [request("FT.AGGREGATE", "i", "*", *parts)] * SHOP_AGGREGATES
 
 
 def fields(count):
@@ -96,6 +111,8 @@ for name, query in SHOP_QUERIES.items():
     WORKS["shop-" + name] = lambda count, query=query: shop(count, query)
 for name, (query, *options) in SHOP_OPTIONS.items():
     WORKS["shop-" + name] = lambda count, query=query, options=options: shop(count, query, options)
+for name, parts in SHOP_PARTS.items():
+    WORKS["shop-" + name] = lambda count, parts=parts: aggregates(count, *parts)
 
 
 def main():

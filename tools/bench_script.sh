@@ -51,6 +51,11 @@ shop-sort-all 25000 50000 100000: all, sorted by the number, the first ten
 shop-sort-all-deep 25000 50000 100000: the same, ten from the thousandth on
 shop-in-keys 25000 50000 100000: a word of all in three keys
 shop-filter 25000 50000 100000: a word of all, and FILTER of 9 documents in 1,000
+shop-group 25000 50000 100000: 20 aggregates of all: groups by the tag, the count and the sum of the numbers of each
+shop-group-two 25000 50000 100000: the same by tag and number, a group for each document, ten of them shown
+shop-group-sort 25000 50000 100000: groups by the tag, the ten with the greatest sums
+shop-apply-filter 25000 50000 100000: of all, twice the number, those over 100,000, and how many they are
+shop-aggregate-sort 25000 50000 100000: of all the number, the ten least
 hgetall 250 500 1000: HGETALLs of a hash of 1,000 fields
 wide-hsets 16384 32768 65534: 20 HSETs of so many words each, of new keys
 wide-hdel 8000 16000 32000: one HDEL of all fields of a hash, from the first to the last

@@ -1,4 +1,5 @@
 //! What commands ask.
+use crate::aggregates::put_aggregate;
 use crate::answer::Answer;
 use crate::arguments::{frame_of, word};
 use crate::schemas::{put_fault as put_schema_fault, put_fields, put_index};
@@ -56,6 +57,10 @@ fn put_command(alloc: Global, command: &Command<'_>, out: &mut Answer) -> Result
             put_fields(fields.as_slice(), out);
         }
         Command::Search(spec) => put_search(spec, out),
+        Command::Aggregate(spec) => {
+            put_aggregate(alloc, spec, out);
+            put_params(spec.params.as_slice(), out);
+        }
     }
     Ok(())
 }

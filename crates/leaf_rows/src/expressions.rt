@@ -102,8 +102,9 @@ fn put_in(
 
 // ---- trees and values as they are written
 
+/// Writes a tree.
 #[cycle(tree)]
-fn put_tree(tree: &Expr, out: &mut Vec<u8>) -> Result<(), NoMemory> {
+pub fn put_tree(tree: &Expr, out: &mut Vec<u8>) -> Result<(), NoMemory> {
     match tree {
         Expr::Num(number) => put_int(out, *number),
         Expr::Text(text) => put_text(text.as_slice(), out),

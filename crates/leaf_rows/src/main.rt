@@ -5,6 +5,7 @@
 //! answer differs, and then how many there were. Read `stdin` first, then `values.rt` and `answer.rt`.
 #![tactic(auto)]
 
+mod aggregates;
 mod answer;
 mod arguments;
 mod commands;
