@@ -261,6 +261,58 @@ def at_limits():
     return [long_words, many_words, [most_bytes]]
 
 
+# Lengths round those at which a length of a run takes one byte more, and a hash is kept as a map.
+LENGTHS = (0, 1, 126, 127, 128, 129, 4_080, 4_096, 16_383, 16_384)
+
+
+def sizes():
+    """Names and values of each length, set over one of each other length, read and taken out, among two other fields."""
+    rows = []
+    for old in LENGTHS:
+        for new in LENGTHS + (MOST_WORD_BYTES,):
+            rows.append([[b"HSET", b"h", b"a", b"1", b"b", b"o" * old, b"c", b"3"], [b"HSET", b"h", b"b", b"n" * new],
+                         command("HGETALL h"), command("HMGET h a b c"), command("HDEL h b"), command("HGETALL h")])
+    for length in LENGTHS + (MOST_WORD_BYTES,):
+        name = b"m" * length
+        rows.append([[b"HSET", b"h", b"a", b"1", name, b"2", b"c", b"3"], [b"HGET", b"h", name], [b"HEXISTS", b"h", name + b"m"],
+                     [b"HINCRBY", b"h", name, b"126"], command("HKEYS h"), [b"HDEL", b"h", b"a", name], command("HGETALL h")])
+    looks = [b"\1b\1c", b"\1a\1b", b"b\1c", b"\0\0", b"\x80\1" + b"b" * 128]
+    rows.append([[b"HSET", b"h", b"a"] + [looks[0], b"d", looks[1], looks[2], looks[3], looks[4], b"z"]]
+                + session("HGET h b\nHGET h c\nHGET h d\nHDEL h b c\nHGETALL h"))
+    return rows
+
+
+def crossing():
+    """Hashes that grow one field at a time past 64, and past 4,096 bytes, and shrink again."""
+    pairs = many_pairs(70)
+    by_fields = [row for at in range(0, 140, 2) for row in ([b"HSET", b"h"] + pairs[at:at + 2], command("HGETALL h"))]
+    shrunk = session("HDEL h field0 field69\nHGETALL h\nHSET h field0 again field1 new\nHGETALL h\nRENAME h g\nHGETALL g")
+    shrunk += [[b"HDEL", b"g"] + pairs[4:130:2], *session("HGETALL g\nHSET g field9 x\nHGETALL g\nHLEN g")]
+    by_bytes = [row for i in range(50) for row in ([b"HSET", b"h", b"f%d" % i, b"v" * 97], command("HVALS h"))]
+    at_once = [[b"HSET", b"h"] + many_pairs(count) for count in (63, 64, 65, 66)]
+    at_once = [row for most in at_once for row in (most, command("HGETALL h"), command("HSETNX h field64 y"), command("HKEYS h"), command("DEL h"))]
+    return [by_fields + shrunk, by_bytes, at_once]
+
+
+def drawn_sizes(seeds):
+    """Random writes to one hash of some 60 to 80 fields, with values of lengths that are often near 128 or large."""
+    sessions = []
+    for seed in seeds:
+        rng = random.Random(seed)
+        rows = []
+        for _ in range(1_500):
+            field = b"f%d" % rng.randrange(80)
+            value = bytes([rng.randrange(97, 123)]) * rng.choice((0, 1, 5, 30, 126, 127, 128, 129, 400, 2_000))
+            rows.append(rng.choice([[b"HSET", b"h", field, value], [b"HSET", b"h", field, value, field + b"x", value],
+                                    [b"HDEL", b"h", field], [b"HGET", b"h", field], command("HLEN h"), [b"HSETNX", b"h", field, value]]))
+            if rng.randrange(20) == 0:
+                rows.append(command(rng.choice(["HGETALL h", "HKEYS h", "HVALS h", "RENAME h h"])))
+            if rng.randrange(400) == 0:
+                rows.append(command("DEL h"))
+        sessions.append(rows)
+    return sessions
+
+
 UNKNOWN = session("""
     NOPE
     NOPE a b
@@ -386,6 +438,8 @@ def groups():
         Sessions("spellings of numbers", numbers()),
         Sessions("bytes of words", bytes_of_words()),
         Sessions("large hashes", large()),
+        Sessions("sizes of names and values", sizes()),
+        Sessions("hashes at the crossing", crossing() + drawn_sizes(range(300, 304))),
         Sessions("at the limits", at_limits(), REDIS_DEFAULT),
         Sessions("order of large hashes", unordered(), REDIS_DEFAULT),
         Sessions("names of no command", [UNKNOWN]),

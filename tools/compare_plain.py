@@ -1,0 +1,143 @@
+#!/usr/bin/env -S python3 -B
+"""Compares the program with a plain machine, reply by reply.
+
+    tools/compare_plain.py [SESSIONS [SEED]]            without these, 100 sessions of the first seed
+    tools/compare_plain.py --rows < crates/rows/stdin   the plain machine itself, with the rows of sessions
+
+Each session is 200 random commands and more: hashes, schemas, searches, aggregates, and now and then a fault. A seed has
+the same sessions each time. tools/plain works out what each command has to answer; the program gets the same requests as
+`rsearch script`. It is that of ./rsearch, built where it is missing or old, or the one that RSEARCH names.
+
+Prints of each session that differs the commands that are needed for its first difference, as rows with the replies of the
+plain machine, and what came in place of the last one; then a line that counts. With --rows, each row that differs, but for
+those of FT.INFO, which the plain machine does not have. The status is 1 where something differs.
+"""
+import os
+import pathlib
+import subprocess
+import sys
+
+from plain.machine import Machine
+from plain.rows import is_reply, read_sessions, spelled_reply, spelled_row
+from plain.sessions import session
+from plain.wire import request, split_replies
+
+PROGRAM = "crates/rsearch/out/rsearch"
+MOST_SECONDS = 60
+LEFT_OUT = (b"FT.INFO",)
+
+
+def wanted(commands: list) -> list:
+    machine = Machine()
+    return [machine.reply(words) for words in commands]
+
+
+def written(program: str, commands: list) -> list:
+    """The program's replies; where it does not end well, its end is one more."""
+    data = b"".join(map(request, commands))
+    try:
+        done = subprocess.run([program, "script"], input=data, stdout=subprocess.PIPE, timeout=MOST_SECONDS)
+    except subprocess.TimeoutExpired:
+        return [b"no end in %d seconds\r\n" % MOST_SECONDS]
+    replies = split_replies(done.stdout)
+    return replies if done.returncode == 0 else replies + [b"status %d\r\n" % done.returncode]
+
+
+def first_difference(program: str, commands: list):
+    """The number of the first command whose replies differ, and what came; None where there is none."""
+    wants, came = wanted(commands), written(program, commands)
+    came += [b""] * (len(wants) - len(came))
+    for number, want in enumerate(wants):
+        if came[number] != want:
+            return number, came[number]
+    return (len(wants) - 1, b"".join(came[-2:])) if len(came) > len(wants) else None
+
+
+def without_runs(items: list, differs) -> list:
+    """The items without what is not needed to differ: runs of them are dropped, ever shorter ones."""
+    size = len(items)
+    while size > 0:
+        at = 0
+        while at < len(items):
+            fewer = items[:at] + items[at + size:]
+            if fewer and differs(fewer):
+                items = fewer
+            else:
+                at += size
+        size //= 2
+    return items
+
+
+def cut_down(program: str, commands: list) -> list:
+    """The session without the commands, and then the words, that are not needed for a difference."""
+    def differs(fewer: list) -> bool:
+        return first_difference(program, fewer) is not None
+
+    commands = without_runs(commands[:first_difference(program, commands)[0] + 1], differs)
+    for at in range(len(commands)):
+        before, behind = commands[:at], commands[at + 1:]
+        commands = before + [without_runs(commands[at], lambda words: differs(before + [words] + behind))] + behind
+    return commands
+
+
+def print_difference(program: str, number: int, commands: list):
+    commands = cut_down(program, commands)
+    found = first_difference(program, commands)
+    print(f"== session {number}")
+    for words, reply in zip(commands, wanted(commands)):
+        print(spelled_row(words, reply))
+    print(f"    came: {spelled_reply(found[1])}\n", flush=True)
+
+
+def program_to_run() -> str:
+    """The program, built where it is missing or old."""
+    if "RSEARCH" in os.environ:
+        return os.environ["RSEARCH"]
+    os.chdir(pathlib.Path(__file__).resolve().parent.parent)
+    if subprocess.run(["./rsearch", "script"], stdin=subprocess.DEVNULL).returncode != 0:
+        sys.exit("compare_plain: ./rsearch does not run")
+    return PROGRAM
+
+
+def compare_rows() -> int:
+    """The rows of the standard input with the plain machine's replies."""
+    rows, differ = 0, 0
+    for name, session_rows in read_sessions(sys.stdin.buffer).items():
+        machine = Machine()
+        for words, lines in session_rows:
+            if words[0].upper() in LEFT_OUT:
+                continue
+            rows += 1
+            reply = machine.reply(words)
+            if not is_reply(lines, reply):
+                differ += 1
+                print(f"== {name}\n{spelled_row(words, reply)}\n    wanted: {b' '.join(lines).decode('latin-1')}")
+    print(f"{rows} rows, {differ} differ")
+    return 1 if differ else 0
+
+
+def compare_sessions(count: int, seed: int) -> int:
+    program = program_to_run()
+    names, differ = [], 0
+    for number in range(count):
+        commands = session(seed, number)
+        names += [words[0].upper() for words in commands]
+        if first_difference(program, commands) is not None:
+            differ += 1
+            print_difference(program, number, commands)
+    searches, aggregates = names.count(b"FT.SEARCH"), names.count(b"FT.AGGREGATE")
+    print(f"{count} sessions, {len(names)} commands, {searches} searches, {aggregates} aggregates, {differ} differ")
+    return 1 if differ else 0
+
+
+def main() -> int:
+    words = sys.argv[1:]
+    if words == ["--rows"]:
+        return compare_rows()
+    if len(words) > 2 or not all(word.isdigit() for word in words):
+        sys.exit(__doc__)
+    count, seed = [int(word) for word in words] + [100, 1][len(words):]
+    return compare_sessions(count, seed)
+
+
+sys.exit(main())
