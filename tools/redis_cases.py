@@ -274,7 +274,7 @@ def sizes():
                          command("HGETALL h"), command("HMGET h a b c"), command("HDEL h b"), command("HGETALL h")])
     for length in LENGTHS + (MOST_WORD_BYTES,):
         name = b"m" * length
-        rows.append([[b"HSET", b"h", b"a", b"1", name, b"2", b"c", b"3"], [b"HGET", b"h", name], [b"HEXISTS", b"h", name + b"m"],
+        rows.append([[b"HSET", b"h", b"a", b"1", name, b"2", b"c", b"3"], [b"HGET", b"h", name], [b"HEXISTS", b"h", name[1:]],
                      [b"HINCRBY", b"h", name, b"126"], command("HKEYS h"), [b"HDEL", b"h", b"a", name], command("HGETALL h")])
     looks = [b"\1b\1c", b"\1a\1b", b"b\1c", b"\0\0", b"\x80\1" + b"b" * 128]
     rows.append([[b"HSET", b"h", b"a"] + [looks[0], b"d", looks[1], looks[2], looks[3], looks[4], b"z"]]

@@ -73,7 +73,7 @@ class Session:
         """Fields and values in turn, of a document that has some of the fields."""
         names = [name for name in NAMES if self.draw.chance(0.5)] or [self.name()]
         self.draw.random.shuffle(names)
-        return [part for name in names for part in (name, value(self.draw, self.kinds[name]))]
+        return [part for name in names for part in (name, value(self.draw, self.kinds.get(name, "TEXT")))]
 
     def hset(self) -> list:
         pairs = many_pairs(self.draw) if self.draw.chance(0.02) else self.pairs()
