@@ -9,6 +9,7 @@ import subprocess
 import sys
 import time
 
+from plain.wire import end_of_reply
 from redis_cases import RULES, SET, Sessions, groups, request
 
 MOST_SHOWN = 120
@@ -81,22 +82,6 @@ def run(program, data):
     """The program's replies to the bytes, and its status."""
     done = subprocess.run([program, "script"], input=data, stdout=subprocess.PIPE, timeout=600)
     return done.stdout, done.returncode
-
-
-def end_of_reply(data, at):
-    """Where the reply ends that begins there."""
-    line_end = data.find(b"\r\n", at) + 2
-    if line_end < 2:
-        return len(data)
-    kind = data[at:at + 1]
-    if kind not in (b"$", b"*"):
-        return line_end
-    count = int(data[at + 1:line_end - 2])
-    if kind == b"$":
-        return line_end if count < 0 else line_end + count + 2
-    for _ in range(count):
-        line_end = end_of_reply(data, line_end)
-    return line_end
 
 
 def split_replies(data):
