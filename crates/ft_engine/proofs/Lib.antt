@@ -1,1 +1,2 @@
 pub mod EngineLaws
+mod SteppingLaws

@@ -1,3 +1,4 @@
 pub mod Preparing
 pub mod Quiet
 pub mod Stands
+pub mod Stepping

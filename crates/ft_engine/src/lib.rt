@@ -2,15 +2,20 @@
 //!
 //! The crate `ft_machine` says what a command does over plain lists. `Engine` stands for a state of that machine, and
 //! `exec` takes its step: it reads the words, gives what they ask to the call that does it, and commits what that
-//! prepared. Read `specs/Stands.antt` first, then `engine.rt`, `step.rt` and `plain.rt`.
+//! prepared. Over it `history_core::run` makes legal histories (`machine.rt`, `laws.rt`). Read `specs/Stands.antt`
+//! first, then `engine.rt`, `step.rt` and `plain.rt`.
 #![tactic(auto)]
 
 mod engine;
+mod laws;
+mod machine;
 mod plain;
 mod prepared;
 mod step;
 
 /// The state of the server, and its events.
 pub use engine::Engine;
+/// That what an engine executes is a legal history.
+pub use laws::steps_are_legal;
 /// A command that is prepared.
 pub use prepared::Prepared;

@@ -1,5 +1,5 @@
 -- How serving ends: each way to end, from what was served so far.
-use Rattle.std.proofs.Common.{◌≡◌, ℕ, ◌<◌, ◌≤◌, ◌^◌, inl, inr, Bool, true, false, cond, List, [], ◌∷◌, ◌++◌, map, length, Option, Some, None, refl, sym, ap, subst, ◌∙◌, arith, append_assoc}
+use Rattle.std.proofs.Common.{◌≡◌, ℕ, ◌<◌, ◌≤◌, ◌^◌, inl, inr, Bool, true, false, cond, List, [], ◌∷◌, ◌++◌, length, Option, Some, None, refl, sym, ap, subst, ◌∙◌, arith, append_assoc}
 use Rattle.std.proofs.lemmas.List.{append-nil, map_push}
 use Rattle.std.proofs.lemmas.List.Elements.{All-nil}
 use Rattle.std.specs.Prelude.{◌||◌}
@@ -9,7 +9,7 @@ use Rattle.fs_ports.proofs.MomentLaws.{Gives-nil}
 use Rattle.ft_base.specs.Words.{KeepsLimits, is_quit}
 use Rattle.fs_ports.specs.Causes.{Rose, WritesFront}
 use Rattle.fs_ports.specs.Moments.{Gives}
-use Rattle.ft_machine.specs.History.{Said, moments_of, replies_of, words_of}
+use Rattle.history_core.specs.Commands.{Said, moments_of, replies_of, words_of}
 use Rattle.ft_machine.specs.Machine.{empty_state}
 use Rattle.ft_engine.specs.Stands.{Stands}
 use Rattle.resp_wire.specs.Decoding.{Decoding, fed, StopsAt}

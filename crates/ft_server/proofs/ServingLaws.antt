@@ -1,5 +1,5 @@
 -- Serving goes on: by a command, or by more bytes. What was read, answered and written so far.
-use Rattle.std.proofs.Common.{◌≡◌, ℕ, ◌+◌, ◌<◌, ◌≤◌, ◌^◌, false, List, [], ◌∷◌, ◌++◌, map, length, refl, sym, ap, subst, ◌∙◌, arith, append_assoc}
+use Rattle.std.proofs.Common.{◌≡◌, ℕ, ◌+◌, ◌<◌, ◌≤◌, ◌^◌, false, List, [], ◌∷◌, ◌++◌, length, refl, sym, ap, subst, ◌∙◌, arith, append_assoc}
 use Rattle.std.proofs.lemmas.List.{append-nil, map_push, length_push, length-append}
 use Rattle.std.proofs.lemmas.List.Elements.{All-push, All-nil}
 use Rattle.std.specs.List.{All}
@@ -8,7 +8,10 @@ use Rattle.std.specs.Io.KnownBytes.{Appends, Consumes, Keeps}
 use Rattle.std.proofs.KnownBytes.{Appends-trans, Appends-nil, Appends-kept, Consumes-nil, Consumes-trans, Consumes-kept}
 use Rattle.ft_base.specs.Words.{KeepsLimits, is_quit}
 use Rattle.fs_ports.specs.Moments.{Gives}
-use Rattle.ft_machine.specs.History.{Entry, Exec, IsLegal, Said, caller_of, moments_of, own, replies_of, words_of}
+use Rattle.history_core.specs.Commands.{Said, caller_of, moments_of, own, replies_of, words_of}
+use Rattle.history_core.specs.declared.entry.Entry.{Entry}
+use Rattle.history_core.specs.declared.entry.Entry.TheVariants.{Exec}
+use Rattle.ft_machine.specs.History.{IsLegal}
 use Rattle.ft_engine.specs.Stands.{Stands, opened}
 use Rattle.resp_wire.specs.Decoding.{Decoding, fed}
 use Rattle.resp_wire.specs.declared.fault.Stop.TheVariants.{More}
@@ -18,7 +21,8 @@ use Rattle.ft_server.specs.Answer.{Answer}
 use Rattle.ft_server.specs.Reading.{Further}
 use Rattle.ft_server.specs.Session.{Answered, Outside, quits}
 use Rattle.ft_server.proofs.QuitLaws.{quits_behind}
-use Rattle.ft_machine.proofs.HistoryLaws.{IsLegal-push, own-push, replies_of-push}
+use Rattle.history_core.proofs.CommandLaws.{own-push, replies_of-push}
+use Rattle.ft_machine.proofs.HistoryLaws.{IsLegal-push}
 use Rattle.fs_ports.proofs.MomentLaws.{Gives-nil, Gives-trans}
 
 -- a stream whose first commands were taken
@@ -84,7 +88,7 @@ module _ (held later : Decoding) (engine engine' : Stands) (before now after : O
   own_more = own-push 0 answer.moment words reply going.entries ∙ ap (λ (s : List Said). s ++ one ∷ []) going.own_are
 
   legal_more : IsLegal 1 (going.entries ++ entry ∷ []) engine'.state
-  legal_more = IsLegal-push engine.next engine.state engine'.state going.entries entry going.legal going.next bound (some, limits, answer.step)
+  legal_more = IsLegal-push engine.next 0 answer.moment words reply engine.state engine'.state going.entries going.legal going.next bound some limits answer.step
 
   alone_more : All (λ (e : Entry). caller_of e ≡ 0) (going.entries ++ entry ∷ [])
   alone_more = All-push (λ (e : Entry). caller_of e ≡ 0) going.entries entry going.alone refl

@@ -7,8 +7,10 @@ use Rattle.ft_base.specs.Words.{is_quit}
 use Rattle.fs_ports.specs.declared.clock.Clock as Clock
 use Rattle.fs_ports.specs.declared.link.Link as Link
 use Rattle.fs_ports.specs.Moments.{Gives}
+use Rattle.history_core.specs.Commands.{Said, caller_of, moments_of, own, replies_of, words_of}
+use Rattle.history_core.specs.declared.entry.Entry.{Entry}
 use Rattle.ft_machine.specs.Machine.{State}
-use Rattle.ft_machine.specs.History.{Entry, IsLegal, Said, caller_of, moments_of, own, replies_of, words_of}
+use Rattle.ft_machine.specs.History.{IsLegal}
 use Rattle.resp_wire.specs.Stream.{Command, stream_of, fault_of, due}
 
 -- whether a QUIT is among the commands

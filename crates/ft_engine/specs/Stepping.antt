@@ -1,0 +1,19 @@
+-- One event of an engine, and that a history of such events is legal.
+use Rattle.std.specs.Prelude.{◌≡◌, ◌≤◌, ℕ, List, []}
+use Rattle.history_core.specs.Histories.{Leads}
+use Rattle.history_core.specs.Running.{IsStep}
+use Rattle.history_core.specs.declared.entry.Entry.{Entry}
+use Rattle.ft_machine.specs.History.{IsLegal}
+use Rattle.ft_machine.specs.Step.{Answers, last_number, next_number}
+use Rattle.ft_engine.specs.Stands.{Stands, opened}
+
+-- One event: a step of the machine of plain hashes, at the engine's number, and the next number.
+pub record Steps (old : Stands) (moment : ℕ) (words : List (List ℕ)) (reply : List ℕ) (new : Stands) : Type 0 where
+  pub answer : Answers words old.next moment old.state reply new.state
+  pub next : new.next ≡ next_number old.next
+
+-- Entries that lead from an engine that was opened at a number to another are a legal history from this number, and it leads to
+-- the other's state.
+abbrev pub StepsAreLegal : Type 0
+StepsAreLegal = (first : ℕ) (entries : List Entry) (engine : Stands)
+    → first ≤ last_number → Leads (IsStep Steps) [] (opened first) entries engine → IsLegal first entries engine.state

@@ -1,0 +1,22 @@
+//! What machines are asked and answer, and the histories that they make.
+//!
+//! A history is a list of entries, each judged with all that stand before it (`specs/Histories.antt`). `run` gives
+//! events to any machine, one after another, and its outcomes are those of such a history. Read
+//! `specs/Histories.antt` and `specs/Commands.antt` first, then `entry.rt`, `event.rt`, `machine.rt` and `runner.rt`.
+#![tactic(auto)]
+
+mod entry;
+mod event;
+mod machine;
+mod runner;
+#[cfg(test)]
+mod tests;
+
+/// What one event left in a history.
+pub use entry::Entry;
+/// What a machine is asked, and what that came to.
+pub use event::{Event, Outcome};
+/// A state that events change.
+pub use machine::Machine;
+/// Events given to a machine in order.
+pub use runner::run;
