@@ -21,6 +21,11 @@ module _ {E : Type 0} where
   pub StartsWith-append : (log seen more : List E) → StartsWith log seen → StartsWith (log ++ more) seen
   StartsWith-append log seen more s = (s.0 ++ more, ap (λ (l : List E). l ++ more) s.1 ∙ append_assoc seen s.0 more)
 
+  -- a list with no entry of anyone is empty
+  pub NoneBy-all : (by : E → ℕ) (xs : List E) → ((id : ℕ) → NoneBy by id xs) → xs ≡ []
+  NoneBy-all by [] none = refl
+  NoneBy-all by (x ∷ xs) none = absurd ((none (by x)).0 refl)
+
   module _ (by : E → ℕ) (id : ℕ) where
     pub NoneBy-append : (xs ys : List E) → NoneBy by id xs → NoneBy by id ys → NoneBy by id (xs ++ ys)
     NoneBy-append [] ys a b = b

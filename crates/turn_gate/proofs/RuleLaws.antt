@@ -11,9 +11,9 @@ use Rattle.atomic_table.proofs.Lists.{set_again, set_here, set_else, at_longer}
 use Rattle.turn_gate.specs.Log.{NoneBy, AllBy}
 use Rattle.turn_gate.specs.Rule.{Sees, Kept}
 use Rattle.turn_gate.specs.Steps.{tried, logged, gave_back, counted, compared, checked}
-use Rattle.turn_gate.specs.Views.{newcomer, another, in_turn_with, with_entries, out_of_turn, with_passes, joined, nobody}
+use Rattle.turn_gate.specs.Views.{newcomer, not_alone, another, in_turn_with, with_entries, out_of_turn, with_passes, joined, nobody}
 use Rattle.turn_gate.specs.declared.view.View.{View}
-use Rattle.turn_gate.proofs.LogLaws.{goes_from, StartsWith-append, NoneBy-end, NoneBy-append, NoneBy-other, OthersSince-append, each_set, inside, snoc_at}
+use Rattle.turn_gate.proofs.LogLaws.{goes_from, StartsWith-append, NoneBy-all, NoneBy-end, NoneBy-append, NoneBy-other, OthersSince-append, each_set, inside, snoc_at}
 
 false_true : false ≡ true → ⊥
 false_true e = subst (λ (b : Bool). cond b ⊥ (Unit {0})) e tt
@@ -41,6 +41,25 @@ module _ {E S : Type 0} (by : E → ℕ) (tells : S → List E → ℕ → Type 
       (subst (λ n. w.passes ≤ n) (sym (length-set views id w)) few)
       (λ j u _ at. subst (λ n. u.passes ≤ n) (sym (length-set views id w)) (all j u at))
 
+  -- a pass that knows itself alone is the only one, once one of them has another view
+  alone_set : (views : Views) (id : ℕ) (w : View E) → (w.alone ≡ true → length views ≡ 1)
+      → ((j : ℕ) (u : View E) → get_elem? views j ≡ some u → u.alone ≡ true → length views ≡ 1)
+      → (j : ℕ) (u : View E) → get_elem? (set views id w) j ≡ some u → u.alone ≡ true → length (set views id w) ≡ 1
+  alone_set views id w this all =
+      each_set (λ j u. u.alone ≡ true → length (set views id w) ≡ 1) views id w
+      (λ is. length-set views id w ∙ this is)
+      (λ j u _ at is. length-set views id w ∙ all j u at is)
+
+  -- a pass that is alone has seen the whole log
+  all_seen : (s : State (Option S) (View E)) (id : ℕ) (v : View E) → get_elem? s.views id ≡ some v → v.spent ≡ false → v.alone ≡ true
+      → (k : Rule s) → k.log ≡ v.seen
+  all_seen s id v me live is k =
+      let since = (k.sees id v me live).since in
+      let none : (j : ℕ) → NoneBy by j since.0 =
+      λ j. dite (ℕ_discrete j id) (λ e. subst (λ (n : ℕ). NoneBy by n since.0) (sym e) since.2)
+      (λ ne. NoneBy-end by j v.seen since.0 (subst (NoneBy by j) since.1 (k.unmade j (omega (arith, ne, inside s.views id v me, k.alone id v me is))))) in
+      since.1 ∙ (ap (λ (l : List E). v.seen ++ l) (NoneBy-all by since.0 none) ∙ append-nil v.seen)
+
   -- a pass that isn't in turn is not the one that is
   apart_from : (views : Views) (i j : ℕ) (x y : View E) → get_elem? views i ≡ some x → get_elem? views j ≡ some y
       → x.in_turn ≡ true → y.in_turn ≡ false → i ≡ j → ⊥
@@ -65,6 +84,7 @@ module _ {E S : Type 0} (by : E → ℕ) (tells : S → List E → ℕ → Type 
         free = λ _. (state, refl, ok);
         unmade = λ j _. tt;
         passes = λ j u at. subst (λ (v : View E). v.passes ≤ 1) (only j u at).1 (omega arith);
+        alone = λ j u at is. refl;
       }
 
   -- a step that changes nothing
@@ -82,6 +102,7 @@ module _ {E S : Type 0} (by : E → ℕ) (tells : S → List E → ℕ → Type 
         free = k.free;
         unmade = λ j l. k.unmade j (subst (λ (n : ℕ). n ≤ j) (length-set s.views id v) l);
         passes = passes_set s.views id v (k.passes id v me) k.passes;
+        alone = alone_set s.views id v (k.alone id v me) k.alone;
       }
 
   -- a turn begins where none was under way
@@ -109,8 +130,9 @@ module _ {E S : Type 0} (by : E → ℕ) (tells : S → List E → ℕ → Type 
           free = λ e. absurd (omega arith);
           unmade = λ j l. k.unmade j (subst (λ (n : ℕ). n ≤ j) (length-set s.views id w) l);
           passes = passes_set s.views id w (k.passes id v me) k.passes;
+          alone = alone_set s.views id w (k.alone id v me) k.alone;
         },
-        ((λ _. (t.0, k.log, refl, refl, sees.since, subst (tells t.0 k.log) (sym sees.same_first) t.2)), λ other. absurd (other zero-found)),
+        ((λ _. (t.0, k.log, refl, refl, sees.since, (λ is. all_seen s id v me live is k), subst (tells t.0 k.log) (sym sees.same_first) t.2)), λ other. absurd (other zero-found)),
       ))
       (λ held.
       let b = k.busy (λ none. held (word ∙ none)) in
@@ -161,6 +183,7 @@ module _ {E S : Type 0} (by : E → ℕ) (tells : S → List E → ℕ → Type 
           unmade = λ j l. let far = subst (λ (x : ℕ). x ≤ j) (length-set s.views id w) l in
               NoneBy-append by j k.log es (k.unmade j far) (NoneBy-other by j id (λ e. omega (arith, inside s.views id v me)) es all);
           passes = passes_set s.views id w (k.passes id v me) k.passes;
+          alone = alone_set s.views id w (k.alone id v me) k.alone;
         },
         (refl, refl),
       )
@@ -192,6 +215,7 @@ module _ {E S : Type 0} (by : E → ℕ) (tells : S → List E → ℕ → Type 
           );
           unmade = λ j l. k.unmade j (subst (λ (n : ℕ). n ≤ j) (length-set s.views id w) l);
           passes = passes_set s.views id w (k.passes id v me) k.passes;
+          alone = alone_set s.views id w (k.alone id v me) k.alone;
         },
         (refl, refl),
       )
@@ -217,6 +241,7 @@ module _ {E S : Type 0} (by : E → ℕ) (tells : S → List E → ℕ → Type 
           free = k.free;
           unmade = λ j l. k.unmade j (subst (λ (n : ℕ). n ≤ j) (length-set s.views id w) l);
           passes = passes_set s.views id w (omega arith) k.passes;
+          alone = alone_set s.views id w (k.alone id v me) k.alone;
         },
         (refl, inside s.views id v me),
       )
@@ -234,21 +259,23 @@ module _ {E S : Type 0} (by : E → ℕ) (tells : S → List E → ℕ → Type 
       let t = goes_from v.told v.seen sees.told.0 sees.since.0 (sym sees.told.1 ∙ sees.since.1) short in
       (v, keeps, tt, keeps_all s id v me k, (refl, (t.0, t.1)))
 
-  -- a new pass has seen as much
-  pub splits : (id : ℕ) (v : View E) → v.spent ≡ false → Splits Rule id v v (another v)
-  splits id v live s k me =
+  -- a new pass has seen as much, and the old one is alone no more
+  pub splits : (id : ℕ) (v : View E) → v.spent ≡ false → v.in_turn ≡ false → Splits Rule id v (not_alone v) (another v)
+  splits id v live idle s k me =
       let sees = k.sees id v me live in
-      let vs = set s.views id v in
-      let same = set_again s.views id v me in
-      let long : length vs ≡ length s.views = length-set s.views id v in
+      let w : View E = not_alone v in
+      let vs = set s.views id w in
+      let long : length vs ≡ length s.views = length-set s.views id w in
       let more : length (vs ++ another v ∷ []) ≡ length s.views + 1 = omega (arith, long, length-append vs (another v ∷ [])) in
-      let old : (j : ℕ) (u : View E) → get_elem? vs j ≡ some u → get_elem? s.views j ≡ some u = λ j u. subst (λ (l : Views). get_elem? l j ≡ some u) same in
       record {
         log = k.log;
         holder = k.holder;
         turn = k.turn;
         words = k.words;
-        sees = λ j u at. ⊎_elim (λ (there : get_elem? vs j ≡ some u). k.sees j u (old j u there))
+        sees = λ j u at. ⊎_elim
+            (each_set (SeesLog k.log) s.views id w
+            (λ _. record { since = sees.since; told = sees.told; same_first = sees.same_first; before = sees.before })
+            (λ j u _ at. k.sees j u at) j u)
             (λ (t : (j ≡ length vs) × (another v ≡ u)). λ _. subst (Sees by first k.log j) t.1 record {
               since = (
                 sees.since.0,
@@ -259,15 +286,26 @@ module _ {E S : Type 0} (by : E → ℕ) (tells : S → List E → ℕ → Type 
               same_first = sees.same_first;
               before = omega (arith, k.passes id v me, t.0, long);
             }) (snoc_at vs (another v) u j at);
-        in_turn = λ j u at is. ⊎_elim (λ (there : get_elem? vs j ≡ some u). k.in_turn j u (old j u there) is)
-            (λ (t : (j ≡ length vs) × (another v ≡ u)). absurd (false_true (ap (λ (x : View E). x.in_turn) t.1 ∙ is))) (snoc_at vs (another v) u j at);
-        busy = λ ne. let b = k.busy ne in
-            (b.0, at_longer vs (another v ∷ []) k.holder b.0 (subst (λ (l : Views). get_elem? l k.holder ≡ some b.0) (sym same) b.1), b.2);
+        in_turn = λ j u at. ⊎_elim
+            (each_set (HasTurn k.log k.holder k.turn) s.views id w (λ is. absurd (false_true (sym idle ∙ is))) (λ j u _ at. k.in_turn j u at) j u)
+            (λ (t : (j ≡ length vs) × (another v ≡ u)). λ is. absurd (false_true (ap (λ (x : View E). x.in_turn) t.1 ∙ is))) (snoc_at vs (another v) u j at);
+        busy = λ ne. let b = k.busy ne in (
+          b.0,
+          at_longer vs (another v ∷ []) k.holder b.0
+              (set_else s.views id k.holder w (λ e. apart_from s.views k.holder id b.0 v b.1 me b.2 idle e) ∙ b.1),
+          b.2,
+        );
         free = k.free;
         unmade = λ j l. k.unmade j (omega (arith, l, more));
-        passes = λ j u at. ⊎_elim (λ (there : get_elem? vs j ≡ some u). omega (arith, k.passes j u (old j u there), more))
+        passes = λ j u at. ⊎_elim
+            (λ (there : get_elem? vs j ≡ some u). omega (arith, passes_set s.views id w (k.passes id v me) k.passes j u there, long, more))
             (λ (t : (j ≡ length vs) × (another v ≡ u)). subst (λ (x : View E). x.passes ≤ length (vs ++ another v ∷ [])) t.1 (omega arith))
             (snoc_at vs (another v) u j at);
+        alone = λ j u at is. absurd (⊎_elim
+            (λ (there : get_elem? vs j ≡ some u). each_set (λ j u. u.alone ≡ true → ⊥) s.views id w false_true
+            (λ j u ne at is. ne (omega (arith, k.alone j u at is, inside s.views j u at, inside s.views id v me))) j u there is)
+            (λ (t : (j ≡ length vs) × (another v ≡ u)). false_true (ap (λ (x : View E). x.alone) t.1 ∙ is))
+            (snoc_at vs (another v) u j at));
       }
 
   -- what a joined pass knows, by which of the two lists is the longer
@@ -309,4 +347,5 @@ module _ {E S : Type 0} (by : E → ℕ) (tells : S → List E → ℕ → Type 
         free = k.free;
         unmade = λ j l. k.unmade j (omega (arith, l, length-set vs other nobody, length-set s.views id b));
         passes = passes_set vs other nobody (omega arith) (passes_set s.views id b (k.passes id v me) k.passes);
+        alone = alone_set vs other nobody (λ no. absurd (false_true no)) (alone_set s.views id b (k.alone id v me) k.alone);
       }

@@ -40,3 +40,5 @@ module _ {E : Type 0} (by : E → ℕ) where
     -- a number that no pass has yet has no entry, and no pass counts it among those that were made
     pub unmade : (id : ℕ) → length s.views ≤ id → NoneBy by id log
     pub passes : (id : ℕ) (v : View E) → get_elem? s.views id ≡ some v → v.passes ≤ length s.views
+    -- a pass that knows itself alone is the only one that was ever made, so each entry is of its number
+    pub alone : (id : ℕ) (v : View E) → get_elem? s.views id ≡ some v → v.alone ≡ true → length s.views ≡ 1

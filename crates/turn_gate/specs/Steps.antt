@@ -1,5 +1,5 @@
 -- What each step of the turn lock tells: of the seat before it, the number that it found, and the seat after it.
-use Rattle.std.specs.Prelude.{◌≡◌, ◌≢◌, ℕ, ◌<◌, ◌≤◌, List, [], ◌∷◌, Option, Some}
+use Rattle.std.specs.Prelude.{◌≡◌, ◌≢◌, ℕ, ◌<◌, ◌≤◌, true, List, [], ◌∷◌, Option, Some}
 use Rattle.atomic_table.specs.Table.{Me, Step}
 use Rattle.turn_gate.specs.declared.view.View.{View}
 use Rattle.turn_gate.specs.Log.{StartsWith, OthersSince}
@@ -10,11 +10,12 @@ abbrev pub Seat : Type 0 → Type 0 → Type 0
 Seat S E = Me (Option S) (View E)
 
 module _ {E S : Type 0} where
-  -- a turn began: the log is what was seen and then entries of others, and the state that is taken stands for it
+  -- a turn began: the log is what was seen and then entries of others, of which there are none where the pass is alone,
+  -- and the state that is taken stands for it
   abbrev pub Entered : (E → ℕ) → (S → List E → ℕ → Type 0) → ℕ → Seat S E → Seat S E → Type 0
   Entered by tells caller m n =
       (state : S) × (log : List E) × (n.0 ≡ in_turn_with m.0 log) × (n.1 ≡ (0, Some state) ∷ m.1)
-      × OthersSince by caller m.0.seen log × tells state log m.0.first
+      × OthersSince by caller m.0.seen log × (m.0.alone ≡ true → log ≡ m.0.seen) × tells state log m.0.first
 
   -- it began where the word was 0, and else nothing changed
   abbrev pub tried :

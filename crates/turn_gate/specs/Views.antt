@@ -4,7 +4,7 @@ use Rattle.turn_gate.specs.Log.{longer, shorter}
 use Rattle.turn_gate.specs.declared.view.View.{View}
 
 module _ {E : Type 0} where
-  -- the first pass has seen nothing
+  -- the first pass has seen nothing, and is alone
   abbrev pub newcomer : ℕ → View E
   newcomer first = record {
     seen = [];
@@ -13,9 +13,14 @@ module _ {E : Type 0} where
     first = first;
     passes = 0;
     before = 0;
+    alone = true;
     in_turn = false;
     spent = false;
   }
+
+  -- a pass that another was split from is alone no more
+  abbrev pub not_alone : View E → View E
+  not_alone v = record v { alone = false }
 
   -- a new pass has seen as much, has taken no turn, and comes behind all passes that the old one knew of
   abbrev pub another : View E → View E
@@ -26,6 +31,7 @@ module _ {E : Type 0} where
     first = v.first;
     passes = 0;
     before = v.passes;
+    alone = false;
     in_turn = false;
     spent = false;
   }
@@ -59,6 +65,7 @@ module _ {E : Type 0} where
     first = 0;
     passes = 0;
     before = 0;
+    alone = false;
     in_turn = false;
     spent = true;
   }

@@ -1,5 +1,5 @@
 //! The lock: how a pass enters a turn and leaves it, and how passes are split and joined.
-ghost use Rattle.std.specs.Prelude.{◌≡◌, ◌+◌, ◌<◌, [], ◌++◌, IfOk};
+ghost use Rattle.std.specs.Prelude.{◌≡◌, ◌+◌, ◌<◌, true, false, [], ◌++◌, IfOk};
 ghost use Rattle.turn_gate.specs.Log.{StartsWith, OthersSince, longer};
 
 use crate::chronicle::{Chronicle, Told};
@@ -37,13 +37,15 @@ impl<S: Chronicle> Model for Gate<S> {
 }
 
 impl<S: Chronicle + Drop> Gate<S> {
-    /// A gate round a state that stands for no entry, and its first pass. When out of memory the state is dropped.
+    /// A gate round a state that stands for no entry, and its first pass, which is alone. When out of memory the state
+    /// is dropped.
     ///
     /// No other call takes memory.
     pub fn open(alloc: Global, state: S) -> Result<(Gate<S>, Pass<S>), NoMemory>
         requires empty { S.tells state [] (S.first state) }
         ensures gate { IfOk result (λ r. (r.0.first ≡ S.first state) × (r.1.gate ≡ r.0)) }
-        ensures pass { IfOk result (λ r. (r.1.seen ≡ []) × (r.1.turns ≡ 0)) }
+        ensures pass { IfOk result (λ r. (r.1.seen ≡ []) × (r.1.turns ≡ 0) × (r.1.alone ≡ true)
+            × (r.1.caller ≡ 0)) }
     {
         let first = state.first_number();
         let mut slots = Vec::with_capacity(alloc, 1)?;
@@ -56,12 +58,15 @@ impl<S: Chronicle + Drop> Gate<S> {
 
     /// Waits for a turn and begins it.
     ///
-    /// The turn's log begins with what the pass had seen and goes on with entries of others. The state stands for it.
+    /// The turn's log begins with what the pass had seen and goes on with entries of others, of which there are none
+    /// while the pass is alone. The state stands for it.
     pub fn enter<R: Wait>(&self, rt: &R, pass: Pass<S>) -> Turn<S>
         requires gate { pass.gate ≡ self.now }
-        ensures same { (result.gate ≡ pass.gate) × (result.caller ≡ pass.caller) }
+        ensures same { (result.gate ≡ pass.gate) × (result.caller ≡ pass.caller)
+            × (result.alone ≡ pass.alone) }
         ensures turns { result.turns ≡ pass.turns + 1 }
         ensures log { OthersSince S.Entry.caller pass.caller pass.seen result.seen }
+        ensures alone { pass.alone ≡ true → result.seen ≡ pass.seen }
         ensures state { S.tells result.state result.seen pass.gate.first }
     {
         let Pass { mut seat } = pass;
@@ -86,7 +91,7 @@ impl<S: Chronicle + Drop> Gate<S> {
         requires state { S.tells turn.state
             (turn.seen ++ T.entries told.now turn.caller turn.gate.first turn.seen) turn.gate.first }
         ensures same { (result.gate ≡ turn.gate) × (result.caller ≡ turn.caller)
-            × (result.turns ≡ turn.turns) }
+            × (result.turns ≡ turn.turns) × (result.alone ≡ turn.alone) }
         ensures log { result.seen ≡ turn.seen ++ T.entries told.now turn.caller turn.gate.first turn.seen }
     {
         let Turn { mut seat, state } = turn;
@@ -97,11 +102,13 @@ impl<S: Chronicle + Drop> Gate<S> {
         Pass { seat }
     }
 
-    /// A new pass, which has seen as much, has taken no turn and has a caller's number of its own.
+    /// A new pass, which has seen as much, has taken no turn and has a caller's number of its own. From then on neither
+    /// is alone.
     pub fn split(&self, pass: &mut Pass<S>) -> Pass<S>
         requires gate { pass.old.gate ≡ self.now }
-        ensures same { pass.new ≡ pass.old }
-        ensures new { (result.gate ≡ pass.old.gate) × (result.seen ≡ pass.old.seen) × (result.turns ≡ 0) }
+        ensures same { pass.new ≡ record pass.old { alone = false } }
+        ensures new { (result.gate ≡ pass.old.gate) × (result.seen ≡ pass.old.seen) × (result.turns ≡ 0)
+            × (result.alone ≡ false) }
         ensures own { pass.old.caller < result.caller }
     {
         let shared = &self.table.shared;
@@ -115,7 +122,7 @@ impl<S: Chronicle + Drop> Gate<S> {
     pub fn join(&self, pass: &mut Pass<S>, other: Pass<S>)
         requires gate { (pass.old.gate ≡ self.now) × (other.gate ≡ self.now) }
         ensures same { (pass.new.gate ≡ pass.old.gate) × (pass.new.caller ≡ pass.old.caller)
-            × (pass.new.turns ≡ pass.old.turns) }
+            × (pass.new.turns ≡ pass.old.turns) × (pass.new.alone ≡ pass.old.alone) }
         ensures log { pass.new.seen ≡ longer pass.old.seen other.seen }
         ensures both { StartsWith pass.new.seen pass.old.seen × StartsWith pass.new.seen other.seen }
     {

@@ -23,6 +23,7 @@ impl<S: Chronicle> Model for Pass<S> {
       caller = p.seat.id;
       seen = p.seat.me.0.seen;
       turns = p.seat.me.0.turns;
+      alone = p.seat.me.0.alone;
     } };
 
     ghost invariant = { λ p. (p.seat.me.0.in_turn ≡ false) × (p.seat.me.0.spent ≡ false)

@@ -102,9 +102,9 @@ impl<E, S> Play<Option<S>, View<E>> for Check {
 pub struct Passes;
 
 impl<E> Split<View<E>> for Passes {
-    ghost use Rattle.turn_gate.specs.Views.{another};
+    ghost use Rattle.turn_gate.specs.Views.{not_alone, another};
 
-    ghost left = { λ v. v };
+    ghost left = { not_alone };
 
     ghost right = { another };
 }

@@ -21,6 +21,7 @@ impl<S: Chronicle> Model for Turn<S> {
       caller = t.seat.id;
       seen = t.seat.me.0.seen;
       turns = t.seat.me.0.turns;
+      alone = t.seat.me.0.alone;
       state = t.state;
     } };
 

@@ -15,6 +15,8 @@ pub struct View<E> {
     pub passes: u64,
     /// How many of them it knows to have been made before it.
     pub before: u64,
+    /// Whether it knows that no other pass was made.
+    pub alone: bool,
     /// Whether a turn of its own is under way.
     pub in_turn: bool,
     /// Whether it was joined to another pass.
