@@ -1,3 +1,4 @@
 pub mod ReachLaws
 pub mod FoundLaws
 pub mod HalvingLaws
+pub mod LeapLaws

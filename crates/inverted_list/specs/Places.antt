@@ -1,5 +1,5 @@
 -- Where a place stands in a list, and what a reader finds from it.
-use Rattle.std.specs.Prelude.{◌≡◌, ◌<◌, ℕ, List, Option, map, find, count_by, nat_le}
+use Rattle.std.specs.Prelude.{◌≡◌, ◌<◌, ◌&&◌, ℕ, List, Option, map, find, count_by, nat_le, nat_lt}
 use Rattle.inverted_list.specs.declared.place.Place.{Place}
 use Rattle.inverted_list.specs.Listing.{Listing}
 
@@ -10,6 +10,10 @@ ids entries = map (λ e. e.0) entries
 -- how many entries have an id of at most `after`
 abbrev pub reach : {P : Type 0} → ℕ → List (ℕ × P) → ℕ
 reach after entries = count_by (λ e. nat_le e.0 after) entries
+
+-- how many entries have an id above `after` and below `from`
+abbrev pub between : {P : Type 0} → ℕ → ℕ → List (ℕ × P) → ℕ
+between after from entries = count_by (λ e. nat_lt after e.0 && nat_lt e.0 from) entries
 
 -- the first entry's id that is at least `from`
 abbrev pub least : {P : Type 0} → ℕ → List (ℕ × P) → Option ℕ

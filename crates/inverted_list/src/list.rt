@@ -1,12 +1,12 @@
 //! A posting list: ids that rise, each with its hit.
 ghost use Rattle.std.specs.Prelude.{◌≡◌, ◌<◌, ◌≤◌, ◌+◌, ◌-◌, ◌*◌, ◌^◌, ◌==◌, [], ◌∷◌, ◌++◌, IfOk, IfSome, IsSome, OnOk, OnErr, Some, length, unwrap_or};
 ghost use Rattle.inverted_list.specs.Listing.{Listing, RisesAbove, last_id, with_entry, hit_of};
-ghost use Rattle.inverted_list.specs.Places.{IsSound, Fits, KeepsPlaces, least, reach};
+ghost use Rattle.inverted_list.specs.Places.{IsSound, Fits, KeepsPlaces, between, least, reach};
 
 use crate::marker::Marker;
 use crate::place::Place;
-use crate::search::reach_from;
-use ft_base::{NoMemory, Steps};
+use crate::search::{reach_from, reach_in};
+use ft_base::{NoMemory, Span, Steps};
 use posting_block::Payload;
 use std::alloc::Global;
 use std::marker::Model;
@@ -83,10 +83,15 @@ impl<P: Payload> List<P> {
                 return place;
             }
         }
+        let entries = self.entries.as_slice();
+        let all = Span {
+            from: 0,
+            to: entries.len(),
+        };
         Place {
             marker: self.marker,
             block: 0,
-            at: reach_from(self.entries.as_slice(), 0, after, steps),
+            at: reach_in(entries, all, after, steps),
             last: after,
         }
     }
@@ -94,7 +99,8 @@ impl<P: Payload> List<P> {
     /// How many entries are known to have ids of at most the place's `last`.
     fn known(&self, place: &Place) -> usize
         requires { IsSound place.now self.now }
-        ensures { result ≤ reach place.now.last self.now.entries }
+        ensures most { result ≤ reach place.now.last self.now.entries }
+        ensures here { place.now.marker ≡ self.now.marker → result ≡ reach place.now.last self.now.entries }
     {
         if place.marker == self.marker {
             place.at
@@ -104,7 +110,7 @@ impl<P: Payload> List<P> {
     }
 
     /// The least id of an entry from `from` on. The place then stands behind that entry. A step is
-    /// an entry that is looked at.
+    /// an entry that is looked at: one where no entry is passed over, and few where few are.
     pub fn seek<L: Ledger>(&self, place: &mut Place, from: u64, steps: &mut Steps<L>) -> Option<u64>
         requires sound { IsSound place.old self.now }
         requires ahead { place.old.last < from }
@@ -113,8 +119,12 @@ impl<P: Payload> List<P> {
         ensures sound { IsSound place.new self.now }
         ensures last { place.new.last ≡ unwrap_or result (from - 1) }
         ensures entry { IfSome result (λ id. IsSome (hit_of id self.now)) }
+
+        // What it costs to pass over entries: from a place of this list, and from any place.
         ensures counts { steps.old ≤ steps.new }
-        ensures cost { 2 ^ (steps.new - steps.old) ≤ 2 * length self.now.entries + 1 }
+        ensures cost { place.old.marker ≡ self.now.marker
+            → 2 ^ (steps.new - steps.old) ≤ 2 * (between place.old.last from self.now.entries + 1) ^ 2 }
+        ensures anew { 2 ^ (steps.new - steps.old) ≤ 2 * (between 0 from self.now.entries + 1) ^ 2 }
     {
         let entries = self.entries.as_slice();
         let at = reach_from(entries, self.known(place), from - 1, steps);

@@ -1,32 +1,12 @@
-use Rattle.std.proofs.Common.{arith, ◌+◌, ◌-◌, ◌/◌, ◌<◌, length}
-use Rattle.inverted_list.proofs.ReachLaws.{reach_over, reach_under}
-use Rattle.inverted_list.proofs.HalvingLaws.{halved_step}
+use Rattle.std.proofs.Common.{arith, ◌-◌}
+use Rattle.inverted_list.proofs.LeapLaws.{leapt}
 use Rattle.inverted_list.proofs.search.reach_from.Goals as goal
 
-pub halving-preserved-then-entries-middle : goal.halving-preserved-then-entries-middle
-halving-preserved-then-entries-middle g c =
-    let es = c.args.entries.now in
-    let half = c.halving.low + (c.halving.high - c.halving.low) / 2 in
-    let within : half < length es = omega (arith, c.halving-test.true, c.halving.invariant.within) in
-    record {
-      low = reach_over c.args.after es half c.index-entries-middle.result c.requires.rises within c.if-entries-middle.true;
-      high = c.halving.invariant.high;
-      within = c.halving.invariant.within;
-      counts = omega (arith, c.tick.ensures, c.halving.invariant.counts);
-      halved = halved_step c.args.steps.now c.halving.steps c.tick.new.self (c.halving.high - c.halving.low) (c.halving.high - (half + 1)) (length es)
-          c.tick.ensures c.halving.invariant.counts (omega (arith, c.halving-test.true)) (omega (arith, c.halving-test.true)) c.halving.invariant.halved;
-    }
-
-pub halving-preserved : goal.halving-preserved
-halving-preserved g c =
-    let es = c.args.entries.now in
-    let half = c.halving.low + (c.halving.high - c.halving.low) / 2 in
-    let within : half < length es = omega (arith, c.halving-test.true, c.halving.invariant.within) in
-    record {
-      low = c.halving.invariant.low;
-      high = reach_under c.args.after es half c.index-entries-middle.result c.requires.rises within c.if-entries-middle.false;
-      within = omega (arith, within);
-      counts = omega (arith, c.tick.ensures, c.halving.invariant.counts);
-      halved = halved_step c.args.steps.now c.halving.steps c.tick.new.self (c.halving.high - c.halving.low) (half - c.halving.low) (length es)
-          c.tick.ensures c.halving.invariant.counts (omega (arith, c.halving-test.true)) (omega (arith, c.halving-test.true)) c.halving.invariant.halved;
-    }
+pub returns-clause-cost : goal.returns-clause-cost
+returns-clause-cost g c =
+    let span = c.leap-span.result in
+    let leaps = c.leap-span.ensures.cost in
+    leapt leaps.0 c.args.steps.now c.leap-span.new.steps c.reach_in.new.steps
+    (span.to - span.from) (span.from - c.args.from) (c.reach_in.result - c.args.from)
+    leaps.1 leaps.2 c.reach_in.ensures.counts c.reach_in.ensures.cost c.leap-span.ensures.width
+    (omega (arith, c.leap-span.ensures.low, c.reach_in.ensures.reach))
