@@ -6,16 +6,17 @@ ghost use Rattle.ft_base.specs.Rows.{live_rows, Below};
 ghost use Rattle.hash_store.specs.Rows.{doc_in};
 ghost use Rattle.hash_store.specs.Keys.{row_at, row_for, has_key, id_at, SetsRow, Releases, ReleasesKeyOf};
 
-use crate::by_id::{DocRows, take_out};
+use crate::by_id::take_out;
 use crate::by_key::{KeyIds, drop_row, id_of, make_row, release, set_id};
+use crate::doc_rows::DocRows;
 use ft_base::{Doc, NoMemory};
 use std::alloc::Global;
 
 /// The document that the key leads to.
 pub fn doc_of<'a>(ids: &KeyIds, docs: &'a DocRows, key: &[u8]) -> Option<&'a Doc>
-    ensures { option_copied result ≡ doc_in (id_at ids.now.entries key.now) docs.now.entries }
+    ensures { option_copied result ≡ doc_in (id_at ids.now.entries key.now) docs.now }
 {
-    docs.get(&id_of(ids, key)?)
+    docs.get(id_of(ids, key)?)
 }
 
 /// Makes the rows of a document, whose id is above all others.
@@ -25,14 +26,14 @@ pub fn add_rows(
     docs: &mut DocRows,
     doc: Doc,
 ) -> Result<(), NoMemory>
-    requires above { Below doc.id docs.old.entries }
-    ensures docs { OnOk result (docs.new.entries ≡ docs.old.entries ++ (doc.id, doc) ∷ []) }
+    requires above { Below doc.id docs.old }
+    ensures docs { OnOk result (docs.new ≡ docs.old ++ (doc.id, doc) ∷ []) }
     ensures ids { OnOk result (SetsRow doc.key (Some (id_at ids.old.entries doc.key)) ids.old.entries ids.new.entries) }
-    ensures err_docs { OnErr result (docs.new.entries ≡ docs.old.entries) }
+    ensures err_docs { OnErr result (docs.new ≡ docs.old) }
     ensures err_ids { OnErr result (ids.new.entries ≡ ids.old.entries) }
 {
     let id = doc.id;
-    docs.insert(id, doc)?;
+    docs.push(doc)?;
     match add_key(alloc, ids, docs, id) {
         Ok(()) => Ok(()),
         Err(full) => {
@@ -44,18 +45,18 @@ pub fn add_rows(
 
 // Takes the document of an id off again.
 fn take_off(docs: &mut DocRows, id: u64)
-    ensures { docs.new.entries ≡ remove_entry (nat_eq id) docs.old.entries }
+    ensures { docs.new ≡ remove_entry (nat_eq id) docs.old }
 {
-    docs.remove(&id);
+    docs.remove(id);
 }
 
 // Sees to it that the key of the document has a row.
 fn add_key(alloc: Global, ids: &mut KeyIds, docs: &DocRows, id: u64) -> Result<(), NoMemory>
-    ensures ok { OnOk result (IfSome (lookup (nat_eq id) docs.now.entries)
+    ensures ok { OnOk result (IfSome (lookup (nat_eq id) docs.now)
         (λ doc. SetsRow doc.key (Some (id_at ids.old.entries doc.key)) ids.old.entries ids.new.entries)) }
     ensures err { OnErr result (ids.new.entries ≡ ids.old.entries) }
 {
-    match docs.get(&id) {
+    match docs.get(id) {
         Some(doc) => make_row(alloc, ids, doc.key.as_slice()),
         None => Ok(()),
     }
@@ -64,9 +65,9 @@ fn add_key(alloc: Global, ids: &mut KeyIds, docs: &DocRows, id: u64) -> Result<(
 /// Takes the rows of the document that waited out, but for its key's where that leads to a document
 /// or is the key of the one that is kept.
 pub fn drop_waiting(ids: &mut KeyIds, docs: &mut DocRows, pending: Option<u64>, kept: u64)
-    ensures docs { docs.new.entries ≡ live_rows pending docs.old.entries }
-    ensures ids { IfSome (lookup (nat_eq kept) docs.new.entries)
-        (λ doc. ReleasesKeyOf (doc_in pending docs.old.entries) doc.key ids.old.entries ids.new.entries) }
+    ensures docs { docs.new ≡ live_rows pending docs.old }
+    ensures ids { IfSome (lookup (nat_eq kept) docs.new)
+        (λ doc. ReleasesKeyOf (doc_in pending docs.old) doc.key ids.old.entries ids.new.entries) }
 {
     if let Some(old) = take_out(docs, pending) {
         release_for(ids, docs, old.key.as_slice(), kept);
@@ -74,22 +75,22 @@ pub fn drop_waiting(ids: &mut KeyIds, docs: &mut DocRows, pending: Option<u64>, 
 }
 
 fn release_for(ids: &mut KeyIds, docs: &DocRows, key: &[u8], kept: u64)
-    ensures { IfSome (lookup (nat_eq kept) docs.now.entries)
+    ensures { IfSome (lookup (nat_eq kept) docs.now)
         (λ doc. Releases key.now doc.key ids.old.entries ids.new.entries) }
 {
-    if let Some(doc) = docs.get(&kept) {
+    if let Some(doc) = docs.get(kept) {
         release(ids, key, doc.key.as_slice());
     }
 }
 
 /// Lets the key of the document lead to it, and answers where it led before.
 pub fn lead_to(ids: &mut KeyIds, docs: &DocRows, id: u64) -> Option<u64>
-    requires row { IfSome (lookup (nat_eq id) docs.now.entries) (λ doc. IsSome (row_at ids.old.entries doc.key)) }
-    ensures was { IfSome (lookup (nat_eq id) docs.now.entries) (λ doc. result ≡ id_at ids.old.entries doc.key) }
-    ensures leads { IfSome (lookup (nat_eq id) docs.now.entries)
+    requires row { IfSome (lookup (nat_eq id) docs.now) (λ doc. IsSome (row_at ids.old.entries doc.key)) }
+    ensures was { IfSome (lookup (nat_eq id) docs.now) (λ doc. result ≡ id_at ids.old.entries doc.key) }
+    ensures leads { IfSome (lookup (nat_eq id) docs.now)
         (λ doc. SetsRow doc.key (Some (Some id)) ids.old.entries ids.new.entries) }
 {
-    let Some(doc) = docs.get(&id) else {
+    let Some(doc) = docs.get(id) else {
         return None;
     };
     let old = id_of(ids, doc.key.as_slice());
@@ -100,7 +101,7 @@ pub fn lead_to(ids: &mut KeyIds, docs: &DocRows, id: u64) -> Option<u64>
 /// Lets a key that has a row lead nowhere. The row stays where the document that waits has the key.
 pub fn lead_nowhere(ids: &mut KeyIds, docs: &DocRows, pending: Option<u64>, key: &[u8])
     requires row { IsSome (row_at ids.old.entries key.now) }
-    ensures { SetsRow key.now (row_for None (doc_in pending docs.now.entries) key.now) ids.old.entries ids.new.entries }
+    ensures { SetsRow key.now (row_for None (doc_in pending docs.now) key.now) ids.old.entries ids.new.entries }
 {
     if is_waiting(docs, pending, key) {
         set_id(ids, key, None);
@@ -111,12 +112,12 @@ pub fn lead_nowhere(ids: &mut KeyIds, docs: &DocRows, pending: Option<u64>, key:
 
 // Whether the document that waits has the key.
 fn is_waiting(docs: &DocRows, pending: Option<u64>, key: &[u8]) -> bool
-    ensures { result ≡ has_key (doc_in pending docs.now.entries) key.now }
+    ensures { result ≡ has_key (doc_in pending docs.now) key.now }
 {
     let Some(id) = pending else {
         return false;
     };
-    match docs.get(&id) {
+    match docs.get(id) {
         Some(doc) => doc.key.as_slice() == key,
         None => false,
     }

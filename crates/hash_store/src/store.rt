@@ -8,8 +8,9 @@ ghost use Rattle.std.specs.List.Sorted.{IsStrictlyIncreasing};
 ghost use Rattle.ft_base.specs.Space.{doc_of, write, erase};
 ghost use Rattle.hash_store.specs.Store.{after_read};
 
-use crate::by_id::{DocRows, live_after, live_doc, take_out};
+use crate::by_id::{live_after, live_doc, take_out};
 use crate::by_key::{KeyIds, id_of};
+use crate::doc_rows::DocRows;
 use crate::rows;
 use crate::rows::{add_rows, drop_waiting, lead_nowhere, lead_to};
 use ft_base::{Doc, NoMemory};
@@ -37,9 +38,9 @@ impl Model for HashStore {
     ghost use Rattle.hash_store.specs.Rows.{store_of};
     ghost use Rattle.hash_store.specs.Maps.{IsStore};
 
-    ghost view = { λ s. store_of s.pending s.last s.reads s.docs.entries };
+    ghost view = { λ s. store_of s.pending s.last s.reads s.docs };
 
-    ghost invariant = { λ s. IsStore s.pending s.last s.docs.entries s.ids.entries };
+    ghost invariant = { λ s. IsStore s.pending s.last s.docs s.ids.entries };
 }
 
 /// That a document is ready in the store that made this. A contract sees the document's id.
@@ -66,7 +67,7 @@ impl HashStore {
         HashStore {
             alloc,
             ids: BTreeMap::new(alloc),
-            docs: BTreeMap::new(alloc),
+            docs: DocRows::new(alloc),
             pending: None,
             last: 0,
             reads: 0,
@@ -167,7 +168,7 @@ impl HashStore {
         ensures gone { self.new ≡ record self.old { space = erase self.old.space key.now } }
     {
         let id = id_of(&self.ids, key)?;
-        self.docs.remove(&id);
+        self.docs.remove(id);
         lead_nowhere(&mut self.ids, &self.docs, self.pending, key);
         Some(id)
     }

@@ -8,12 +8,12 @@ pub returns-in_err-doc : goal.returns-in_err-doc
 returns-in_err-doc c =
     let none : doc_of c.args.self.now.space c.args.key.now ≡ None =
     ap (λ (t : Store). doc_of t.space c.args.key.now) (sym c.self.view_is)
-    ∙ (sym (doc_in-id_at c.args.key.now c.self.inside.pending c.self.inside.last c.self.inside.docs.entries c.self.inside.ids.entries c.self.invariant) ∙ sym c.in_err-doc.ensures) in
+    ∙ (sym (doc_in-id_at c.args.key.now c.self.inside.pending c.self.inside.last c.self.inside.docs c.self.inside.ids.entries c.self.invariant) ∙ sym c.in_err-doc.ensures) in
     ((refl, (λ _. tt), unread _ c.args.self.now _ c.self.view_is none), record { counts = tt; found = rw c.from_residual.ensures (sym none) })
 
 pub returns : goal.returns
 returns c =
     let some : doc_of c.args.self.now.space c.args.key.now ≡ Some c.in_ok-doc.doc.now =
     ap (λ (t : Store). doc_of t.space c.args.key.now) (sym c.self.view_is)
-    ∙ (sym (doc_in-id_at c.args.key.now c.self.inside.pending c.self.inside.last c.self.inside.docs.entries c.self.inside.ids.entries c.self.invariant) ∙ sym c.in_ok-doc.ensures) in
-    ((refl, (λ _. tt), was_read _ c.in_ok-doc.doc.now c.self.inside.pending c.self.inside.last c.self.inside.reads _ c.self.inside.docs.entries c.args.self.now c.self.view_is some c.saturating_add-self-inside.ensures), record { counts = tt; found = sym some })
+    ∙ (sym (doc_in-id_at c.args.key.now c.self.inside.pending c.self.inside.last c.self.inside.docs c.self.inside.ids.entries c.self.invariant) ∙ sym c.in_ok-doc.ensures) in
+    ((refl, (λ _. tt), was_read _ c.in_ok-doc.doc.now c.self.inside.pending c.self.inside.last c.self.inside.reads _ c.self.inside.docs c.args.self.now c.self.view_is some c.saturating_add-self-inside.ensures), record { counts = tt; found = sym some })
