@@ -102,7 +102,7 @@ impl Engine {
         // Each index stands for the documents.
         ensures indexed { IsIndexed self.new }
 
-        // A search reads what it shows, and no more; what FT.INFO tells is what the lists hold.
+        // A search reads what it shows, an aggregate what it finds, and no more; what FT.INFO tells is what the lists hold.
         ensures reads { (asks : Asked) → read self.old.next words.entry ≡ Ok asks
             → ReadsFew asks out.new.items self.old.reads self.new.reads }
         ensures records { (asks : Asked) → read self.old.next words.entry ≡ Ok asks

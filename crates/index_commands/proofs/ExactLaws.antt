@@ -1,8 +1,9 @@
--- What is read for a search, and what is told of an index, exactly.
+-- What is read for a search and for an aggregate, and what is told of an index, exactly.
 use Rattle.std.specs.Prelude.{◌≡◌, ◌≤◌, ℕ, List, length, Option, None, Some, Result, Ok, Err, IfOk, OnOk, find}
 use Rattle.std.proofs.Common.{ap, ◌∙◌, inl, inr}
+use Rattle.cmd_parse.specs.Aggregating.{Aggregating}
 use Rattle.cmd_parse.specs.Searching.{Searching}
-use Rattle.cmd_parse.specs.Read.{Asked, Plain, Search}
+use Rattle.cmd_parse.specs.Read.{Asked, Plain, Search, Aggregate}
 use Rattle.cmd_parse.specs.declared.command.Verb.TheVariants.{Info}
 use Rattle.ft_base.specs.Words.{first}
 use Rattle.ft_base.specs.Reply.{spelling}
@@ -11,9 +12,10 @@ use Rattle.ft_base.specs.declared.doc.Doc.{Doc}
 use Rattle.ft_base.specs.declared.reply.Reply.{Reply}
 use Rattle.ft_index.specs.Index.{Index}
 use Rattle.ft_base.specs.Memory.{want_of_memory}
+use Rattle.ft_machine.specs.Aggregating.{aggregate_rows, rows_reply}
 use Rattle.ft_machine.specs.Counted.{in_order}
 use Rattle.ft_machine.specs.Step.{Told}
-use Rattle.index_commands.specs.Exactness.{IsRefusal, ReadsFew, ReadsRows, TellsEntries, TellsExactly, TellsOf}
+use Rattle.index_commands.specs.Exactness.{IsRefusal, ReadsFew, ReadsFound, ReadsRows, TellsEntries, TellsExactly, TellsOf}
 use Rattle.ft_machine.specs.Info.{info_reply}
 use Rattle.ft_machine.specs.declared.counts.Counts.{Counts}
 use Rattle.ft_index.specs.Lists.{AllLists}
@@ -31,9 +33,18 @@ reads-found what def docs written (Ok reply) old new is reads rises (inl said) =
 reads-found what def docs written (Ok reply) old new is reads rises (inr want) = inr (inr (want, rises))
 reads-found what def docs written (Err e) old new is reads rises want = inr (inr (want, rises))
 
--- a command that is refused reads nothing for a search
+-- the rows of what an aggregate found were answered, or out of memory
+pub reads-made : {E : Type 0} (what : Aggregating) (def : IndexDef) (docs : List Doc) (written : List ℕ) (made : Result Reply E) (old new : ℕ)
+    → IfOk made (λ reply. reply ≡ rows_reply (aggregate_rows what.load what.steps def docs))
+    → OnOk made (new ≡ reads_after old (length docs)) → old ≤ new → Told made written → ReadsFound what written old new
+reads-made what def docs written (Ok reply) old new is reads rises (inl said) = inl (record { def = def; found = docs; made = said ∙ ap spelling is; reads = reads })
+reads-made what def docs written (Ok reply) old new is reads rises (inr want) = inr (inr (want, rises))
+reads-made what def docs written (Err e) old new is reads rises want = inr (inr (want, rises))
+
+-- a command that is refused reads nothing for a search or an aggregate
 pub reads-refused : (asks : Asked) (written : List ℕ) (old new : ℕ) → IsRefusal written → new ≡ old → ReadsFew asks written old new
 reads-refused (Search what) written old new refused same = inr (inl (refused, same))
+reads-refused (Aggregate what) written old new refused same = inr (inl (refused, same))
 reads-refused _ written old new refused same = tt
 
 -- and tells of no index

@@ -1,7 +1,9 @@
--- How many documents a search reads, and how many records are told of an index: by the store's own count, and the lists'.
+-- How many documents a search and an aggregate read, and how many records are told of an index: by the store's own count, and
+-- the lists'.
 use Rattle.std.specs.Prelude.{◌≡◌, ◌≤◌, ◌⊎◌, ℕ, List, length, Option, Some, None, find}
+use Rattle.cmd_parse.specs.Aggregating.{Aggregating}
 use Rattle.cmd_parse.specs.Searching.{Searching}
-use Rattle.cmd_parse.specs.Read.{Asked, Plain, Search}
+use Rattle.cmd_parse.specs.Read.{Asked, Plain, Search, Aggregate}
 use Rattle.cmd_parse.specs.declared.command.Verb.TheVariants.{Info}
 use Rattle.ft_base.specs.Memory.{out_of_memory}
 use Rattle.ft_base.specs.Reply.{spelling}
@@ -11,6 +13,7 @@ use Rattle.ft_base.specs.declared.reply.Reply.{Reply}
 use Rattle.ft_base.specs.declared.reply.Reply.TheVariants.{Fault}
 use Rattle.ft_index.specs.Index.{Index}
 use Rattle.ft_base.specs.Words.{first}
+use Rattle.ft_machine.specs.Aggregating.{aggregate_rows, rows_reply}
 use Rattle.ft_machine.specs.Counted.{in_order}
 use Rattle.ft_machine.specs.Info.{info_reply}
 use Rattle.ft_machine.specs.Shown.{found_reply}
@@ -38,9 +41,24 @@ ReadsRows what written old new =
     ReadsShown what written old new
     ⊎ ((IsRefusal written × (new ≡ old)) ⊎ ((written ≡ spelling out_of_memory) × (old ≤ new)))
 
--- whatever is asked, a search reads no more than that
+-- The rows of documents are told, and each of the documents was read once.
+pub record ReadsMade (what : Aggregating) (written : List ℕ) (old new : ℕ) : Type 0 where
+  pub def : IndexDef
+  -- the documents that the query finds
+  pub found : List Doc
+  pub made : written ≡ spelling (rows_reply (aggregate_rows what.load what.steps def found))
+  pub reads : new ≡ reads_after old (length found)
+
+-- An aggregate has read each document that it finds once, whatever its steps are; where it is refused, none.
+abbrev pub ReadsFound : Aggregating → List ℕ → ℕ → ℕ → Type 0
+ReadsFound what written old new =
+    ReadsMade what written old new
+    ⊎ ((IsRefusal written × (new ≡ old)) ⊎ ((written ≡ spelling out_of_memory) × (old ≤ new)))
+
+-- whatever is asked, a search or an aggregate reads no more than that
 abbrev pub ReadsFew : Asked → List ℕ → ℕ → ℕ → Type 0
 ReadsFew (Search what) written old new = ReadsRows what written old new
+ReadsFew (Aggregate what) written old new = ReadsFound what written old new
 ReadsFew _ written old new = Unit {0}
 
 -- What is told of an index has as many records as its lists have entries.

@@ -1,5 +1,5 @@
 //! FT.AGGREGATE: the query is parsed by the fields of its index, and its steps make rows of the documents found.
-ghost use Rattle.std.specs.Prelude.{◌≡◌, ◌<◌, ◌≤◌, ◌^◌, ◌⊎◌, ℕ, length, IfOk, IsTrue};
+ghost use Rattle.std.specs.Prelude.{◌≡◌, ◌<◌, ◌≤◌, ◌^◌, ◌⊎◌, ℕ, length, IfOk, IsTrue, OnOk};
 ghost use Rattle.std.specs.List.{All};
 ghost use Rattle.cmd_parse.specs.Aggregating.{aggregate_of};
 ghost use Rattle.cmd_parse.specs.Read.{Aggregate};
@@ -11,7 +11,10 @@ ghost use Rattle.ft_index.specs.Index.{Indexes, IsIndex};
 ghost use Rattle.ft_machine.specs.Aggregating.{aggregate_reply};
 ghost use Rattle.ft_machine.specs.Machine.{State};
 ghost use Rattle.ft_machine.specs.Step.{Does, last_number};
+ghost use Rattle.ft_meaning.specs.Holds.{found_of};
 ghost use Rattle.ft_meaning.specs.Meaning.{ValuesFit};
+ghost use Rattle.hash_store.specs.Store.{reads_after};
+ghost use Rattle.index_commands.specs.Exactness.{ReadsFound};
 ghost use Rattle.indexed_store.specs.DefinitionsOf.{definitions_of};
 ghost use Rattle.indexed_store.specs.Holding.{state_at};
 ghost use Rattle.indexed_store.specs.Preparing.{OnlyReads};
@@ -41,6 +44,8 @@ pub fn answer_aggregate(
     ensures does { (latest : ℕ) → Does (Aggregate (aggregate_of aggregate.now)) held.old.next (state_at latest held.old)
         reply.new.bytes (state_at latest held.old) }
     ensures stays { OnlyReads held.old held.new }
+    // Each document that is found is read once.
+    ensures reads { ReadsFound (aggregate_of aggregate.now) reply.new.bytes held.old.reads held.new.reads }
     ensures room { reply.old.room ≤ reply.new.room }
 {
     answer_in(
@@ -65,6 +70,7 @@ fn answer_in(
     ensures does { (number : ℕ) (state : State) → state.space ≡ store.old.space
         → state.definitions ≡ definitions_of indexes.now
         → Does (Aggregate (aggregate_of aggregate.now)) number state reply.new.bytes state }
+    ensures reads { ReadsFound (aggregate_of aggregate.now) reply.new.bytes store.old.reads store.new.reads }
     ensures space { store.new.space ≡ store.old.space }
     ensures ready { store.new.ready ≡ store.old.ready }
     ensures last { store.new.last ≡ store.old.last }
@@ -95,6 +101,7 @@ fn answer_parsed(
     ensures found { (reply.new.bytes
         ≡ spelling (aggregate_reply (aggregate_of aggregate.now) store.old.space index.now.def query))
         ⊎ (reply.new.bytes ≡ spelling out_of_memory) }
+    ensures reads { ReadsFound (aggregate_of aggregate.now) reply.new.bytes store.old.reads store.new.reads }
     ensures space { store.new.space ≡ store.old.space }
     ensures ready { store.new.ready ≡ store.old.ready }
     ensures last { store.new.last ≡ store.old.last }
@@ -127,6 +134,9 @@ fn rows_in<L: Ledger>(
     ensures space { store.new.space ≡ store.old.space }
     ensures ready { store.new.ready ≡ store.old.ready }
     ensures last { store.new.last ≡ store.old.last }
+    ensures reads { OnOk result (store.new.reads ≡ reads_after store.old.reads
+        (length (found_of query.now index.now.def store.old.space))) }
+    ensures rises { store.old.reads ≤ store.new.reads }
 {
     let mut counter = Steps::<L>::new(blank);
     let iter = ids_found(store, index, alloc, query, &mut counter)?;

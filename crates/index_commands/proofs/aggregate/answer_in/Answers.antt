@@ -1,10 +1,12 @@
-use Rattle.std.proofs.Common.{sym}
+use Rattle.std.proofs.Common.{inl, inr, refl, sym}
 use Rattle.cmd_parse.specs.Aggregating.{aggregate_of}
+use Rattle.ft_machine.specs.Indexes.{unknown_index}
 use Rattle.ft_machine.specs.Step.{last_number}
 use Rattle.index_commands.proofs.AnsweringLaws.{queries-fault_of, queries-found, queries-none}
 use Rattle.index_commands.proofs.AggregateLaws.{is-aggregate, aggregate_query}
 use Rattle.indexed_store.proofs.NamedLaws.{named-has}
 use Rattle.indexed_store.specs.Standing.{IndexStands, markers_at}
+use Rattle.query_grammar.specs.Refusals.{query_refusal}
 use Rattle.index_commands.proofs.aggregate.answer_in.Goals as goal
 
 pub answer_parsed-requires-clause-stands : goal.answer_parsed-requires-clause-stands
@@ -31,3 +33,9 @@ returns-in-Err-clause-does c number state all same =
     let what = aggregate_of c.args.aggregate.now in
     queries-fault_of (aggregate_query what) number state (is-aggregate what number state) c.args.indexes.now same c.in-Some.index.now c.def.result.now _ c.in-Err.fault
     (sym c.in-Some.ensures) c.def.ensures.def c.in-Err.ensures.exact c.set_query_refusal.ensures.bytes
+
+pub returns-in_default-clause-reads : goal.returns-in_default-clause-reads
+returns-in_default-clause-reads c = inr (inl ((unknown_index, c.set_fault.ensures.bytes), refl))
+
+pub returns-in-Err-clause-reads : goal.returns-in-Err-clause-reads
+returns-in-Err-clause-reads c = inr (inl ((query_refusal c.in-Err.fault, c.set_query_refusal.ensures.bytes), refl))
