@@ -1,4 +1,8 @@
-pub mod EndingLaws
-pub mod FormLaws
-pub mod QuitLaws
-pub mod ServingLaws
+mod CallerLaws
+mod EndingLaws
+mod FormLaws
+mod NumberLaws
+mod QuitLaws
+mod ServingLaws
+mod TellingLaws
+mod WeakerLaws

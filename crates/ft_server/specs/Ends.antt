@@ -3,6 +3,8 @@ use Rattle.std.specs.Prelude.{◌≡◌, ◌⊎◌, ◌<◌, ◌≤◌, ◌^◌,
 use Rattle.std.specs.declared.option.Option.{Option}
 use Rattle.fs_ports.specs.Causes.{Rose}
 use Rattle.resp_wire.specs.Stream.{NextIsLong, Command, FaultAt, stream_of, fault_of}
+use Rattle.history_core.specs.Commands.{Said}
+use Rattle.ft_server.specs.Callers.{Answered}
 use Rattle.ft_server.specs.FaultText.{fault_text}
 use Rattle.ft_server.specs.Session.{Outside, IsOpen, WantsMore, IsCut, Served, ReplyCut, quits}
 use Rattle.ft_server.specs.declared.connection.End.{End}
@@ -29,27 +31,29 @@ MayLack input others =
     (input ≡ [])
     ⊎ (((others ≡ []) × WantsMore input × (65536 ≤ length (stream_of input).rest)) ⊎ NextIsLong others)
 
-abbrev pub Ends : End → Outside → Outside → Type 0
--- all that there was is whole requests
-Ends end.Closed before after = (input : List ℕ) × IsAll before.left input × WantsMore input × EndsWith input 0 × Served input [] [] before after
--- the last command that was answered is QUIT
-Ends end.Quit before after = (input : List ℕ) × (quits (stream_of input).commands ≡ true) × Served input [] [] before after
--- all that there was ends within a request
-Ends (end.CutShort left) before after = (input : List ℕ) × IsAll before.left input × WantsMore input × (0 < left) × EndsWith input left × Served input [] [] before after
--- the fault's text was written behind the replies
-Ends (end.Protocol at kind) before after = (input : List ℕ) × IsFaulty input (record { at = at; kind = kind }) × Served input [] (fault_text kind) before after
--- a read failed
-Ends end.ReadFault before after = Rose before.read_faults after.read_faults × ((input : List ℕ) × WantsMore input × Served input [] [] before after)
--- a write failed: the last reply is cut, or the text of a fault
-Ends end.WriteFault before after =
-    Rose before.write_faults after.write_faults
-    × ((input : List ℕ)
-    × (ReplyCut input before after
-    ⊎ ((fault : FaultAt) × (front : List ℕ) × IsFaulty input fault × IsCut front (fault_text fault.kind) × Served input [] front before after)))
--- as many bytes were read as may be
-Ends end.ByteLimit before after = (input : List ℕ) × (length input ≡ 2 ^ 40) × IsOpen input × Served input [] [] before after
--- memory is wanting
-Ends end.NoMemory before after = (input : List ℕ) × (others : List Command) × MayLack input others × Served input others [] before after
+-- `A` says how commands were answered.
+module _ (A : List Said → Option (List ℕ) → Option (List ℕ) → Type 0) where
+  abbrev pub Ends : End → Outside → Outside → Type 0
+  -- all that there was is whole requests
+  Ends end.Closed before after = (input : List ℕ) × IsAll before.left input × WantsMore input × EndsWith input 0 × Served A input [] [] before after
+  -- the last command that was answered is QUIT
+  Ends end.Quit before after = (input : List ℕ) × (quits (stream_of input).commands ≡ true) × Served A input [] [] before after
+  -- all that there was ends within a request
+  Ends (end.CutShort left) before after = (input : List ℕ) × IsAll before.left input × WantsMore input × (0 < left) × EndsWith input left × Served A input [] [] before after
+  -- the fault's text was written behind the replies
+  Ends (end.Protocol at kind) before after = (input : List ℕ) × IsFaulty input (record { at = at; kind = kind }) × Served A input [] (fault_text kind) before after
+  -- a read failed
+  Ends end.ReadFault before after = Rose before.read_faults after.read_faults × ((input : List ℕ) × WantsMore input × Served A input [] [] before after)
+  -- a write failed: the last reply is cut, or the text of a fault
+  Ends end.WriteFault before after =
+      Rose before.write_faults after.write_faults
+      × ((input : List ℕ)
+      × (ReplyCut A input before after
+      ⊎ ((fault : FaultAt) × (front : List ℕ) × IsFaulty input fault × IsCut front (fault_text fault.kind) × Served A input [] front before after)))
+  -- as many bytes were read as may be
+  Ends end.ByteLimit before after = (input : List ℕ) × (length input ≡ 2 ^ 40) × IsOpen input × Served A input [] [] before after
+  -- memory is wanting
+  Ends end.NoMemory before after = (input : List ℕ) × (others : List Command) × MayLack input others × Served A input others [] before after
 
 -- how the program ends where its connection ends so
 abbrev pub exit_of : End → Exit
@@ -62,7 +66,10 @@ exit_of end.WriteFault = exit.WriteFault
 exit_of end.ByteLimit = exit.ByteLimit
 exit_of end.NoMemory = exit.NoMemory
 
--- What each way to end says of a run: with other words than a form has nothing was done.
+-- What each way to end says of a run: with other words than a form has nothing was done. A run has no door and starts no
+-- thread.
 abbrev pub Ended : Exit → Outside → Outside → Type 0
 Ended exit.Usage before after = after ≡ before
-Ended other before after = (ends : End) × (exit_of ends ≡ other) × Ends ends before after
+Ended exit.DoorFault before after = ⊥
+Ended exit.NoThread before after = ⊥
+Ended other before after = (ends : End) × (exit_of ends ≡ other) × Ends Answered ends before after

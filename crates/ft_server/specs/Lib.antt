@@ -1,8 +1,12 @@
 pub mod Answer
+pub mod Callers
 pub mod Ends
 pub mod FaultText
+pub mod Forms
 pub mod Limits
+pub mod Passes
 pub mod Reading
-pub mod Script
+pub mod Serving
 pub mod Session
 pub mod Status
+pub mod Telling

@@ -1,21 +1,25 @@
 //! One connection: each command is executed as soon as it is whole, and its reply written before the
 //! next one is.
-ghost use Rattle.std.specs.Prelude.{◌≡◌, ◌<◌, ◌≤◌, ◌^◌, [], false, length, vec_capacity, IfOk, OnOk, OnErr};
-ghost use Rattle.std.specs.Io.KnownBytes.{Appends, Keeps};
-ghost use Rattle.ft_base.specs.Words.{KeepsLimits, is_quit};
-ghost use Rattle.fs_ports.specs.Causes.{HasCause, WritesFront};
-ghost use Rattle.ft_engine.specs.Stands.{opened};
-ghost use Rattle.ft_server.specs.Answer.{Answer};
+ghost use Rattle.std.specs.Prelude.{◌≡◌, ◌<◌, ◌≤◌, ◌+◌, ◌*◌, ◌^◌, ℕ, List, [], length, vec_capacity, IfOk};
+ghost use Rattle.history_core.specs.declared.entry.Entry.{Entry};
+ghost use Rattle.turn_gate.specs.Known.{Known};
+ghost use Rattle.resp_wire.specs.Decoding.{fed};
+ghost use Rattle.resp_wire.specs.Stream.{ended, stream_of};
+ghost use Rattle.resp_wire.specs.declared.fault.Stop.TheVariants.{More};
+ghost use Rattle.ft_server.specs.Callers.{Called};
 ghost use Rattle.ft_server.specs.Ends.{Ends};
-ghost use Rattle.ft_server.specs.Session.{AllAnswered, told};
+ghost use Rattle.ft_server.specs.Passes.{IsOf};
+ghost use Rattle.ft_server.specs.Serving.{Going, LeadsOn};
+ghost use Rattle.ft_server.specs.Session.{AllAnswered, Outside, told};
 
-use crate::fault_text::write_fault;
 use crate::input::read_more;
-use fs_ports::{Clock, Failed, Link, write_all};
-use ft_base::{NoMemory, Words};
-use ft_engine::Engine;
+use crate::replies::{answer, refuse};
+use crate::server::{Pass, Server};
+use fs_ports::{Clock, Link};
+use ft_base::NoMemory;
 use resp_wire::{Decoder, Take, WireFault};
 use std::alloc::Global;
+use std::sync::Wait;
 
 /// The most bytes that one read asks for.
 const READ_ROOM: usize = 65_536;
@@ -40,15 +44,8 @@ pub enum End {
     WriteFault,
     /// 2^40 bytes were read.
     ByteLimit,
-    /// Memory is wanting.
+    /// Out of memory.
     NoMemory,
-}
-
-/// All that a connection takes room for.
-#[derive(Drop)]
-struct Room {
-    engine: Engine,
-    buffers: Buffers,
 }
 
 /// What is read and written goes through these.
@@ -59,32 +56,34 @@ struct Buffers {
     reply: Vec<u8>,
 }
 
-/// Serves a link with a new engine until it ends. All its room is taken first.
-pub fn serve_connection<L: Link, C: Clock>(alloc: Global, link: &mut L, clock: &mut C) -> End
+/// Serves a link until it ends, as the caller whose pass it is given. All room is taken first.
+///
+/// Each command is a turn of its own. It may wait for a turn, and for nothing else of other callers: what is read,
+/// decoded and written is read, decoded and written outside the turns.
+pub fn serve_connection<L: Link, C: Clock, R: Wait>(
+    rt: &R,
+    alloc: Global,
+    server: &Server,
+    pass: Pass,
+    link: &mut L,
+    clock: &mut C,
+) -> (Pass, End)
+    requires of { IsOf server.now pass }
     // The link is read only where all that came whole was answered.
-    requires prompt { (now : L) (moment : C) → AllAnswered
+    requires prompt { (later : Known Entry) (now : L) (moment : C) → IsOf server.now later
+        → AllAnswered (Called pass later)
         (told L.Link C.Clock link.old clock.old) (told L.Link C.Clock now moment) → L.readable now }
-    ensures { Ends result
+
+    ensures of { IsOf server.now result.0 }
+    ensures same { (result.0.caller ≡ pass.caller) × (result.0.alone ≡ pass.alone) }
+    // What was read, answered and written, by how the connection ended.
+    ensures ends { Ends (Called pass result.0) result.1
         (told L.Link C.Clock link.old clock.old) (told L.Link C.Clock link.new clock.new) }
 {
-    match take_room(alloc) {
-        Ok(mut room) => serve(&mut room, link, clock),
-        Err(_) => End::NoMemory,
+    match take_buffers(alloc) {
+        Ok(mut buffers) => serve(rt, server, pass, &mut buffers, link, clock),
+        Err(_) => (pass, End::NoMemory),
     }
-}
-
-/// A new engine, and its buffers.
-fn take_room(alloc: Global) -> Result<Room, NoMemory>
-    ensures engine { IfOk result (λ room. room.engine ≡ opened 1) }
-    ensures decoder { IfOk result (λ room. room.buffers.decoder
-        ≡ record { taken = 0; left = []; words = []; spare = 65_536 }) }
-    ensures input { IfOk result (λ room. length room.buffers.input.items ≡ 65_536) }
-    ensures reply { IfOk result (λ room. vec_capacity room.buffers.reply ≡ 65_536) }
-{
-    Ok(Room {
-        engine: Engine::new(alloc)?,
-        buffers: take_buffers(alloc)?,
-    })
 }
 
 /// Room for 64 KiB of input and of replies.
@@ -102,83 +101,78 @@ fn take_buffers(alloc: Global) -> Result<Buffers, NoMemory>
 }
 
 /// Takes the commands one by one, and reads more where none is whole.
-fn serve<L: Link, C: Clock>(room: &mut Room, link: &mut L, clock: &mut C) -> End
-    requires engine { room.old.engine ≡ opened 1 }
-    requires decoder { room.old.buffers.decoder
+fn serve<L: Link, C: Clock, R: Wait>(
+    rt: &R,
+    server: &Server,
+    pass: Pass,
+    buffers: &mut Buffers,
+    link: &mut L,
+    clock: &mut C,
+) -> (Pass, End)
+    requires of { IsOf server.now pass }
+    requires decoder { buffers.old.decoder
         ≡ record { taken = 0; left = []; words = []; spare = 65_536 } }
-    requires input { 0 < length room.old.buffers.input.items }
-    requires reply { 64 ≤ vec_capacity room.old.buffers.reply }
-    // The link is read only where all that came whole was answered.
-    requires prompt { (now : L) (moment : C) → AllAnswered
+    requires input { 0 < length buffers.old.input.items }
+    requires reply { 64 ≤ vec_capacity buffers.old.reply }
+    requires prompt { (later : Known Entry) (now : L) (moment : C) → IsOf server.now later
+        → AllAnswered (Called pass later)
         (told L.Link C.Clock link.old clock.old) (told L.Link C.Clock now moment) → L.readable now }
-    ensures { Ends result
+    ensures of { IsOf server.now result.0 }
+    ensures same { (result.0.caller ≡ pass.caller) × (result.0.alone ≡ pass.alone) }
+    ensures ends { Ends (Called pass result.0) result.1
         (told L.Link C.Clock link.old clock.old) (told L.Link C.Clock link.new clock.new) }
 {
-    let engine = &mut room.engine;
-    let Buffers {
-        decoder,
-        input,
-        reply,
-    } = &mut room.buffers;
-    let input = input.as_mut_slice();
+    let mut pass = pass;
     let mut total = 0;
     'serving: loop {
-        match decoder.take() {
-            Take::Words => match answer(engine, decoder, reply, link, clock) {
-                Ok(false) => {}
-                Ok(true) => return End::Quit,
-                Err(_) => return End::WriteFault,
-            },
-            Take::More => match read_more(link, decoder, input, total) {
-                Ok(count) => total += count,
-                Err(end) => return end,
-            },
-            Take::NoMemory => return End::NoMemory,
-            Take::Fault { at, kind } => {
-                return match write_fault(link, kind) {
-                    Ok(()) => End::Protocol { at, kind },
-                    Err(_) => End::WriteFault,
-                };
-            }
+        let (later, went) = step(rt, server, pass, buffers, link, clock, total);
+        pass = later;
+        match went {
+            Ok(count) => total += count,
+            Err(end) => return (pass, end),
         }
     }
 }
 
-/// Executes the command that was taken last, writes its reply, and answers whether it was QUIT.
-fn answer<L: Link, C: Clock>(
-    engine: &mut Engine,
-    decoder: &Decoder,
-    out: &mut Vec<u8>,
+/// Answers the next command; or reads more where none is whole, and answers how much; or says how the connection ends.
+/// `total` bytes were read before.
+fn step<L: Link, C: Clock, R: Wait>(
+    rt: &R,
+    server: &Server,
+    pass: Pass,
+    buffers: &mut Buffers,
     link: &mut L,
     clock: &mut C,
-) -> Result<bool, Failed>
-    requires some { 0 < length decoder.now.words }
-    requires limits { KeepsLimits decoder.now.words }
-    requires room { 64 ≤ vec_capacity out.old }
-    requires events { engine.old.next < 2 ^ 62 }
-    requires free { engine.old.pending ≡ false }
-    ensures answer { Answer decoder.now.words engine.old engine.new
-        (C.given clock.old) (C.given clock.new) out.new.items }
-    ensures sent { OnOk result (Appends (L.written link.old) (L.written link.new) out.new.items) }
-    ensures cut { OnErr result (WritesFront (L.written link.old) (L.written link.new) out.new.items) }
-    ensures quit { IfOk result (λ quit. quit ≡ is_quit decoder.now.words) }
-    ensures free { engine.new.pending ≡ false }
-    ensures room { 64 ≤ vec_capacity out.new }
-    ensures left { Keeps (L.left link.old) (L.left link.new) }
-    ensures cause { HasCause (L.write_faults link.old) (L.write_faults link.new) result }
-    ensures other { L.read_faults link.new ≡ L.read_faults link.old }
+    total: usize,
+) -> (Pass, Result<usize, End>)
+    requires of { IsOf server.now pass }
+    requires input { 0 < length buffers.old.input.items }
+    requires reply { 64 ≤ vec_capacity buffers.old.reply }
+    requires few { total ≤ 2 ^ 40 }
+    requires fed { fed buffers.old.decoder ≡ total }
+    requires turn { (left : List ℕ) → stream_of buffers.old.decoder.left ≡ ended More left
+        → total < 2 ^ 40 → L.readable link.old }
+    ensures of { IsOf server.now result.0 }
+    ensures same { (result.0.caller ≡ pass.caller) × (result.0.alone ≡ pass.alone) }
+    // From what was served before, on or to an end.
+    ensures leads { (first : Known Entry) (before : Outside)
+        → Going buffers.old.decoder first pass before (told L.Link C.Clock link.old clock.old)
+        → LeadsOn result.1 buffers.new.decoder first result.0 before (told L.Link C.Clock link.new clock.new) }
+    ensures fed { IfOk result.1 (λ count. (fed buffers.new.decoder ≡ total + count) × (total + count ≤ 2 ^ 40)) }
+    ensures less { IfOk result.1 (λ count. length buffers.new.decoder.left
+        < length buffers.old.decoder.left + 2 * count) }
+    ensures input { length buffers.new.input.items ≡ length buffers.old.input.items }
+    ensures reply { 64 ≤ vec_capacity buffers.new.reply }
 {
-    let now = clock.now();
-    out.clear();
-    engine.exec(now, decoder.words(), out);
-    write_all(link, out.as_slice())?;
-    Ok(is_quit(&decoder.words()))
-}
-
-/// Whether a command is QUIT.
-fn is_quit(words: &Words) -> bool
-    requires { 0 < length words.now }
-    ensures { result ≡ is_quit words.now }
-{
-    words.word(0).eq_ignore_ascii_case(b"QUIT")
+    let Buffers {
+        decoder,
+        input,
+        reply,
+    } = buffers;
+    match decoder.take() {
+        Take::Words => answer(rt, server, pass, decoder, reply, link, clock),
+        Take::More => (pass, read_more(link, decoder, input.as_mut_slice(), total)),
+        Take::NoMemory => (pass, Err(End::NoMemory)),
+        Take::Fault { at, kind } => (pass, Err(refuse(link, at, kind))),
+    }
 }

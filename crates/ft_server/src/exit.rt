@@ -8,13 +8,14 @@ use crate::connection::End;
 /// How a run of the program ended.
 #[derive(Clone, Copy, Debug, PartialEq, Eq)]
 pub enum Exit {
-    /// The input ended behind a whole request or at QUIT, and every reply was written.
+    /// The input ended behind a whole request or at QUIT, and every reply was written. All workers ended at the end of
+    /// their doors.
     Done,
     /// The input ended within a request; the replies before it were written.
     CutShort,
     /// The input has a fault of the wire; its text was written behind the replies before it.
     Protocol,
-    /// The words of the command line are no form.
+    /// The words of the command line are no form, or one that another call does.
     Usage,
     /// A read failed; the replies to what was read before were written.
     ReadFault,
@@ -22,8 +23,12 @@ pub enum Exit {
     WriteFault,
     /// 2^40 bytes were read without an end; the replies to them were written.
     ByteLimit,
-    /// Memory is wanting.
+    /// Out of memory.
     NoMemory,
+    /// A door failed.
+    DoorFault,
+    /// No thread could be started.
+    NoThread,
 }
 
 impl Exit {
@@ -54,6 +59,8 @@ impl Exit {
             Exit::WriteFault => 4,
             Exit::ByteLimit => 5,
             Exit::NoMemory => 6,
+            Exit::DoorFault => 7,
+            Exit::NoThread => 8,
         }
     }
 }

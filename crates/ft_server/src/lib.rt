@@ -1,22 +1,35 @@
-//! One connection served: commands are read from a link and executed, and their replies written back.
+//! A server that callers share, and its connections: commands are read from a link and executed, and their replies written
+//! back.
 //!
-//! `run` does what the words of the command line ask for, over a link and a clock of any kind, and
-//! carries the promise of the whole: what is written is the replies of a legal history of the commands
-//! read. Read `specs/Session.antt`, `specs/Ends.antt` and `runner.rt` first, then `connection.rt`.
+//! `Server` is an engine under the turn lock. A caller holds a `Pass`; `call` takes a turn of one command, and
+//! `serve_connection` does so for each command of a link. `run` does what the words of the command line ask for with a
+//! server of its own, and carries the promise of the whole: what is written is the replies of a legal history of the
+//! commands read. Read `specs/Passes.antt`, `specs/Callers.antt`, `specs/Session.antt`, `specs/Ends.antt`, `server.rt`
+//! and `calls.rt` first, then `connection.rt` and `runner.rt`.
 #![tactic(auto)]
 
+mod calls;
 mod connection;
 mod exit;
 mod fault_text;
 mod form;
 mod input;
+mod logged_engine;
+mod replies;
 mod runner;
+mod server;
 
+/// One command of a caller among others.
+pub use calls::call;
 /// How a connection ended, and one connection from its first byte to its last.
 pub use connection::{End, serve_connection};
 /// How a run ended, with the status of the process.
 pub use exit::Exit;
 /// The form of a command line, or why its words are none.
 pub use form::{Form, WordFault, read_words};
-/// All that the program does.
+/// The engine under the turn lock, and the entries of its log.
+pub use logged_engine::{LogEntry, LoggedEngine};
+/// All that the program does over one link.
 pub use runner::run;
+/// An engine that callers share, and what a caller holds.
+pub use server::{Pass, Server};

@@ -1,20 +1,32 @@
-//! All that the program does, over a link and a clock of any kind.
-ghost use Rattle.std.specs.Prelude.{◌≡◌, ◌↔◌};
-ghost use Rattle.ft_server.specs.Ends.{Ended};
+//! All that the program does over a link and a clock of any kind.
+ghost use Rattle.std.specs.Prelude.{◌≡◌, ◌↔◌, [], true, IfOk};
+ghost use Rattle.ft_server.specs.Callers.{Answered};
+ghost use Rattle.ft_server.specs.Ends.{Ended, Ends};
+ghost use Rattle.ft_server.specs.Forms.{IsScript};
 ghost use Rattle.ft_server.specs.Limits.{HaveNumbers};
-ghost use Rattle.ft_server.specs.Script.{IsScript};
+ghost use Rattle.ft_server.specs.Passes.{IsOf};
 ghost use Rattle.ft_server.specs.Session.{AllAnswered, told};
 
-use crate::connection::serve_connection;
+use crate::connection::{End, serve_connection};
 use crate::exit::Exit;
 use crate::form::{Form, WordFault, read_words};
+use crate::server::{Pass, Server};
 use fs_ports::{Clock, Link};
+use ft_base::NoMemory;
+use ft_engine::Engine;
 use std::alloc::Global;
+use std::sync::Wait;
 
-/// Does what the words of the command line ask for.
-pub fn run<L: Link, C: Clock>(alloc: Global, words: &[String], link: &mut L, clock: &mut C) -> Exit
+/// Does what the words of the command line ask for, but for what needs doors and threads.
+pub fn run<L: Link, C: Clock, R: Wait>(
+    rt: &R,
+    alloc: Global,
+    words: &[String],
+    link: &mut L,
+    clock: &mut C,
+) -> Exit
     // The link is read only where all that came whole was answered.
-    requires prompt { (now : L) (moment : C) → AllAnswered
+    requires prompt { (now : L) (moment : C) → AllAnswered Answered
         (told L.Link C.Clock link.old clock.old) (told L.Link C.Clock now moment) → L.readable now }
 
     // What was read, answered and written, by how the run ended.
@@ -25,8 +37,35 @@ pub fn run<L: Link, C: Clock>(alloc: Global, words: &[String], link: &mut L, clo
     ensures limits { HaveNumbers }
 {
     match read_words(alloc, words) {
-        Ok(Form::Script) => Exit::at(serve_connection(alloc, link, clock)),
-        Err(WordFault::Usage) => Exit::Usage,
+        Ok(Form::Script) => Exit::at(serve_alone(rt, alloc, link, clock)),
+        Ok(Form::Serve { .. }) | Err(WordFault::Usage) => Exit::Usage,
         Err(WordFault::NoMemory) => Exit::NoMemory,
     }
+}
+
+/// Serves a link with a new server, whose one caller this is.
+fn serve_alone<L: Link, C: Clock, R: Wait>(
+    rt: &R,
+    alloc: Global,
+    link: &mut L,
+    clock: &mut C,
+) -> End
+    requires prompt { (now : L) (moment : C) → AllAnswered Answered
+        (told L.Link C.Clock link.old clock.old) (told L.Link C.Clock now moment) → L.readable now }
+    ensures { Ends Answered result
+        (told L.Link C.Clock link.old clock.old) (told L.Link C.Clock link.new clock.new) }
+{
+    match open(alloc) {
+        Ok((server, pass)) => serve_connection(rt, alloc, &server, pass, link, clock).1,
+        Err(_) => End::NoMemory,
+    }
+}
+
+/// A new server whose first event has the number 1, and its first pass.
+fn open(alloc: Global) -> Result<(Server, Pass), NoMemory>
+    ensures first { IfOk result (λ r. r.0.first ≡ 1) }
+    ensures of { IfOk result (λ r. IsOf r.0 r.1) }
+    ensures pass { IfOk result (λ r. (r.1.seen ≡ []) × (r.1.alone ≡ true) × (r.1.caller ≡ 0)) }
+{
+    Server::open(alloc, Engine::new(alloc)?)
 }

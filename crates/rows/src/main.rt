@@ -12,6 +12,7 @@ use ft_server::{Exit, run};
 use row_text::{Row, fits, put_lines, read_reply, read_row, wanted_lines};
 use std::alloc::Global;
 use std::io;
+use std::sync::Wait;
 
 /// The most bytes that are shown of what came.
 const MOST_SHOWN: usize = 400;
@@ -37,7 +38,7 @@ struct Tally {
 
 fn main(rt: HostRuntime) -> io::Result<()> {
     let text = io::read_to_string(rt.alloc(), rt.reader())?;
-    let tally = run_all(rt.alloc(), text.as_str())?;
+    let tally = run_all(&rt, rt.alloc(), text.as_str())?;
     let told = std::str::from_utf8(tally.told.as_slice()).unwrap_or("?");
     println!(rt;
         "{told}{} sessions, {} rows, {} differ",
@@ -46,7 +47,7 @@ fn main(rt: HostRuntime) -> io::Result<()> {
 }
 
 // Runs the sessions of a text.
-fn run_all(alloc: Global, text: &str) -> Result<Tally, NoMemory> {
+fn run_all<R: Wait>(rt: &R, alloc: Global, text: &str) -> Result<Tally, NoMemory> {
     let mut session = Session {
         name: String::new(alloc),
         rows: Vec::new(alloc),
@@ -58,40 +59,47 @@ fn run_all(alloc: Global, text: &str) -> Result<Tally, NoMemory> {
         told: Vec::new(alloc),
     };
     for line in text.lines() {
-        take_line(alloc, line, &mut session, &mut tally)?;
+        take_line(rt, alloc, line, &mut session, &mut tally)?;
     }
-    end_session(alloc, &mut session, &mut tally)?;
+    end_session(rt, alloc, &mut session, &mut tally)?;
     Ok(tally)
 }
 
 // Begins another session where the line has its name, and else adds the line's rows.
-fn take_line(
+fn take_line<R: Wait>(
+    rt: &R,
     alloc: Global,
     line: &str,
     session: &mut Session,
     tally: &mut Tally,
 ) -> Result<(), NoMemory> {
     match line.strip_prefix("== ") {
-        Some(name) => begin_session(alloc, name, session, tally),
+        Some(name) => begin_session(rt, alloc, name, session, tally),
         None => put_rows(alloc, line, &mut session.rows),
     }
 }
 
-fn begin_session(
+fn begin_session<R: Wait>(
+    rt: &R,
     alloc: Global,
     name: &str,
     session: &mut Session,
     tally: &mut Tally,
 ) -> Result<(), NoMemory> {
-    end_session(alloc, session, tally)?;
+    end_session(rt, alloc, session, tally)?;
     session.name.push_str(name)
 }
 
 // Runs a session that has rows, and leaves one without.
-fn end_session(alloc: Global, session: &mut Session, tally: &mut Tally) -> Result<(), NoMemory> {
+fn end_session<R: Wait>(
+    rt: &R,
+    alloc: Global,
+    session: &mut Session,
+    tally: &mut Tally,
+) -> Result<(), NoMemory> {
     if !session.rows.is_empty() {
         tally.sessions = tally.sessions.saturating_add(1);
-        run_session(alloc, session, tally)?;
+        run_session(rt, alloc, session, tally)?;
     }
     session.name.clear();
     session.rows.clear();
@@ -184,16 +192,26 @@ fn put_first<'a>(out: &mut Vec<u8>, text: &'a [u8], number: i64) -> Result<&'a [
 }
 
 // Runs a session, and compares its replies one by one.
-fn run_session(alloc: Global, session: &Session, tally: &mut Tally) -> Result<(), NoMemory> {
+fn run_session<R: Wait>(
+    rt: &R,
+    alloc: Global,
+    session: &Session,
+    tally: &mut Tally,
+) -> Result<(), NoMemory> {
     let mut out = Vec::new(alloc);
-    let exit = answer(alloc, session.rows.as_slice(), &mut out)?;
+    let exit = answer(rt, alloc, session.rows.as_slice(), &mut out)?;
     check_session(alloc, session, out.as_slice(), exit, tally)
 }
 
 // Appends what the server writes where it is sent the rows, and answers how it ended.
-fn answer(alloc: Global, rows: &[Row], out: &mut Vec<u8>) -> Result<Exit, NoMemory> {
+fn answer<R: Wait>(
+    rt: &R,
+    alloc: Global,
+    rows: &[Row],
+    out: &mut Vec<u8>,
+) -> Result<Exit, NoMemory> {
     let mut link = link_over(alloc, requests_of(alloc, rows)?)?;
-    let exit = script(alloc, &mut link);
+    let exit = script(rt, alloc, &mut link);
     out.extend_from_slice(link.output())?;
     Ok(exit)
 }
@@ -232,7 +250,7 @@ fn link_over(alloc: Global, requests: Vec<u8>) -> Result<MemLink, NoMemory> {
 }
 
 // Serves the link, at a clock that stands still.
-fn script(alloc: Global, link: &mut MemLink) -> Exit {
+fn script<R: Wait>(rt: &R, alloc: Global, link: &mut MemLink) -> Exit {
     let Ok(words) = words_of(alloc, "script") else {
         return Exit::NoMemory;
     };
@@ -241,7 +259,7 @@ fn script(alloc: Global, link: &mut MemLink) -> Exit {
         return Exit::NoMemory;
     }
     let mut clock = ScriptedClock::new(moments);
-    run(alloc, words.as_slice(), link, &mut clock)
+    run(rt, alloc, words.as_slice(), link, &mut clock)
 }
 
 // A command line of one word.

@@ -1,9 +1,11 @@
-//! The program: `rsearch script` answers the requests of standard input on standard output.
+//! The program: `rsearch script` answers the requests of standard input on standard output, and
+//! `rsearch serve PORT WORKERS` answers connections at a port of 127.0.0.1 by so many threads.
 //!
-//! `main` only makes the real things, the streams and the clock of the system, and calls `run` of
-//! `ft_server`, which carries the promise of the whole.
+//! `main` only makes the real things, the streams, connections, clocks and threads of the system, and
+//! calls `run` of `ft_server` or `serve` of `worker_pool`, which carry the promise of the whole.
 #![tactic(auto)]
 
+mod making;
 mod sleep_pace;
 mod std_link;
 mod tcp;
@@ -11,21 +13,61 @@ mod tcp;
 mod tests;
 mod threads;
 
-ghost use Rattle.std.specs.Prelude.{◌≡◌};
+ghost use Rattle.std.specs.Prelude.{◌≡◌, ◌<◌, IfSome};
 ghost use Rattle.std.specs.Process.{exit_status};
 ghost use Rattle.ft_server.specs.Status.{status_of};
 
-use ft_server::{Exit, run};
+use ft_server::{Exit, Form, read_words, run};
+use making::{make_clocks, make_doors};
+use sleep_pace::SleepPace;
+use std::alloc::Global;
 use std::env;
 use std::io::ErrorKind;
+use std::marker::PhantomData;
 use std::process::ExitCode;
+use std::sync::Arc;
+use std::sync::atomic::AtomicBool;
 use std_link::{StdLink, SystemClock};
+use tcp::TcpLink;
+use threads::{ThreadSpawner, start_thread};
+use worker_pool::serve;
 
 fn main(rt: HostRuntime) -> ExitCode {
-    let exit = match words_of_the_line(&rt) {
-        Ok(words) => run_over_streams(&rt, words.as_slice()),
-        Err(exit) => exit,
+    let words = match words_of_the_line(&rt) {
+        Ok(words) => words,
+        Err(exit) => return end(&rt, exit),
     };
+    let words = words.as_slice();
+    let Some((port, workers)) = place_of(rt.alloc(), words) else {
+        let mut clock = SystemClock { rt };
+        let mut link = StdLink::new(rt.stdin(), rt.stdout());
+        let exit = run(&rt, rt.alloc(), words, &mut link, &mut clock);
+        return end(&rt, exit);
+    };
+    let doors = match make_doors(&rt, rt.alloc(), port, workers) {
+        Ok(doors) => doors,
+        Err(exit) => return without_doors(&rt, exit),
+    };
+    let Ok(clocks) = make_clocks(&rt, rt.alloc(), workers) else {
+        return end(&rt, Exit::NoMemory);
+    };
+    let Ok(stop) = Arc::new(rt.alloc(), AtomicBool::new(false)) else {
+        return end(&rt, Exit::NoMemory);
+    };
+    let _ = eprintln!(rt; "rsearch: listening on 127.0.0.1:{port}, {workers} workers");
+    let own = rt;
+    // The closure has to name the door's type of links, which only its contract speaks of.
+    let named: PhantomData<TcpLink> = PhantomData;
+    let mut spawner = ThreadSpawner {
+        start: |job| {
+            let _named = named;
+            start_thread(&own, job)
+        },
+        faults: 0,
+        of: PhantomData,
+    };
+    let pace = SleepPace::new(rt, stop);
+    let (exit, _works) = serve(&rt, rt.alloc(), words, doors, &mut spawner, clocks, pace);
     end(&rt, exit)
 }
 
@@ -51,13 +93,24 @@ fn without_words(fault: ErrorKind) -> Exit {
     }
 }
 
-fn run_over_streams(rt: &HostRuntime, words: &[String]) -> Exit {
-    let Ok(handle) = rt.clone() else {
-        return Exit::NoMemory;
-    };
-    let mut clock = SystemClock { rt: handle };
-    let mut link = StdLink::new(rt.stdin(), rt.stdout());
-    run(rt.alloc(), words, &mut link, &mut clock)
+/// The port and the number of workers, where the words ask for a server at a port.
+fn place_of(alloc: Global, words: &[String]) -> Option<(u16, u16)>
+    ensures { IfSome result (λ place. 0 < place.1) }
+{
+    match read_words(alloc, words) {
+        Ok(Form::Serve { port, workers }) => Some((port, workers)),
+        _ => None,
+    }
+}
+
+/// Says that the port cannot be listened at, where that is why there are no doors.
+fn without_doors(rt: &HostRuntime, exit: Exit) -> ExitCode
+    ensures { exit_status result ≡ status_of exit }
+{
+    if exit == Exit::DoorFault {
+        let _ = eprintln!(rt; "rsearch: cannot listen");
+    }
+    end(rt, exit)
 }
 
 /// The status of the process, behind the usage line where the words are of no form.
@@ -65,7 +118,7 @@ fn end(rt: &HostRuntime, exit: Exit) -> ExitCode
     ensures { exit_status result ≡ status_of exit }
 {
     if exit == Exit::Usage {
-        let _ = eprintln!(rt; "usage: rsearch script | load SEED DOCS | serve PORT WORKERS");
+        let _ = eprintln!(rt; "usage: rsearch script | serve PORT WORKERS");
     }
     ExitCode::from(exit.status())
 }

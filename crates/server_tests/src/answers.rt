@@ -6,6 +6,7 @@ use crate::links::{
 use ft_server::{End, Exit};
 use resp_wire::WireFault;
 use std::alloc::Global;
+use std::sync::Wait;
 
 const REPLIES: &[u8] = b":1\r\n:0\r\n-ERR not built\r\n-ERR unknown command\r\n";
 
@@ -20,25 +21,33 @@ const PLUS: &[u8] = b"-ERR Protocol error: expected '$', got '+'\r\n";
 const OTHER: &[u8] = b"-ERR Protocol error: expected '$', got '?'\r\n";
 
 /// Whether the texts are answered so, by whole pieces and by three bytes at once.
-fn is_answered(alloc: Global, texts: &[&[u8]], want: &[u8], exit: Exit) -> bool {
+fn is_answered<R: Wait>(rt: &R, alloc: Global, texts: &[&[u8]], want: &[u8], exit: Exit) -> bool {
     let slow = Faults {
         read: 0,
         write: 0,
         write_max: 3,
     };
-    is_run(alloc, texts, &NONE, want, exit) && is_run(alloc, texts, &slow, want, exit)
+    is_run(rt, alloc, texts, &NONE, want, exit) && is_run(rt, alloc, texts, &slow, want, exit)
 }
 
-fn answers_commands(alloc: Global) -> bool {
+fn answers_commands<R: Wait>(rt: &R, alloc: Global) -> bool {
     is_answered(
+        rt,
         alloc,
         &[HSET, HSET_AGAIN, b"*0\r\n", CURSOR, NOPE],
         REPLIES,
         Exit::Done,
-    ) && is_answered(alloc, &[], b"", Exit::Done)
-        && is_answered(alloc, &[b"*0\r\n*-1\r\n"], b"", Exit::Done)
-        && is_answered(alloc, &[HSET, b"*1\r\n$4\r\nPI"], b":1\r\n", Exit::CutShort)
+    ) && is_answered(rt, alloc, &[], b"", Exit::Done)
+        && is_answered(rt, alloc, &[b"*0\r\n*-1\r\n"], b"", Exit::Done)
         && is_answered(
+            rt,
+            alloc,
+            &[HSET, b"*1\r\n$4\r\nPI"],
+            b":1\r\n",
+            Exit::CutShort,
+        )
+        && is_answered(
+            rt,
             alloc,
             &[PING, b"*2\r\n$4\r\nping\r\n$2\r\na\n\r\n", QUIT],
             ECHOES,
@@ -46,28 +55,28 @@ fn answers_commands(alloc: Global) -> bool {
         )
 }
 
-fn answers_faults(alloc: Global) -> bool {
-    is_faulty(alloc, &[b"*1\n$4\nPING\n*1\n$4\nPING\n"], COUNT)
-        && is_faulty(alloc, &[HSET, b"*1\r\n$+4\r\nPING\r\n", CURSOR], LENGTH)
-        && is_faulty(alloc, &[b"PING\r\n"], COUNT)
-        && is_faulty(alloc, &[b"*1\r\n+"], PLUS)
-        && is_faulty(alloc, &[b"*1\r\n\x7f"], OTHER)
+fn answers_faults<R: Wait>(rt: &R, alloc: Global) -> bool {
+    is_faulty(rt, alloc, &[b"*1\n$4\nPING\n*1\n$4\nPING\n"], COUNT)
+        && is_faulty(rt, alloc, &[HSET, b"*1\r\n$+4\r\nPING\r\n", CURSOR], LENGTH)
+        && is_faulty(rt, alloc, &[b"PING\r\n"], COUNT)
+        && is_faulty(rt, alloc, &[b"*1\r\n+"], PLUS)
+        && is_faulty(rt, alloc, &[b"*1\r\n\x7f"], OTHER)
 }
 
-fn is_faulty(alloc: Global, texts: &[&[u8]], want: &[u8]) -> bool {
-    is_answered(alloc, texts, want, Exit::Protocol)
+fn is_faulty<R: Wait>(rt: &R, alloc: Global, texts: &[&[u8]], want: &[u8]) -> bool {
+    is_answered(rt, alloc, texts, want, Exit::Protocol)
 }
 
 #[test]
 fn answers_each_command(rt: HostRuntime) {
-    assert!(rt; answers_commands(rt.alloc()));
-    assert!(rt; answers_faults(rt.alloc()));
+    assert!(rt; answers_commands(&rt, rt.alloc()));
+    assert!(rt; answers_faults(&rt, rt.alloc()));
 }
 
 /// Whether a link that gives the texts ends so.
-fn ends(alloc: Global, texts: &[&[u8]], end: End) -> bool {
+fn ends<R: Wait>(rt: &R, alloc: Global, texts: &[&[u8]], end: End) -> bool {
     match link_of(alloc, texts, &NONE) {
-        Some(mut link) => serve(alloc, &mut link) == Some(end),
+        Some(mut link) => serve(rt, alloc, &mut link) == Some(end),
         None => false,
     }
 }
@@ -76,29 +85,29 @@ fn fault(at: u64, kind: WireFault) -> End {
     End::Protocol { at, kind }
 }
 
-fn ends_within(alloc: Global) -> bool {
-    ends(alloc, &[HSET], End::Closed)
-        && ends(alloc, &[b"*1\r\n$4\r\nPI"], End::CutShort { left: 10 })
-        && ends(alloc, &[b"*65536\r\n"], End::CutShort { left: 8 })
-        && ends(alloc, &[HSET, b"*"], End::CutShort { left: 1 })
-        && ends(alloc, &[QUIT, b"x"], End::Quit)
+fn ends_within<R: Wait>(rt: &R, alloc: Global) -> bool {
+    ends(rt, alloc, &[HSET], End::Closed)
+        && ends(rt, alloc, &[b"*1\r\n$4\r\nPI"], End::CutShort { left: 10 })
+        && ends(rt, alloc, &[b"*65536\r\n"], End::CutShort { left: 8 })
+        && ends(rt, alloc, &[HSET, b"*"], End::CutShort { left: 1 })
+        && ends(rt, alloc, &[QUIT, b"x"], End::Quit)
 }
 
-fn ends_with_fault(alloc: Global) -> bool {
+fn ends_with_fault<R: Wait>(rt: &R, alloc: Global) -> bool {
     let count = WireFault::MultiLength;
     let length = WireFault::BulkLength;
     let plus = WireFault::NoDollar { got: b'+' };
-    ends(alloc, &[b"*1\r\n$1048577\r\n"], fault(4, length))
-        && ends(alloc, &[b"*1\r\n$-2\r\n"], fault(4, length))
-        && ends(alloc, &[b"*70000\r\n"], fault(0, count))
-        && ends(alloc, &[b"*1\r\n+"], fault(4, plus))
-        && ends(alloc, &[HSET, b"x"], fault(HSET.len() as u64, count))
+    ends(rt, alloc, &[b"*1\r\n$1048577\r\n"], fault(4, length))
+        && ends(rt, alloc, &[b"*1\r\n$-2\r\n"], fault(4, length))
+        && ends(rt, alloc, &[b"*70000\r\n"], fault(0, count))
+        && ends(rt, alloc, &[b"*1\r\n+"], fault(4, plus))
+        && ends(rt, alloc, &[HSET, b"x"], fault(HSET.len() as u64, count))
 }
 
 #[test]
 fn how_a_connection_ends(rt: HostRuntime) {
-    assert!(rt; ends_within(rt.alloc()));
-    assert!(rt; ends_with_fault(rt.alloc()));
+    assert!(rt; ends_within(&rt, rt.alloc()));
+    assert!(rt; ends_with_fault(&rt, rt.alloc()));
 }
 
 // A word of 1 MiB with its length.
@@ -113,17 +122,17 @@ fn long_word(alloc: Global) -> Vec<u8> {
 }
 
 // Whether a command of 16 such words is refused at its seventeenth.
-fn is_refused_past(alloc: Global, word: &[u8]) -> bool {
+fn is_refused_past<R: Wait>(rt: &R, alloc: Global, word: &[u8]) -> bool {
     let texts = [
         b"*17\r\n", word, word, word, word, word, word, word, word, word, word, word, word, word,
         word, word, word, b"$1\r\n",
     ];
-    ends(alloc, &texts, fault(16_777_413, WireFault::BulkLength))
+    ends(rt, alloc, &texts, fault(16_777_413, WireFault::BulkLength))
 }
 
 #[test]
 fn a_command_has_at_most_16_mib(rt: HostRuntime) {
-    assert!(rt; is_refused_past(rt.alloc(), long_word(rt.alloc()).as_slice()));
+    assert!(rt; is_refused_past(&rt, rt.alloc(), long_word(rt.alloc()).as_slice()));
 }
 
 #[test]
@@ -140,15 +149,15 @@ fn bytes_behind_quit_are_not_executed(rt: HostRuntime) {
         ],
     ];
     for texts in cases {
-        assert!(rt; is_served(rt.alloc(), texts, b":1\r\n+OK\r\n", End::Quit));
+        assert!(rt; is_served(&rt, rt.alloc(), texts, b":1\r\n+OK\r\n", End::Quit));
     }
 }
 
 /// Whether the program refuses these words, and writes nothing to its link.
-fn is_refused(alloc: Global, words: &[&str]) -> bool {
+fn is_refused<R: Wait>(rt: &R, alloc: Global, words: &[&str]) -> bool {
     match link_of(alloc, &[CURSOR], &NONE) {
         Some(mut link) => {
-            let ended = run_words(alloc, words, &mut link);
+            let ended = run_words(rt, alloc, words, &mut link);
             (ended == Some(Exit::Usage)) & link.output().is_empty()
         }
         None => false,
@@ -157,9 +166,23 @@ fn is_refused(alloc: Global, words: &[&str]) -> bool {
 
 #[test]
 fn other_words_are_refused(rt: HostRuntime) {
-    let cases: [&[&str]; 5] = [&[], &["serve"], &["--help"], &["SCRIPT"], &["script", "x"]];
+    let cases: [&[&str]; 12] = [
+        &[],
+        &["serve"],
+        &["--help"],
+        &["SCRIPT"],
+        &["script", "x"],
+        // Words of another call, and numbers that are none of it.
+        &["serve", "7777", "4"],
+        &["serve", "0", "4"],
+        &["serve", "7777", "65"],
+        &["serve", "07777", "4"],
+        &["serve", "+7777", "4"],
+        &["serve", "7777", "4", "x"],
+        &["serve", "65536", "4"],
+    ];
     for words in cases {
-        assert!(rt; is_refused(rt.alloc(), words));
+        assert!(rt; is_refused(&rt, rt.alloc(), words));
     }
     assert!(rt; Exit::Usage.status() == 2);
 }

@@ -23,6 +23,8 @@ mod links;
 #[cfg(test)]
 mod options;
 #[cfg(test)]
+mod passes;
+#[cfg(test)]
 mod plain;
 #[cfg(test)]
 mod queries;

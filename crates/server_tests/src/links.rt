@@ -1,9 +1,14 @@
 //! The server over links in memory: bytes in, bytes out, and how the run ended. Where memory is wanting an answer is None,
 //! or a text is left out, as the comparison then shows.
+ghost use Rattle.std.specs.Prelude.{IfSome};
+ghost use Rattle.ft_server.specs.Passes.{IsOf};
+
 use fs_ports::{ListOfCalls, MemLink, ScriptedClock};
 use ft_base::{Bytes, ListOf};
-use ft_server::{End, Exit, run, serve_connection};
+use ft_engine::Engine;
+use ft_server::{End, Exit, Pass, Server, run, serve_connection};
 use std::alloc::Global;
+use std::sync::Wait;
 
 /// A command that answers `:1`.
 pub const HSET: &[u8] = b"*4\r\n$4\r\nHSET\r\n$2\r\nd1\r\n$1\r\nt\r\n$11\r\nHello world\r\n";
@@ -64,32 +69,66 @@ fn clock_of(alloc: Global) -> Option<ScriptedClock> {
 }
 
 /// How the program ends with these words over a link.
-pub fn run_words(alloc: Global, texts: &[&str], link: &mut MemLink) -> Option<Exit> {
+pub fn run_words<R: Wait>(
+    rt: &R,
+    alloc: Global,
+    texts: &[&str],
+    link: &mut MemLink,
+) -> Option<Exit> {
     let mut words = Vec::new(alloc);
     for text in texts {
         if let Ok(word) = String::from_str(alloc, text) {
             let _ = words.push(word);
         }
     }
-    run_over(alloc, words.as_slice(), link)
+    run_over(rt, alloc, words.as_slice(), link)
 }
 
-fn run_over(alloc: Global, words: &[String], link: &mut MemLink) -> Option<Exit> {
+fn run_over<R: Wait>(rt: &R, alloc: Global, words: &[String], link: &mut MemLink) -> Option<Exit> {
     let mut clock = clock_of(alloc)?;
-    Some(run(alloc, words, link, &mut clock))
+    Some(run(rt, alloc, words, link, &mut clock))
 }
 
-/// How a connection over a link ends.
-pub fn serve(alloc: Global, link: &mut MemLink) -> Option<End> {
+/// A server that has had no event, and its first pass.
+pub fn server_of(alloc: Global) -> Option<(Server, Pass)>
+    ensures { IfSome result (λ made. IsOf made.0 made.1) }
+{
+    let engine = Engine::new(alloc).ok()?;
+    Server::open(alloc, engine).ok()
+}
+
+/// How a connection over a link ends, with a server of its own.
+pub fn serve<R: Wait>(rt: &R, alloc: Global, link: &mut MemLink) -> Option<End> {
+    let (server, pass) = server_of(alloc)?;
+    serve_as(rt, alloc, &server, pass, link)
+}
+
+/// How a connection over a link ends, as the caller of this pass.
+pub fn serve_as<R: Wait>(
+    rt: &R,
+    alloc: Global,
+    server: &Server,
+    pass: Pass,
+    link: &mut MemLink,
+) -> Option<End>
+    requires { IsOf server.now pass }
+{
     let mut clock = clock_of(alloc)?;
-    Some(serve_connection(alloc, link, &mut clock))
+    Some(serve_connection(rt, alloc, server, pass, link, &mut clock).1)
 }
 
 /// Whether `script` over a link that gives the texts ends so, and the link took these bytes.
-pub fn is_run(alloc: Global, texts: &[&[u8]], faults: &Faults, want: &[u8], exit: Exit) -> bool {
+pub fn is_run<R: Wait>(
+    rt: &R,
+    alloc: Global,
+    texts: &[&[u8]],
+    faults: &Faults,
+    want: &[u8],
+    exit: Exit,
+) -> bool {
     match link_of(alloc, texts, faults) {
         Some(mut link) => {
-            let ended = run_words(alloc, &["script"], &mut link);
+            let ended = run_words(rt, alloc, &["script"], &mut link);
             (ended == Some(exit)) & (link.output() == want)
         }
         None => false,
@@ -97,10 +136,10 @@ pub fn is_run(alloc: Global, texts: &[&[u8]], faults: &Faults, want: &[u8], exit
 }
 
 /// Whether a link that gives the texts is served to this end, and took these bytes.
-pub fn is_served(alloc: Global, texts: &[&[u8]], want: &[u8], end: End) -> bool {
+pub fn is_served<R: Wait>(rt: &R, alloc: Global, texts: &[&[u8]], want: &[u8], end: End) -> bool {
     match link_of(alloc, texts, &NONE) {
         Some(mut link) => {
-            let ended = serve(alloc, &mut link);
+            let ended = serve(rt, alloc, &mut link);
             (ended == Some(end)) & (link.output() == want)
         }
         None => false,

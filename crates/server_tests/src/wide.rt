@@ -5,6 +5,7 @@ use crate::turns::{put, put_line};
 use ft_base::put_int;
 use ft_server::Exit;
 use std::alloc::Global;
+use std::sync::Wait;
 
 fn put_word(out: &mut Vec<u8>, word: &[u8]) {
     put_line(out, b"$", word.len());
@@ -93,13 +94,13 @@ fn replies(alloc: Global, bytes: &[u8]) -> Vec<u8> {
 }
 
 /// Whether the requests are answered so.
-fn is_answered(alloc: Global, requests: &[u8], replies: &[u8]) -> bool {
+fn is_answered<R: Wait>(rt: &R, alloc: Global, requests: &[u8], replies: &[u8]) -> bool {
     let faults = Faults {
         read: 0,
         write: 0,
         write_max: 100_000,
     };
-    is_run(alloc, &[requests], &faults, replies, Exit::Done)
+    is_run(rt, alloc, &[requests], &faults, replies, Exit::Done)
 }
 
 #[test]
@@ -107,5 +108,5 @@ fn wide_commands(rt: HostRuntime) {
     let bytes = all_bytes(rt.alloc());
     let requests = requests(rt.alloc(), bytes.as_slice());
     let replies = replies(rt.alloc(), bytes.as_slice());
-    assert!(rt; is_answered(rt.alloc(), requests.as_slice(), replies.as_slice()));
+    assert!(rt; is_answered(&rt, rt.alloc(), requests.as_slice(), replies.as_slice()));
 }

@@ -1,11 +1,5 @@
-use Rattle.std.proofs.Common.{arith, sym, ◌∙◌}
-use Rattle.ft_server.proofs.FormLaws.{script_is}
+use Rattle.std.proofs.Common.{refl}
 use Rattle.ft_server.proofs.form.read_words.Goals as goal
 
-pub returns-in-len1 : goal.returns-in-len1
-returns-in-len1 c =
-    let script = script_is c.args.words.now c.word-item.result c.as_str.result.now (omega arith) c.word-item.is c.as_str.ensures.value (sym c.eq.ensures ∙ c.if-eq.true) in
-    record {
-      script = λ made. script;
-      usage = (λ e. absurd (cc), λ no. absurd (no script));
-    }
+pub returns-in-Some-clause-usage : goal.returns-in-Some-clause-usage
+returns-in-Some-clause-usage c = (λ e. absurd (cc), λ no. absurd (no c.in-Some.form ((c.in-Some.ensures c.in-Some.form).0 refl)))

@@ -1,0 +1,56 @@
+-- Serving under way: what was read, answered and written so far, and what a step of it leads to. No public clause cites this file.
+use Rattle.std.specs.Prelude.{◌≡◌, ◌≤◌, ℕ, List, ◌++◌, length, true, false, Result, Ok, Err}
+use Rattle.std.specs.declared.option.Option.{Option}
+use Rattle.std.specs.Io.KnownBytes.{Appends, Consumes}
+use Rattle.ft_base.specs.Words.{is_quit}
+use Rattle.fs_ports.specs.Causes.{Rose, WritesFront}
+use Rattle.history_core.specs.Commands.{Said, replies_of, words_of}
+use Rattle.history_core.specs.declared.entry.Entry.{Entry}
+use Rattle.turn_gate.specs.Known.{Known}
+use Rattle.resp_wire.specs.Decoding.{Decoding, fed}
+use Rattle.resp_wire.specs.Stream.{Command, Stream, stream_of}
+use Rattle.resp_wire.specs.declared.fault.WireFault.{WireFault}
+use Rattle.ft_server.specs.Callers.{Called}
+use Rattle.ft_server.specs.Ends.{Ends}
+use Rattle.ft_server.specs.FaultText.{fault_text}
+use Rattle.ft_server.specs.Session.{Outside, quits}
+use Rattle.ft_server.specs.declared.connection.End.{End}
+use Rattle.ft_server.specs.declared.connection.End.TheVariants as end
+
+-- a stream whose first commands were taken
+abbrev pub behind : List Command → Stream → Stream
+behind taken stream = record stream { commands = taken ++ stream.commands }
+
+-- What was served so far as the caller of a pass, with what the decoder holds and the pass has seen by then: each command
+-- that was taken was answered, and its reply written.
+pub record Going (held : Decoding) (pass later : Known Entry) (before now : Outside) : Type 0 where
+  pub input : List ℕ
+  pub said : List Said
+  pub caller : later.caller ≡ pass.caller
+  pub alone : later.alone ≡ pass.alone
+  pub called : Called pass later said before.given now.given
+  pub read : Consumes before.left now.left input
+  pub split : stream_of input ≡ behind (words_of said) (stream_of held.left)
+  pub no_quit : quits (words_of said) ≡ false
+  pub fed_is : fed held ≡ length input
+  pub sent : Appends before.written now.written (replies_of said)
+  pub reads : before.read_faults ≤ now.read_faults
+  pub writes : before.write_faults ≤ now.write_faults
+
+-- A step goes on, with how many bytes it read; or the connection ends.
+abbrev pub LeadsOn : Result ℕ End → Decoding → Known Entry → Known Entry → Outside → Outside → Type 0
+LeadsOn (Ok count) held pass later before now = Going held pass later before now
+LeadsOn (Err how) held pass later before now = Ends (Called pass later) how before now
+
+-- A reply was written: whole, and that of QUIT ends the connection; or a front of it.
+abbrev pub Sent : Result ℕ End → List (List ℕ) → List ℕ → Option (List ℕ) → Option (List ℕ) → ℕ → ℕ → Type 0
+Sent (Ok count) words reply written written' faults faults' = (count ≡ 0) × (is_quit words ≡ false) × Appends written written' reply
+Sent (Err end.Quit) words reply written written' faults faults' = (is_quit words ≡ true) × Appends written written' reply
+Sent (Err end.WriteFault) words reply written written' faults faults' = WritesFront written written' reply × Rose faults faults'
+Sent (Err _) words reply written written' faults faults' = ⊥
+
+-- The text of a fault was written: whole, or a front of it.
+abbrev pub Refused : End → ℕ → WireFault → Option (List ℕ) → Option (List ℕ) → ℕ → ℕ → Type 0
+Refused (end.Protocol at' kind') at kind written written' faults faults' = (at' ≡ at) × (kind' ≡ kind) × Appends written written' (fault_text kind)
+Refused end.WriteFault at kind written written' faults faults' = WritesFront written written' (fault_text kind) × Rose faults faults'
+Refused _ at kind written written' faults faults' = ⊥

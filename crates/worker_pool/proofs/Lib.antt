@@ -1,0 +1,5 @@
+mod EndingLaws
+mod FillingLaws
+mod RunLaws
+mod VisitLaws
+mod WordLaws

@@ -1,0 +1,3 @@
+pub mod Jobs
+pub mod Visits
+pub mod Works

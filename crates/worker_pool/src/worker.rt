@@ -1,0 +1,79 @@
+//! A worker: it serves the links of a door one after another, as one caller.
+ghost use Rattle.std.specs.Prelude.{◌≡◌, true, false};
+ghost use Rattle.fs_ports.specs.Doors.{handed_back};
+ghost use Rattle.ft_server.specs.Passes.{IsOf};
+ghost use Rattle.worker_pool.specs.Visits.{Connects, MayBeRead, Visit};
+ghost use Rattle.worker_pool.specs.Works.{IsWorkerDone};
+
+use crate::work::Worked;
+use fs_ports::{Clock, Door, Failed};
+use ft_server::{Pass, Server, serve_connection};
+use std::alloc::Global;
+use std::sync::Wait;
+
+/// Serves the links of a door until it gives none or fails. Each goes back to the door.
+pub(crate) fn serve_door<D: Door, C: Clock, R: Wait>(
+    rt: &R,
+    alloc: Global,
+    server: &Server,
+    pass: Pass,
+    door: D,
+    clock: C,
+) -> Worked<D, C>
+    requires of { IsOf server.now pass }
+    requires idle { (D.at door).out ≡ false }
+    requires prompt { MayBeRead D.Link.Link C.Clock }
+    ensures { IsWorkerDone D.at D.Link.Link C.Clock server.now pass door clock result }
+{
+    let mut pass = pass;
+    let mut door = door;
+    let mut clock = clock;
+    for _ in rt.forever() {
+        match door.accept() {
+            Err(Failed) => {
+                return Worked::Worker {
+                    pass,
+                    door,
+                    clock,
+                    failed: true,
+                };
+            }
+            Ok(None) => {
+                return Worked::Worker {
+                    pass,
+                    door,
+                    clock,
+                    failed: false,
+                };
+            }
+            Ok(Some(link)) => {
+                pass = serve_link(rt, alloc, server, pass, &mut door, &mut clock, link);
+            }
+        }
+    }
+    unreachable!()
+}
+
+/// Serves one connection, and hands its link back to its door.
+fn serve_link<D: Door, C: Clock, R: Wait>(
+    rt: &R,
+    alloc: Global,
+    server: &Server,
+    pass: Pass,
+    door: &mut D,
+    clock: &mut C,
+    link: D::Link,
+) -> Pass
+    requires of { IsOf server.now pass }
+    requires out { (D.at door.old).out ≡ true }
+    requires prompt { MayBeRead D.Link.Link C.Clock }
+    ensures idle { (D.at door.new).out ≡ false }
+    ensures visit { (visit : Visit D.Link) × (visit.link ≡ link)
+        × Connects D.Link.Link C.Clock server.now pass result clock.old clock.new visit
+        × (D.at door.new ≡ handed_back (D.at door.old) visit.back) }
+{
+    let mut link = link;
+    let (pass, _) = serve_connection(rt, alloc, server, pass, &mut link, clock);
+    door.hand_back(link);
+    pass
+}
