@@ -116,15 +116,18 @@ def check_crate(crate, architecture, faults):
         faults.append(f"docs/ARCHITECTURE.md: no row of `{crate}` with its first sentence")
 
 
-# The definitions that the clauses of the program's `run` cite.
-CITED = ("Ends", "FaultText", "Limits", "Script", "Session", "Status")
+# The definitions that the clauses of the program's `run` and `serve` cite.
+CITED = {
+    "ft_server": ("Ends", "FaultText", "Forms", "Limits", "Session", "Status"),
+    "worker_pool": ("Jobs", "Visits", "Works"),
+}
 USED = re.compile(r"^use Rattle\.(\w+)\.specs\.(\w+)", re.M)
 LISTED = re.compile(r"`(?:crates/(\w+)/specs/)?(\w+)\.antt`")
 
 
 def reached():
-    """The files of definitions that the program's clause reaches, through whatever they use."""
-    left = [pathlib.Path("crates", "ft_server", "specs", f"{name}.antt") for name in CITED]
+    """The files of definitions that the program's clauses reach, through whatever they use."""
+    left = [pathlib.Path("crates", crate, "specs", f"{name}.antt") for crate, names in CITED.items() for name in names]
     found = set()
     while left:
         path = left.pop()

@@ -1,0 +1,64 @@
+#!/usr/bin/env python3
+"""Types each session of the pages into redis-cli, and compares what it answers with what the page shows.
+
+    tools/clients/pages.py PORT [PAGE..]        without pages, README.md and all of docs/
+
+A session is a block of text in which a line that begins with "> " is a command, and the lines below it are its answer.
+A block that begins with FT.CREATE begins with an empty server, and so does the first block of a page; every other one
+goes on from the block before it. The server on 127.0.0.1 at PORT has to be empty, as it is emptied again and again.
+
+Prints each answer that differs; then a line that counts. The status is 1 where something differs.
+"""
+import pathlib
+import re
+import subprocess
+import sys
+
+TOP = pathlib.Path(__file__).resolve().parent.parent.parent
+BLOCK = re.compile(r"^```text\n(> .*?)^```$", re.M | re.S)
+
+
+def typed(port: str, command: str) -> str:
+    """What redis-cli shows for a line that is typed."""
+    words = ["redis-cli", "-p", port, "--no-raw"]
+    ran = subprocess.run(words, input=command + "\n", capture_output=True, text=True, timeout=30)
+    return (ran.stdout + ran.stderr).rstrip()
+
+
+def exchanges(block: str) -> list:
+    """The commands of a session, each with the answer that the page shows."""
+    parts = re.split(r"^> ", block, flags=re.M)[1:]
+    pairs = [part.partition("\n") for part in parts]
+    return [(command.strip(), answer.rstrip()) for command, _, answer in pairs]
+
+
+def check_page(port: str, path: pathlib.Path) -> tuple:
+    """How many answers a page shows, and how many differ."""
+    count, differing = 0, 0
+    for number, found in enumerate(BLOCK.finditer(path.read_text())):
+        pairs = exchanges(found[1])
+        if number == 0 or pairs[0][0].startswith("FT.CREATE"):
+            typed(port, "FLUSHALL")
+        for command, wanted in pairs:
+            came = typed(port, command)
+            count += 1
+            if came != wanted:
+                differing += 1
+                print(f"{path}: {command}\n--- the page has\n{wanted}\n--- the server answers\n{came}\n")
+    return count, differing
+
+
+def main():
+    if len(sys.argv) < 2 or not sys.argv[1].isdigit():
+        sys.exit(__doc__)
+    port = sys.argv[1]
+    if typed(port, "DBSIZE") != "(integer) 0" or typed(port, "FT._LIST") != "(empty array)":
+        sys.exit(f"pages: there is no empty server on 127.0.0.1:{port}")
+    paths = [pathlib.Path(name) for name in sys.argv[2:]] or [TOP / "README.md", *sorted((TOP / "docs").glob("*.md"))]
+    found = [check_page(port, path) for path in paths]
+    typed(port, "FLUSHALL")
+    print(f"pages: {sum(count for count, _ in found)} answers, {sum(differing for _, differing in found)} differ")
+    sys.exit(1 if any(differing for _, differing in found) else 0)
+
+
+main()
