@@ -84,6 +84,19 @@ def aggregates(count, *parts):
     return shop(count, None) + [request("FT.AGGREGATE", "i", "*", *parts)] * SHOP_AGGREGATES
 
 
+def cursor(count, size, *parts):
+    """All documents of the shop, read by a cursor of so many rows a read. Its id is the number of the command that opens it."""
+    opened = count + 2
+    opening = request("FT.AGGREGATE", "i", "*", "LOAD", 1, "@p", *parts, "WITHCURSOR", "COUNT", size)
+    return shop(count, None) + [opening] + [request("FT.CURSOR", "READ", "i", opened)] * (count // size)
+
+
+def beside_cursors(count):
+    """So many increments while an index has 128 cursors."""
+    opening = request("FT.AGGREGATE", "i", "*", "WITHCURSOR", "COUNT", 1)
+    return shop(2, None) + [opening] * 128 + [request("HINCRBY", "h", "n", 1)] * count
+
+
 def fields(count):
     return [part for number in range(count) for part in (f"field{number}", f"value{number}")]
 
@@ -106,6 +119,10 @@ WORKS = {
     + [request("RENAME", "a", "b"), request("RENAME", "b", "a")] * (count // 2),
     "fields-of-one-key": lambda count: [request("HSET", "h", f"field{number}", "value") for number in range(count)],
     "nothing": lambda count: [],
+    "shop-cursor": lambda count: cursor(count, 1_000),
+    "shop-cursor-small": lambda count: cursor(count, 10),
+    "shop-cursor-kept": lambda count: cursor(count, 1_000, "SORTBY", 1, "@p"),
+    "beside-cursors": beside_cursors,
 }
 for name, query in SHOP_QUERIES.items():
     WORKS["shop-" + name] = lambda count, query=query: shop(count, query)

@@ -56,6 +56,10 @@ shop-group-two 25000 50000 100000: the same by tag and number, a group for each 
 shop-group-sort 25000 50000 100000: groups by the tag, the ten with the greatest sums
 shop-apply-filter 25000 50000 100000: of all, twice the number, those over 100,000, and how many they are
 shop-aggregate-sort 25000 50000 100000: of all the number, the ten least
+shop-cursor 25000 50000 100000: all documents by a cursor, 1,000 rows a read
+shop-cursor-small 25000 50000 100000: the same, ten rows a read
+shop-cursor-kept 25000 50000 100000: the same, sorted by the number, so that the rows are kept, 1,000 a read
+beside-cursors 10000 20000 40000: increments of one field while an index has 128 cursors
 hgetall 250 500 1000: HGETALLs of a hash of 1,000 fields
 wide-hsets 16384 32768 65534: 20 HSETs of so many words each, of new keys
 wide-hdel 8000 16000 32000: one HDEL of all fields of a hash, from the first to the last

@@ -3,7 +3,7 @@
 #
 #     tools/clients.sh PORT [CONNECTIONS]
 #
-# The session makes the index `clientcheck` and three hashes, searches with a filter and a sort, aggregates, asks
+# The session makes the index `clientcheck` and three hashes, searches with a filter and a sort, aggregates, reads a cursor, asks
 # FT.INFO, is refused twice, and takes all of it out again. tools/clients/ has it once for each client, written as that
 # client is usually used; each has to print what tools/clients/wanted.txt says. Then redis-benchmark runs its loads to their end,
 # with so many CONNECTIONS at once (1 without it, and no more than the server has workers).

@@ -4,19 +4,20 @@
     tools/compare_plain.py [SESSIONS [SEED]]            without these, 100 sessions of the first seed
     tools/compare_plain.py --rows < crates/rows/stdin   the plain machine itself, with the rows of sessions
 
-Each session is 200 random commands and more: hashes, schemas, searches, aggregates, and now and then a fault. A seed has
-the same sessions each time. tools/plain works out what each command has to answer; the program gets the same requests as
-`rsearch script`. It is that of ./rsearch, built where it is missing or old, or the one that RSEARCH names.
+Each session is 200 random commands and more: hashes, schemas, searches, aggregates, cursors, and now and then a fault.
+A seed has the same sessions each time. tools/plain works out what each command has to answer; the program gets the same
+requests as `rsearch script`. It is that of ./rsearch, built where it is missing or old, or the one that RSEARCH names.
 
-Prints of each session that differs the commands that are needed for its first difference, as rows with the replies of the
-plain machine, and what came in place of the last one; then a line that counts. With --rows, each row that differs, but for
-those of FT.INFO, which the plain machine does not have. The status is 1 where something differs.
+Prints of each session that differs the commands that are needed for its first difference, as rows with the replies of
+the plain machine, and what came in place of the last one; then a line that counts. With --rows, each row that differs,
+but for those of FT.INFO, which the plain machine does not have. The status is 1 where something differs.
 """
 import os
 import pathlib
 import subprocess
 import sys
 
+from plain.drawn_cursors import is_short_lived
 from plain.machine import Machine
 from plain.rows import is_reply, read_sessions, spelled_reply, spelled_row
 from plain.sessions import session
@@ -68,12 +69,27 @@ def without_runs(items: list, differs) -> list:
     return items
 
 
+def those_at(commands: list, places: list) -> list:
+    """The commands in these places. A cursor's id is the place of its opening, from 1, and so is another one then."""
+    ids = {b"%d" % (place + 1): b"0" for place in range(len(commands))}
+    ids |= {b"%d" % (before + 1): b"%d" % (after + 1) for after, before in enumerate(places)}
+    return [with_new_id(commands[place], ids) for place in places]
+
+
+def with_new_id(words: list, ids: dict) -> list:
+    """The command, with the id of FT.CURSOR as it is now; 0, which none has, where the opening is gone."""
+    if words[0].upper() != b"FT.CURSOR":
+        return words
+    return words[:3] + [ids.get(word, word) for word in words[3:4]] + words[4:]
+
+
 def cut_down(program: str, commands: list) -> list:
     """The session without the commands, and then the words, that are not needed for a difference."""
     def differs(fewer: list) -> bool:
-        return first_difference(program, fewer) is not None
+        return not any(map(is_short_lived, fewer)) and first_difference(program, fewer) is not None
 
-    commands = without_runs(commands[:first_difference(program, commands)[0] + 1], differs)
+    needed = range(first_difference(program, commands)[0] + 1)
+    commands = those_at(commands, without_runs(list(needed), lambda places: differs(those_at(commands, places))))
     for at in range(len(commands)):
         before, behind = commands[:at], commands[at + 1:]
         commands = before + [without_runs(commands[at], lambda words: differs(before + [words] + behind))] + behind
@@ -104,11 +120,12 @@ def compare_rows() -> int:
     rows, differ = 0, 0
     for name, session_rows in read_sessions(sys.stdin.buffer).items():
         machine = Machine()
-        for words, lines in session_rows:
+        for words, lines, moment in session_rows:
+            # Also of those that are left out, since each command is an event.
+            reply = machine.reply(words, moment)
             if words[0].upper() in LEFT_OUT:
                 continue
             rows += 1
-            reply = machine.reply(words)
             if not is_reply(lines, reply):
                 differ += 1
                 print(f"== {name}\n{spelled_row(words, reply)}\n    wanted: {b' '.join(lines).decode('latin-1')}")
@@ -125,8 +142,9 @@ def compare_sessions(count: int, seed: int) -> int:
         if first_difference(program, commands) is not None:
             differ += 1
             print_difference(program, number, commands)
-    searches, aggregates = names.count(b"FT.SEARCH"), names.count(b"FT.AGGREGATE")
-    print(f"{count} sessions, {len(names)} commands, {searches} searches, {aggregates} aggregates, {differ} differ")
+    kinds = {"searches": b"FT.SEARCH", "aggregates": b"FT.AGGREGATE", "uses of cursors": b"FT.CURSOR"}
+    counted = ", ".join(f"{names.count(name)} {kind}" for kind, name in kinds.items())
+    print(f"{count} sessions, {len(names)} commands, {counted}, {differ} differ")
     return 1 if differ else 0
 
 

@@ -3,6 +3,8 @@
 
     tools/session_to_resp.py "the first search" < crates/rows/stdin | ./rsearch script
     tools/session_to_resp.py --list < crates/rows/stdin
+
+A session with moments (`@ N`) is refused: the program's are those of the system's clock.
 """
 import re
 import sys
@@ -50,6 +52,10 @@ def sessions(lines):
     return found
 
 
+def has_moments(rows):
+    return any(row.startswith(b"@ ") for row in rows)
+
+
 def request(words):
     return b"*%d\r\n" % len(words) + b"".join(b"$%d\r\n%s\r\n" % (len(word), word) for word in words)
 
@@ -63,6 +69,8 @@ def main():
         return
     if sys.argv[1] not in found:
         sys.exit(f"session_to_resp: no session has the name {sys.argv[1]}; --list prints all names")
+    if has_moments(found[sys.argv[1]]):
+        sys.exit(f"session_to_resp: the session {sys.argv[1]} has moments (@), which no client can send")
     for row in found[sys.argv[1]]:
         for command in commands_of(row):
             sys.stdout.buffer.write(request(command))

@@ -27,6 +27,13 @@ static void show_groups(redisReply *rows) {
   puts("");
 }
 
+static long long show_read(redisReply *read) {
+  redisReply *rows = part(read, 0);
+  for (size_t at = 1; at < rows->elements; at++)
+    printf("%s%s", at > 1 ? ", " : "", part(part(rows, at), 1)->str);
+  return part(read, 1)->integer;
+}
+
 static void show_info(redisReply *info) {
   for (size_t at = 0; at + 1 < info->elements; at += 2)
     if (strcmp(part(info, at)->str, "num_docs") == 0)
@@ -59,6 +66,13 @@ int main(int count, char **words) {
   printf("\nhget %s\n", ASK("HGET clientcheck:1 name")->str);
   show_found(ASK("FT.SEARCH clientcheck %s SORTBY price RETURN 2 name price", "shoe @price:[20 80]"));
   show_groups(ASK("FT.AGGREGATE clientcheck * GROUPBY 1 @brand REDUCE COUNT 0 AS count SORTBY 2 @count DESC"));
+  printf("cursor ");
+  long long id = show_read(ASK("FT.AGGREGATE clientcheck * LOAD 1 name WITHCURSOR COUNT 2"));
+  while (id != 0) {
+    printf(" | ");
+    id = show_read(ASK("FT.CURSOR READ clientcheck %lld", id));
+  }
+  puts("");
   show_info(ASK("FT.INFO clientcheck"));
   printf("refused %s\n", ASK("FT.SEARCH missing shoe")->str);
   printf("unknown %s\n", ASK("CLIENT SETNAME x")->str);

@@ -37,6 +37,13 @@ const main = async () => {
     ],
   });
   console.log('aggregate', groups.results.map(({ brand, count }) => `${brand} ${count}`).join(' | '));
+  let part = await ft.aggregateWithCursor('clientcheck', '*', { LOAD: '@name', COUNT: 2 });
+  const parts = [part];
+  while (Number(part.cursor)) {
+    part = await ft.cursorRead('clientcheck', part.cursor);
+    parts.push(part);
+  }
+  console.log('cursor', parts.map(({ results }) => results.map(({ name }) => name).join(', ')).join(' | '));
   // ft.info() expects all fields of RediSearch's reply; here there are seven.
   const info = await client.sendCommand(['FT.INFO', 'clientcheck']);
   console.log(`info ${info[1]}, ${info[info.indexOf('num_docs') + 1]} documents`);

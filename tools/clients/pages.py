@@ -32,15 +32,35 @@ def exchanges(block: str) -> list:
     return [(command.strip(), answer.rstrip()) for command, _, answer in pairs]
 
 
+def true_words(command: str, ids: dict) -> str:
+    """A command with the ids that the server gave for those of the page."""
+    return re.sub(r"\d+", lambda found: ids.get(found[0], found[0]), command) if "FT.CURSOR" in command else command
+
+
+def shown_answer(came: str, ids: dict) -> str:
+    """An answer with the page's ids for those that the server gave."""
+    shown = {true: page for page, true in ids.items()}
+    return re.sub(r"(?<=\(integer\) )\d+$", lambda found: shown.get(found[0], found[0]), came, flags=re.M)
+
+
+def note_id(command: str, wanted: str, came: str, ids: dict):
+    """The id of a cursor is the number of the command that opens it, and so depends on what was typed before."""
+    last = [re.search(r"\(integer\) (\d+)$", text) for text in (wanted, came)]
+    if "WITHCURSOR" in command and all(last):
+        ids[last[0][1]] = last[1][1]
+
+
 def check_page(port: str, path: pathlib.Path) -> tuple:
     """How many answers a page shows, and how many differ."""
-    count, differing = 0, 0
+    count, differing, ids = 0, 0, {}
     for number, found in enumerate(BLOCK.finditer(path.read_text())):
         pairs = exchanges(found[1])
         if number == 0 or pairs[0][0].startswith("FT.CREATE"):
             typed(port, "FLUSHALL")
         for command, wanted in pairs:
-            came = typed(port, command)
+            came = typed(port, true_words(command, ids))
+            note_id(command, wanted, came, ids)
+            came = shown_answer(came, ids)
             count += 1
             if came != wanted:
                 differing += 1

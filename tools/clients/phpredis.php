@@ -34,6 +34,14 @@ foreach (array_chunk($found, 2) as [$key, $fields]) {
 $steps = ['GROUPBY', '1', '@brand', 'REDUCE', 'COUNT', '0', 'AS', 'count', 'SORTBY', '2', '@count', 'DESC'];
 $rows = array_slice(asked('FT.AGGREGATE', 'clientcheck', '*', ...$steps), 1);
 echo "\naggregate ", implode(' | ', array_map(fn ($row) => "$row[1] $row[3]", $rows)), "\n";
+[$rows, $id] = asked('FT.AGGREGATE', 'clientcheck', '*', 'LOAD', '1', 'name', 'WITHCURSOR', 'COUNT', '2');
+$parts = [$rows];
+while ($id !== 0) {
+    [$rows, $id] = asked('FT.CURSOR', 'READ', 'clientcheck', (string) $id);
+    $parts[] = $rows;
+}
+$names = fn ($rows) => implode(', ', array_map(fn ($row) => $row[1], array_slice($rows, 1)));
+echo 'cursor ', implode(' | ', array_map($names, $parts)), "\n";
 $info = asked('FT.INFO', 'clientcheck');
 echo "info $info[1], ", $info[array_search('num_docs', $info, true) + 1], " documents\n";
 echo 'refused ', asked('FT.SEARCH', 'missing', 'shoe'), "\n";

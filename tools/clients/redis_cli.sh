@@ -15,6 +15,10 @@ echo 'FT.SEARCH clientcheck "shoe @price:[20 80]" SORTBY price RETURN 2 name pri
   paste -s -d '|' | sed -E 's/^/search /; s/[|](clientcheck:)/ | \1/g; s/[|](name|price)[|]/ /g'
 typed FT.AGGREGATE clientcheck '*' GROUPBY 1 @brand REDUCE COUNT 0 AS count SORTBY 2 @count DESC |
   paste -s -d ' ' | sed -E 's/^[0-9]+ brand/aggregate/; s/ count / /g; s/ brand / | /g'
+names() { sed '1d;$d' | grep -v '^name$' | paste -s -d ',' | sed 's/,/, /g'; } # of the rows of a cursor's read
+first=$(typed FT.AGGREGATE clientcheck '*' LOAD 1 name WITHCURSOR COUNT 2)
+second=$(typed FT.CURSOR READ clientcheck "$(tail -n 1 <<<"$first")")
+echo "cursor $(names <<<"$first") | $(names <<<"$second")"
 typed FT.INFO clientcheck | paste -s -d ' ' |
   sed -E 's/^index_name ([^ ]+) .* num_docs ([0-9]+) .*/info \1, \2 documents/'
 echo "refused $(typed FT.SEARCH missing shoe | head -n 1)"

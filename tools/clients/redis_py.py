@@ -42,6 +42,12 @@ def main():
     print("search", found.total, *[f"| {shoe.id} {shoe.name} {shoe.price}" for shoe in found.docs])
     groups = AggregateRequest("*").group_by("@brand", count().alias("count")).sort_by(Desc("@count"))
     print("aggregate", " | ".join(f"{row[1]} {row[3]}" for row in shop.aggregate(groups).rows))
+    part = shop.aggregate(AggregateRequest("*").load("@name").cursor(count=2))
+    parts = [part.rows]
+    while part.cursor.cid:
+        part = shop.aggregate(part.cursor)
+        parts.append(part.rows)
+    print("cursor", " | ".join(", ".join(row[1] for row in rows) for rows in parts))
     info = shop.info()
     print(f"info {info['index_name']}, {info['num_docs']} documents")
     print("refused", refusal(lambda: r.ft("missing").search("shoe")))

@@ -27,6 +27,13 @@ puts ["search #{total}", *found.each_slice(2).map { |key, fields| "#{key} #{fiel
 steps = %w[GROUPBY 1 @brand REDUCE COUNT 0 AS count SORTBY 2 @count DESC]
 rows = redis.call('FT.AGGREGATE', 'clientcheck', '*', *steps).drop(1)
 puts "aggregate #{rows.map { |row| "#{row[1]} #{row[3]}" }.join(' | ')}"
+rows, id = redis.call('FT.AGGREGATE', 'clientcheck', '*', 'LOAD', '1', 'name', 'WITHCURSOR', 'COUNT', '2')
+parts = [rows]
+until id.zero?
+  rows, id = redis.call('FT.CURSOR', 'READ', 'clientcheck', id)
+  parts << rows
+end
+puts "cursor #{parts.map { |part| part.drop(1).map { |row| row[1] }.join(', ') }.join(' | ')}"
 info = Hash[*redis.call('FT.INFO', 'clientcheck')]
 puts "info #{info['index_name']}, #{info['num_docs']} documents"
 puts "refused #{refusal { redis.call('FT.SEARCH', 'missing', 'shoe') }}"

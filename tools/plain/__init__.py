@@ -2,8 +2,8 @@
 
 It shares no code with the server and knows nothing of its parts. It is to be read beside docs/COMMANDS.md, docs/QUERY.md
 and the command references of Redis and RediSearch, which these follow: each rule stands in one place, nothing is indexed
-or kept, and every search looks at every hash. A fault raises, and ends the command. Left out are FT.INFO, cursors and
-FT.DEBUG.
+or kept, and every search looks at every hash. A fault raises, and ends the command. Left out are FT.INFO and FT.DEBUG.
+The machine has no clock: each command may be told a moment.
 
     texts.py           the words, the tags and the number of a value
     wire.py            faults, replies and requests
@@ -16,6 +16,7 @@ FT.DEBUG.
     options.py         the options of FT.SEARCH
     steps.py           the parts of FT.AGGREGATE
     pipeline.py        the rows of FT.AGGREGATE, step by step
+    cursors.py         cursors, and FT.CURSOR
     schemas.py         the words of FT.CREATE and FT.ALTER, and which documents are members
     hashes.py          the hashes, and the commands of Redis
     machine.py         the indexes, the commands of RediSearch, and the table of all commands
@@ -27,6 +28,7 @@ FT.DEBUG.
     drawn_queries.py   random queries
     drawn_options.py   random options of FT.SEARCH
     drawn_aggregates.py    random parts of FT.AGGREGATE, and expressions
+    drawn_cursors.py   random words of WITHCURSOR and FT.CURSOR
     drawn_faults.py    random faults of a command's words
     sessions.py        random sessions, each of a seed and a number
 """

@@ -23,9 +23,11 @@ def is_plain(name: str) -> bool:
 
 class Aggregate:
     """One aggregate, drawn from the left."""
+    LENGTHS = (0, 1, 1, 2, 2, 3, 3, 4, 5)
 
     def __init__(self, draw: Draw, fields: list):
         self.draw = draw
+        self.kinds = {self.group: 2, self.sort: 3, self.apply: 3, self.filter: 1, self.limit: 1}
         self.names = draw.sample(NAMES, 2)
         for field in fields:
             self.names += [field.name] + [field.alias] * (5 if field.kind == "NUMERIC" else 2)
@@ -41,25 +43,21 @@ class Aggregate:
 
     def parts(self, query: str) -> list:
         """The words of LOAD, of some steps, and of options anywhere between them."""
-        drawn = [self.step() for _ in range(self.draw.pick((0, 1, 1, 2, 2, 3, 3, 4, 5)))]
+        drawn = [self.draw.weighted(self.kinds)() for _ in range(self.draw.pick(self.LENGTHS))]
         if self.draw.chance(0.6):
             drawn.insert(0 if self.draw.chance(0.95) else len(drawn), self.load())
-        options = params(self.draw, query) + without_effect(self.draw)
-        if self.draw.chance(0.02):
-            count, idle = self.draw.pick(("5", "5", "1000001")), self.draw.pick(("9", "9", "0"))
-            options.append(["WITHCURSOR", "COUNT", count, "MAXIDLE", idle])
-        for option in options:
+        for option in self.options(query):
             drawn.insert(self.draw.between(0, len(drawn)), option)
         return words_of(self.draw, drawn)
+
+    def options(self, query: str) -> list:
+        return params(self.draw, query) + without_effect(self.draw)
 
     def load(self) -> list:
         if self.draw.chance(0.35):
             return ["LOAD", "*"]
         names = [self.draw.pick(("", "@")) + self.property() for _ in range(self.draw.between(0, 4))]
         return ["LOAD", str(len(names))] + names
-
-    def step(self) -> list:
-        return self.draw.weighted({self.group: 2, self.sort: 3, self.apply: 3, self.filter: 1, self.limit: 1})()
 
     def group(self) -> list:
         by = [self.property() or "t" for _ in range(self.draw.pick((0, 1, 1, 1, 2, 2, 3)))]

@@ -16,6 +16,7 @@ ODD_WORDS = {
     "FT.AGGREGATE": PARTS + STEPS + EXPRESSIONS,
     "FT.CREATE": SCHEMAS,
     "FT.ALTER": SCHEMAS,
+    "FT.CURSOR": ("READ", "DEL", "COUNT", "MAXIDLE", "GC", "ix", "iy", "x"),
 }
 
 

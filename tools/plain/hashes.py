@@ -1,6 +1,7 @@
 """The hashes, and the commands of Redis (COMMANDS.md).
 
 `Hashes.documents` has them in the order of their last writes, each with its fields in the order in which they came.
+`Hashes.event` is the number of the command, from 1.
 """
 from .texts import canonical, in_64_bits
 from .wire import Fault, bulk, bulks, integer, line, pairs
@@ -8,7 +9,10 @@ from .wire import Fault, bulk, bulks, integer, line, pairs
 
 class Hashes:
     def __init__(self):
+        self.event = 0
         self.documents = {}
+        # The number of the last write of each key, also of those that are gone since.
+        self.ids = {}
 
     def fields(self, key: bytes) -> dict:
         return self.documents.get(key, {})
@@ -18,6 +22,7 @@ class Hashes:
         self.documents.pop(key, None)
         if fields:
             self.documents[key] = fields
+            self.ids[key] = self.event
 
 
 def not_an_integer() -> Fault:

@@ -1,10 +1,13 @@
 """The indexes, the commands of RediSearch, and the table of all commands (COMMANDS.md)."""
+from typing import Callable
+
 from . import hashes
+from .cursors import all_rows, open_cursor, read_or_delete
 from .grammar import parse
 from .hashes import Hashes
 from .matching import meets
 from .options import Options, read_options
-from .pipeline import rows_of, run
+from .pipeline import rows_reply
 from .schemas import Index, are_too_many, duplicate, read_alter, read_create, too_many
 from .steps import read_aggregate
 from .texts import number, tags
@@ -17,14 +20,19 @@ ALTERED_FIELD = 5
 
 
 class Machine(Hashes):
-    """All that the commands see: the hashes, and the indexes in order of creation."""
+    """All that the commands see: the hashes, the indexes in order of creation, the cursors by id, the latest moment."""
 
     def __init__(self):
         super().__init__()
         self.indexes = {}
+        self.cursors = {}
+        self.now = 0
 
-    def reply(self, words: list) -> bytes:
-        """The bytes that answer a command."""
+    def reply(self, words: list, moment: int = 0) -> bytes:
+        """The bytes that answer a command at a moment, in milliseconds. A refused one is an event too."""
+        self.event += 1
+        self.now = max(self.now, moment)
+        self.keep_cursors(lambda cursor: not cursor.is_idle(self.now))
         try:
             return self.answer(words[0].upper(), words)
         except Fault as fault:
@@ -50,17 +58,20 @@ class Machine(Hashes):
         """Keys and documents in order of the last writes."""
         return [(key, document) for key, document in self.documents.items() if index.has_member(key, document)]
 
-    def found(self, index: Index, query: bytes, params: dict) -> list:
-        tree = parse(query, index, params)
+    def found(self, index: Index, tree: tuple) -> list:
         return [(key, document) for key, document in self.members(index) if meets(tree, index, document)]
+
+    def keep_cursors(self, stays: Callable):
+        self.cursors = {number: cursor for number, cursor in self.cursors.items() if stays(cursor)}
 
 
 def flush_all(machine: Machine, *mode: bytes) -> bytes:
-    """The indexes go too."""
+    """The indexes and their cursors go too."""
     if mode and mode[0].upper() not in (b"ASYNC", b"SYNC"):
         raise syntax(1)
     machine.documents.clear()
     machine.indexes.clear()
+    machine.cursors.clear()
     return line("OK")
 
 
@@ -90,7 +101,7 @@ def alter(machine: Machine, words: list) -> bytes:
 
 
 def drop_index(machine: Machine, name: bytes, *mode: bytes) -> bytes:
-    """DD takes the members' hashes too."""
+    """The index's cursors go too, and with DD its members' hashes."""
     if mode and mode[0].upper() != b"DD":
         raise syntax(2)
     index = machine.index(name)
@@ -98,6 +109,7 @@ def drop_index(machine: Machine, name: bytes, *mode: bytes) -> bytes:
         for key, _ in machine.members(index):
             del machine.documents[key]
     del machine.indexes[name]
+    machine.keep_cursors(lambda cursor: cursor.index is not index)
     return line("OK")
 
 
@@ -117,7 +129,7 @@ def tag_values(machine: Machine, name: bytes, alias: bytes) -> bytes:
 def search(machine: Machine, words: list) -> bytes:
     options = read_options(words)
     index = machine.index(words[1])
-    found = machine.found(index, words[2], options.params)
+    found = machine.found(index, parse(words[2], index, options.params))
     check_fields(index, options)
     found = [pair for pair in found if counts(index, options, *pair)]
     shown = in_order(index, options, found) if options.sort else found
@@ -181,9 +193,10 @@ def returned(index: Index, names: list, document: dict) -> bytes:
 def aggregate(machine: Machine, words: list) -> bytes:
     parts = read_aggregate(words)
     index = machine.index(words[1])
-    documents = [document for _, document in machine.found(index, words[2], parts.params)]
-    rows = run(index, rows_of(index, documents, parts.load), parts.steps)
-    return array([integer(len(rows))] + [row.reply() for row in rows])
+    tree = parse(words[2], index, parts.params)
+    if parts.cursor:
+        return open_cursor(machine, index, tree, parts)
+    return rows_reply(all_rows(machine, index, tree, parts))
 
 
 # Of each command the least and the greatest number of its words, None where there is no greatest, and what it does.
@@ -216,6 +229,7 @@ COMMANDS = {
     b"FT.TAGVALS": (3, 3, tag_values),
     b"FT.SEARCH": (3, None, search),
     b"FT.AGGREGATE": (3, None, aggregate),
+    b"FT.CURSOR": (4, None, read_or_delete),
 }
-TAKE_ALL_WORDS = (create, alter, search, aggregate)
-NOT_BUILT = (b"FT.CURSOR", b"FT.DEBUG")
+TAKE_ALL_WORDS = (create, alter, search, aggregate, read_or_delete)
+NOT_BUILT = (b"FT.DEBUG",)

@@ -8,7 +8,7 @@ from typing import Optional
 from .expressions import evaluate, is_true
 from .steps import EVERYTHING
 from .texts import in_64_bits, number
-from .wire import array, bulk
+from .wire import array, bulk, integer
 
 
 class Row:
@@ -38,6 +38,11 @@ class Row:
 
     def reply(self) -> bytes:
         return array([part for name, value in self.cells.items() for part in (bulk(name), value_reply(value))])
+
+
+def rows_reply(rows: list) -> bytes:
+    """The number of the rows, and the rows."""
+    return array([integer(len(rows))] + [row.reply() for row in rows])
 
 
 def value_reply(value) -> bytes:

@@ -1,4 +1,7 @@
-"""Rows of sessions: a command's words, a bar, and the lines of its reply, as crates/rows/stdin has them."""
+"""Rows of sessions: a command's words, a bar, and the lines of its reply, as crates/rows/stdin has them.
+
+A line `@ N` there has the moment of the rows behind it, in milliseconds.
+"""
 import re
 
 from .wire import end_of_reply
@@ -40,19 +43,21 @@ def read_rows(row: bytes) -> list:
 
 
 def read_sessions(lines) -> dict:
-    """The rows of each session, by its name."""
-    found, rows = {}, []
+    """The rows of each session, by its name: of each the words, the reply and the moment, which is 0 at first."""
+    found, rows, moment = {}, [], 0
     for line in lines:
         if line.startswith(b"== "):
-            rows = found.setdefault(line[3:].strip().decode(), [])
+            rows, moment = found.setdefault(line[3:].strip().decode(), []), 0
+        elif line.startswith(b"@ "):
+            moment = int(line[2:])
         elif line.strip() and not line.lstrip().startswith(b"#"):
-            rows += read_rows(line)
+            rows += [(words, reply, moment) for words, reply in read_rows(line)]
     return found
 
 
 def is_reply(lines: list, reply: bytes) -> bool:
     """Whether the reply has these lines: `:?` is any number, and `..` any number of lines."""
-    wild = {b":?": rb":-?\d+\r\n", b"..": rb"(?:.*\r\n)*?"}
+    wild = {b":?": rb":-?\d+\r\n", b"..": rb"(?:.*?\r\n)??"}
     pattern = b"".join(wild.get(line) or re.escape(line) + b"\r\n" for line in lines)
     return re.fullmatch(pattern, reply, re.S) is not None
 

@@ -4,6 +4,7 @@ A session runs its commands through a machine of its own, so that it draws the n
 """
 from . import drawn_schemas
 from .drawn_aggregates import Aggregate
+from .drawn_cursors import Opening, is_short_lived, read_or_delete
 from .drawn_faults import spoilt
 from .drawn_options import search_options
 from .drawn_queries import query
@@ -14,14 +15,14 @@ INDEXES = ("ix", "iy", "iz")
 COMMANDS = 200
 
 # How often each kind of command comes, and each kind of write.
-KINDS = {"write": 33, "read": 11, "search": 26, "aggregate": 20, "schema": 6, "other": 4}
+KINDS = {"write": 32, "read": 8, "search": 22, "aggregate": 13, "opening": 7, "cursor": 13, "schema": 7, "other": 4}
 WRITES = {"HSET": 50, "one": 10, "HSETNX": 6, "HDEL": 12, "HINCRBY": 10, "DEL": 6, "RENAME": 6, "FLUSHALL": 0.3}
 # How often a command gets a fault of its words, or one more.
-SPOILT = {"search": 0.1, "aggregate": 0.12, "schema": 0.25}
+SPOILT = {"search": 0.1, "aggregate": 0.12, "opening": 0.06, "cursor": 0.1, "schema": 0.25}
 SPOILT_ELSE = 0.04
 READS = ("HGETALL", "HGETALL", "HGET", "HMGET", "HKEYS", "HVALS", "HLEN", "HEXISTS", "EXISTS", "TYPE", "DBSIZE")
 OTHERS = (["PING"], ["ping", "hello"], ["ECHO", ""], ["SELECT", "0"], ["SELECT", "1"], ["SELECT", "+0"], ["FT._LIST"],
-          ["ft._list"], ["NOPE"], [""], ["HELLO", "3"], ["FT.CURSOR", "READ", "ix", "1"], ["FT.DEBUG"], ["FLUSHALL", "now"],
+          ["ft._list"], ["NOPE"], [""], ["HELLO", "3"], ["FT.CURSOR", "READ", "ix"], ["FT.DEBUG"], ["FLUSHALL", "now"],
           ["FLUSHALL", "a", "b"])
 
 
@@ -31,24 +32,34 @@ class Session:
     def __init__(self, seed: str):
         self.draw = Draw(seed)
         self.machine = Machine()
+        # Of each cursor that was kept, its index's name and its id.
+        self.opened = []
         self.kinds = drawn_schemas.kinds_of_names(self.draw)
         self.keys = self.draw.sample(KEYS, self.draw.pick((6, 12, 24, 38)))
 
     def commands(self) -> list:
         first = self.draw.pick((0, 10, 20, 40))
         sent = [self.sent(self.create(INDEXES[0]))] + [self.sent(self.hset()) for _ in range(first)]
-        while len(sent) < COMMANDS:
+        openings = self.many_openings() if first and self.draw.chance(0.1) else []
+        sent += [self.sent(words) for words in openings]
+        while len(sent) < COMMANDS + len(openings):
             kind = self.draw.weighted(KINDS) if self.indexes() else "schema"
-            words = getattr(self, kind)()
-            while self.draw.chance(SPOILT.get(kind, SPOILT_ELSE)):
-                words = spoilt(self.draw, words)
-            sent.append(self.sent(words))
+            sent.append(self.sent(self.spoilt(kind, getattr(self, kind)())))
         return sent + [self.sent(["quit"])]
+
+    def spoilt(self, kind: str, words: list) -> list:
+        """The command, now and then with faults of its words."""
+        while self.draw.chance(SPOILT.get(kind, SPOILT_ELSE)):
+            other = spoilt(self.draw, words)
+            words = words if is_short_lived(encoded(other)) else other
+        return words
 
     def sent(self, words: list) -> list:
         """The command as bytes, once the machine has had it."""
-        command = [word.encode("latin-1") for word in words]
+        command = encoded(words)
         self.machine.reply(command)
+        if self.machine.event in self.machine.cursors:
+            self.opened.append((words[1], str(self.machine.event)))
         return command
 
     def indexes(self) -> list:
@@ -110,7 +121,7 @@ class Session:
 
     def schema(self) -> list:
         missing = [index for index in INDEXES if index not in self.indexes()]
-        kind = self.draw.weighted({"create": 6 if missing else 1, "alter": 5, "drop": 2, "tags": 9})
+        kind = self.draw.weighted({"create": 9 if missing else 1, "alter": 7, "drop": 2, "tags": 8})
         index = self.index()
         if kind == "create" or not self.indexes():
             return self.create(self.draw.pick(missing or INDEXES))
@@ -127,16 +138,40 @@ class Session:
         drawn = query(self.draw, fields)
         return [self.draw.cased("FT.SEARCH"), index, drawn] + search_options(self.draw, fields, drawn)
 
-    def aggregate(self) -> list:
+    def aggregate(self, kind: type = Aggregate) -> list:
         index = self.index()
         fields = self.fields(index)
         drawn = "*" if self.draw.chance(0.5) else query(self.draw, fields)
-        return [self.draw.cased("FT.AGGREGATE"), index, drawn] + Aggregate(self.draw, fields).parts(drawn)
+        return [self.draw.cased("FT.AGGREGATE"), index, drawn] + kind(self.draw, fields).parts(drawn)
+
+    def opening(self) -> list:
+        return self.aggregate(Opening)
+
+    def many_openings(self) -> list:
+        """About as many as an index may have, where it has a document."""
+        return [["FT.AGGREGATE", INDEXES[0], "*", "WITHCURSOR", "COUNT", "1"]] * self.draw.between(127, 131)
+
+    def cursor(self) -> list:
+        """Mostly of one of the last cursors that are open, else of any one that was, or of none."""
+        still_open = [cursor for cursor in self.opened if int(cursor[1]) in self.machine.cursors]
+        if not still_open and self.draw.chance(0.8):
+            return self.opening()
+        if still_open and self.draw.chance(0.86):
+            index, number = self.draw.pick(still_open[-5:])
+        else:
+            index, number = self.draw.pick(self.opened or [(self.index(), "1")])
+        if self.draw.chance(0.03):
+            number = str(self.draw.between(0, self.machine.event + 1))
+        return read_or_delete(self.draw, index if self.draw.chance(0.93) else self.draw.pick(INDEXES), number)
 
     def other(self) -> list:
         if self.draw.chance(0.7):
             return self.draw.pick(OTHERS)
         return [self.draw.pick(READS), self.key(), text(self.draw)]
+
+
+def encoded(words: list) -> list:
+    return [word.encode("latin-1") for word in words]
 
 
 def session(seed: int, number: int) -> list:

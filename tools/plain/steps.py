@@ -5,11 +5,13 @@ A step is a tuple that begins with its name:
     ("group", properties, [(function, property or None, name)])     ("sort", [(property, descending)], most or None)
     ("apply", tree, name)     ("filter", tree)     ("limit", offset, num)
 """
-from .reader import LEFT_OUT, Reader
-from .wire import Fault, syntax, unsupported
+from typing import NamedTuple, Optional
 
-MOST_COUNT = 1_000_000
-MOST_IDLE = 2_147_483_647
+from .reader import LEFT_OUT, Reader
+from .wire import syntax, unsupported
+
+MOST_COUNT, USUAL_COUNT = 1_000_000, 1000
+MOST_IDLE, USUAL_IDLE = 2_147_483_647, 300_000
 
 # How many properties each function of REDUCE takes, and the functions of RediSearch that are left out.
 FUNCTIONS = {b"COUNT": 0, b"COUNT_DISTINCT": 1, b"SUM": 1, b"MIN": 1, b"MAX": 1, b"TOLIST": 1, b"FIRST_VALUE": 1}
@@ -18,13 +20,26 @@ FUNCTIONS_LEFT_OUT = (b"AVG", b"STDDEV", b"QUANTILE", b"RANDOM_SAMPLE", b"COUNT_
 # What LOAD * loads.
 EVERYTHING = "*"
 
+# The steps in which a document's row depends on the others.
+OF_ALL_ROWS = ("group", "sort", "limit")
+
+
+class CursorSpec(NamedTuple):
+    """How many rows a read gives where it does not say, and how many milliseconds may lie between two reads."""
+    count: int
+    max_idle: int
+
 
 class Aggregate:
     def __init__(self):
         self.load = []
         self.steps = []
         self.params = {}
-        self.has_cursor = False
+        self.cursor: Optional[CursorSpec] = None
+
+    def is_stream(self) -> bool:
+        """Whether a cursor can make the rows of one document behind the other."""
+        return not any(name in OF_ALL_ROWS for name, *_ in self.steps)
 
 
 def read_aggregate(words: list) -> Aggregate:
@@ -41,8 +56,6 @@ def read_aggregate(words: list) -> Aggregate:
             raise syntax(at)
         seen.add(name)
         OPTIONS[name](reader, aggregate)
-    if aggregate.has_cursor:
-        raise Fault("ERR not built")
     return aggregate
 
 
@@ -67,13 +80,17 @@ def read_params(reader: Reader, aggregate: Aggregate):
 
 
 def read_cursor(reader: Reader, aggregate: Aggregate):
-    aggregate.has_cursor = True
-    if reader.next_is(b"COUNT"):
-        reader.word()
-        reader.number_up_to(MOST_COUNT)
-    if reader.next_is(b"MAXIDLE"):
-        reader.word()
-        reader.number_up_to(MOST_IDLE)
+    count = named_number(reader, b"COUNT", MOST_COUNT)
+    max_idle = named_number(reader, b"MAXIDLE", MOST_IDLE)
+    aggregate.cursor = CursorSpec(count or USUAL_COUNT, max_idle or USUAL_IDLE)
+
+
+def named_number(reader: Reader, name: bytes, most: int) -> Optional[int]:
+    """The number behind this name, from 1; None where the next word is another."""
+    if not reader.next_is(name):
+        return None
+    reader.word()
+    return reader.number_up_to(most)
 
 
 def read_group(reader: Reader) -> tuple:

@@ -1,6 +1,6 @@
 -- Rows that come one by one, and the steps cut in two behind the first that take a row at a time.
-use Rattle.std.proofs.Common.{◌≡◌, ℕ, suc, ◌+◌, ◌≤◌, Bool, true, not, List, [], ◌∷◌, ◌++◌, map, length, take, Result, Ok, Err, IfOk, refl, sym, ap, subst, ◌∙◌, inl, inr, true≢false, ltb-false, arith}
-use Rattle.std.specs.Prelude.{fold, filter, nat_lt}
+use Rattle.std.proofs.Common.{◌≡◌, ℕ, suc, ◌+◌, ◌≤◌, Bool, true, not, List, [], ◌∷◌, ◌++◌, map, length, take, Option, None, Some, Result, Ok, Err, IfOk, refl, sym, ap, subst, ◌∙◌, inl, inr, true≢false, ltb-false, arith}
+use Rattle.std.specs.Prelude.{fold, filter, nat_lt, slice_get}
 use Rattle.std.specs.List.{list_all, position_or_len}
 use Rattle.std.specs.declared.alloc.Global.{Global}
 use Rattle.std.specs.declared.vec.Vec.{Vec}
@@ -11,18 +11,23 @@ use Rattle.std.proofs.lemmas.List.Sums.{fold-append, prefix_len-le-length}
 use Rattle.ft_base.specs.declared.definition.IndexDef.{IndexDef}
 use Rattle.ft_base.specs.declared.doc.Doc.{Doc}
 use Rattle.ft_base.specs.declared.row.Row.{Row}
+use Rattle.row_sort.specs.First.{First as FirstRows}
 use Rattle.agg_pipeline.specs.declared.step.Load.{Load}
+use Rattle.agg_pipeline.specs.declared.step.SortKey.{SortKey}
 use Rattle.agg_pipeline.specs.declared.step.Step.{Step}
 use Rattle.agg_pipeline.specs.declared.step.Step.TheVariants.{Apply, Group, Keep, Limit, Sort}
 use Rattle.agg_pipeline.specs.declared.feed.Feed.{Feed}
-use Rattle.agg_pipeline.specs.declared.feed.Made.TheVariants.{Groups, Rows}
+use Rattle.agg_pipeline.specs.declared.feed.Made.{Made}
+use Rattle.agg_pipeline.specs.declared.feed.Made.TheVariants.{First, Rows}
 use Rattle.agg_pipeline.specs.declared.step.Reducer.{Reducer}
 use Rattle.agg_pipeline.specs.Feeding.{Holds, IsMade, first_count, first_made, first_steps, later_steps}
+use Rattle.agg_pipeline.specs.Ranking.{AreFirst, rows_held}
 use Rattle.agg_pipeline.specs.Rows.{loaded}
 use Rattle.agg_pipeline.specs.Steps.{applied, is_kept, piped, step_rows}
 use Rattle.agg_pipeline.specs.Stream.{is_of_rows}
 use Rattle.agg_pipeline.specs.Table.{Table, finished_row, note_row}
 use Rattle.agg_pipeline.proofs.GroupLaws.{finished_groups, table_is}
+use Rattle.agg_pipeline.proofs.RankingLaws.{rows-held, some-is}
 
 -- ---- the first steps
 
@@ -63,7 +68,7 @@ piped-behind def steps rows =
 
 -- ---- rows that come one by one
 
-piped-append : (def : IndexDef) (steps : List Step) → list_all is_of_rows steps ≡ true → (xs ys : List Row) → piped def steps (xs ++ ys) ≡ piped def steps xs ++ piped def steps ys
+pub piped-append : (def : IndexDef) (steps : List Step) → list_all is_of_rows steps ≡ true → (xs ys : List Row) → piped def steps (xs ++ ys) ≡ piped def steps xs ++ piped def steps ys
 piped-append def [] all xs ys = refl
 piped-append def (Apply expr name ∷ steps) all xs ys =
     ap (piped def steps) (map-append (applied def expr name) xs ys)
@@ -98,16 +103,16 @@ module _ (def : IndexDef) (load : Load) (steps : List Step) (docs : List Doc) (f
       rw (← holds.first, ← holds.load_same, ← holds.def_same) (told of-rows) in
       pushed ∙ ap (λ (made : List Row). made ++ piped def (first_steps steps) (loaded load def doc ∷ [])) held ∙ sym (made-next def load steps docs doc)
 
-  -- the same of groups
-  pub groups-next : (doc : Doc) (groups now : Table) → feed.made ≡ Groups groups
-      → (list_all is_of_rows feed.first.now ≡ true → (rows : List Row) → IsMade feed.def.now feed.later.now rows (Groups groups)
-      → IsMade feed.def.now feed.later.now (rows ++ piped feed.def.now feed.first.now (loaded feed.load.now feed.def.now doc ∷ [])) (Groups now))
-      → IsMade def (later_steps steps) (first_made def load steps (docs ++ doc ∷ [])) (Groups now)
-  groups-next doc groups now is told =
-      let held : IsMade def (later_steps steps) (first_made def load steps docs) (Groups groups) = subst (IsMade def (later_steps steps) (first_made def load steps docs)) is holds.made in
+  -- the same of groups and of first rows
+  pub held-next : (doc : Doc) (held now : Made) → feed.made ≡ held
+      → (list_all is_of_rows feed.first.now ≡ true → (rows : List Row) → IsMade feed.def.now feed.later.now rows held
+      → IsMade feed.def.now feed.later.now (rows ++ piped feed.def.now feed.first.now (loaded feed.load.now feed.def.now doc ∷ [])) now)
+      → IsMade def (later_steps steps) (first_made def load steps (docs ++ doc ∷ [])) now
+  held-next doc held now is told =
+      let was : IsMade def (later_steps steps) (first_made def load steps docs) held = subst (IsMade def (later_steps steps) (first_made def load steps docs)) is holds.made in
       let noted = rw (holds.first, holds.later, holds.load_same, holds.def_same) at told in
-      subst (λ (rows : List Row). IsMade def (later_steps steps) rows (Groups now)) (sym (made-next def load steps docs doc))
-      (noted (first-of-rows steps) (first_made def load steps docs) held)
+      subst (λ (rows : List Row). IsMade def (later_steps steps) rows now) (sym (made-next def load steps docs doc))
+      (noted (first-of-rows steps) (first_made def load steps docs) was)
 
   -- what is made of all that is held
   pub finished : (made : List Row) → ((rows : List Row) → IsMade feed.def.now feed.later.now rows feed.made → made ≡ piped feed.def.now feed.later.now rows)
@@ -122,6 +127,24 @@ pub groups-finished : (def : IndexDef) (by : List (List ℕ)) (reduce : List Red
 groups-finished def by reduce behind table rows noted =
     ap (piped def behind)
     (ap (map (finished_row reduce)) (noted ∙ table_is def by reduce rows) ∙ finished_groups def by reduce rows)
+
+-- the first rows of a SORTBY, where it comes first among the later steps
+pub sort-held : (def : IndexDef) (later : List Step) (keys : List SortKey) (most : ℕ) (rows more : List Row) (held now : Option (FirstRows Row))
+    → Some (Sort keys (Some most)) ≡ slice_get later 0 → (AreFirst def keys most rows held → AreFirst def keys most (rows ++ more) now)
+    → IsMade def later rows (First held) → IsMade def later (rows ++ more) (First now)
+sort-held def [] keys most rows more held now is goes_on made = absurd made
+sort-held def (step ∷ later) keys most rows more held now is goes_on made =
+    subst (λ (s : Step). IsMade def (s ∷ later) rows (First held) → IsMade def (s ∷ later) (rows ++ more) (First now)) (some-is is) goes_on made
+
+-- the first rows of a SORTBY go through the steps behind it
+pub first-finished : (def : IndexDef) (step : Step) (behind : List Step) (rows : List Row) (held : Option (FirstRows Row))
+    → IsMade def (step ∷ behind) rows (First held) → piped def behind (rows_held held) ≡ piped def (step ∷ behind) rows
+first-finished def (Sort keys (Some most)) behind rows held made = ap (piped def behind) (rows-held def keys most rows held made)
+first-finished def (Sort keys None) behind rows held made = absurd made
+first-finished def (Group by reduce) behind rows held made = absurd made
+first-finished def (Apply expr name) behind rows held made = absurd made
+first-finished def (Keep expr) behind rows held made = absurd made
+first-finished def (Limit offset num) behind rows held made = absurd made
 
 pub IfOk-map : {T E : Type 0} (r : Result T E) (P Q : T → Type 0) → ((x : T) → P x → Q x) → IfOk r P → IfOk r Q
 IfOk-map (Ok x) P Q f h = f x h

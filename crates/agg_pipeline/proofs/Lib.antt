@@ -8,6 +8,7 @@ pub mod KeyedLaws
 pub mod LoadingLaws
 pub mod MappedLaws
 pub mod RankingLaws
+pub mod RowMadeLaws
 pub mod SeenLaws
 pub mod SpellingsLaws
 pub mod StatesLaws

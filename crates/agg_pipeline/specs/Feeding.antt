@@ -1,18 +1,19 @@
 -- What is held of the documents of an aggregate while they come: of each its row, once the first steps are done that take a
--- row at a time, and where a GROUPBY comes next, its groups and no row.
-use Rattle.std.specs.Prelude.{◌≡◌, ℕ, not, List, [], ◌∷◌, length, map, fold, take, drop, position, unwrap_or}
+-- row at a time. Where a GROUPBY comes next, its groups are held and no row, and where a SORTBY with MAX does, its first rows.
+use Rattle.std.specs.Prelude.{◌≡◌, ℕ, not, List, [], ◌∷◌, length, map, fold, take, drop, position, unwrap_or, Some}
 use Rattle.ft_base.specs.declared.definition.IndexDef.{IndexDef}
 use Rattle.ft_base.specs.declared.doc.Doc.{Doc}
 use Rattle.ft_base.specs.declared.row.Row.{Row}
 use Rattle.agg_pipeline.specs.declared.feed.Feed.{Feed}
 use Rattle.agg_pipeline.specs.declared.feed.Made.{Made}
-use Rattle.agg_pipeline.specs.declared.feed.Made.TheVariants.{Rows, Groups}
+use Rattle.agg_pipeline.specs.declared.feed.Made.TheVariants.{Rows, Groups, First}
+use Rattle.agg_pipeline.specs.Ranking.{AreFirst}
 use Rattle.agg_pipeline.specs.Rows.{loaded}
 use Rattle.agg_pipeline.specs.Steps.{piped}
 use Rattle.agg_pipeline.specs.Stream.{is_of_rows}
 use Rattle.agg_pipeline.specs.declared.step.Load.{Load}
 use Rattle.agg_pipeline.specs.declared.step.Step.{Step}
-use Rattle.agg_pipeline.specs.declared.step.Step.TheVariants.{Group}
+use Rattle.agg_pipeline.specs.declared.step.Step.TheVariants.{Group, Sort}
 use Rattle.agg_pipeline.specs.Table.{note_row}
 
 -- how many of the first steps take a row at a time
@@ -31,11 +32,14 @@ later_steps steps = drop (first_count steps) steps
 abbrev pub first_made : IndexDef → Load → List Step → List Doc → List Row
 first_made def load steps docs = piped def (first_steps steps) (map (loaded load def) docs)
 
--- Rows are held as they are, or as the groups of a GROUPBY that comes first among the later steps.
+-- Rows are held as they are, or as the groups of a GROUPBY or the first rows of a SORTBY with MAX that comes first among the
+-- later steps.
 abbrev pub IsMade : IndexDef → List Step → List Row → Made → Type 0
 IsMade def later rows (Rows held) = held.items ≡ rows
 IsMade def (Group by reduce ∷ later) rows (Groups table) = table ≡ fold (note_row def by reduce) [] rows
 IsMade def _ rows (Groups table) = ⊥
+IsMade def (Sort keys (Some most) ∷ later) rows (First held) = AreFirst def keys most rows held
+IsMade def _ rows (First held) = ⊥
 
 -- A feed of this definition, LOAD and steps holds what was made of documents.
 pub record Holds (def : IndexDef) (load : Load) (steps : List Step) (docs : List Doc) (feed : Feed) : Type 0 where

@@ -8,6 +8,7 @@ pub mod LentRow
 pub mod Made
 pub mod Ranking
 pub mod Reduce
+pub mod RowMade
 pub mod Rows
 pub mod Seen
 pub mod Spellings

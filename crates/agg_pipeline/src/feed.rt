@@ -1,13 +1,15 @@
 //! The rows of an aggregate while its documents come one by one, so that a document is copied only where a row must hold it.
-ghost use Rattle.std.specs.Prelude.{◌≡◌, ◌<◌, ◌≤◌, ◌∷◌, ◌++◌, [], List, length, map, fold, not, option_to_list, position, true, IfOk, IfSome, OnOk};
+ghost use Rattle.std.specs.Prelude.{◌≡◌, ◌<◌, ◌≤◌, ◌∷◌, ◌++◌, [], List, length, map, fold, not, Option, option_to_list, position, true, IfOk, IfSome, OnOk};
 ghost use Rattle.std.specs.List.{list_all};
 ghost use Rattle.ft_base.specs.declared.definition.IndexDef.{IndexDef};
 ghost use Rattle.ft_base.specs.declared.doc.Doc.{Doc};
 ghost use Rattle.ft_base.specs.declared.row.Row.{Row as ARow};
-ghost use Rattle.agg_pipeline.specs.declared.feed.Made.TheVariants.{Groups as AGroups};
+ghost use Rattle.agg_pipeline.specs.declared.feed.Made.TheVariants.{First as AFirst, Groups as AGroups};
+ghost use Rattle.row_sort.specs.First.{First};
 ghost use Rattle.agg_pipeline.specs.declared.step.Load.{Load};
 ghost use Rattle.agg_pipeline.specs.declared.step.Step.{Step as AStep};
 ghost use Rattle.agg_pipeline.specs.Feeding.{Holds, IsMade, first_count, first_steps, later_steps};
+ghost use Rattle.agg_pipeline.specs.Ranking.{rows_held};
 ghost use Rattle.agg_pipeline.specs.Rows.{loaded};
 ghost use Rattle.agg_pipeline.specs.Steps.{piped};
 ghost use Rattle.agg_pipeline.specs.Stream.{is_of_rows};
@@ -16,15 +18,18 @@ ghost use Rattle.agg_pipeline.specs.Table.{Table, finished_row, note_row};
 use crate::lent_row::LentRow;
 use crate::loading::loaded_cells;
 use crate::pipeline::pipe;
+use crate::ranking::{into_items, offer_doc};
 use crate::row_steps::push_row;
 use crate::step::{Load, Reducer, Step};
 use crate::stream::{is_of_rows, pipe_doc};
 use crate::table::Groups;
 use ft_base::{Bytes, Doc, IndexDef, NoMemory, Row};
+use row_sort::FirstRows;
 use std::alloc::Global;
 
 /// What was made of the documents that came, by LOAD and the first steps. The steps that take a row at a time are done as
-/// a document comes, so that what a FILTER drops is never held; a GROUPBY behind them takes the row in at once.
+/// a document comes, so that what a FILTER drops is never held; a GROUPBY behind them takes the row in at once, and a
+/// SORTBY with MAX holds no more than twice MAX rows.
 #[derive(Drop)]
 pub struct Feed<'a> {
     alloc: Global,
@@ -35,11 +40,13 @@ pub struct Feed<'a> {
     made: Made,
 }
 
-/// The rows so far, or their groups.
+/// The rows so far, their groups, or the first of them. Before the first row comes there are no first rows: the order of
+/// the keys takes memory, and a new feed takes none.
 #[derive(Drop)]
 pub enum Made {
     Rows(Vec<Row>),
     Groups(Groups),
+    First(Option<FirstRows<Row>>),
 }
 
 impl<'a> Feed<'a> {
@@ -70,6 +77,11 @@ impl<'a> Feed<'a> {
                     self.alloc, self.def, self.load, self.first, self.later, groups, doc,
                 )
             }
+            Made::First(held) => {
+                sort_doc(
+                    self.alloc, self.def, self.load, self.first, self.later, held, doc,
+                )
+            }
         }
     }
 
@@ -88,6 +100,7 @@ impl<'a> Feed<'a> {
         match made {
             Made::Rows(rows) => pipe(alloc, def, rows, later),
             Made::Groups(groups) => finish_groups(alloc, def, groups, later),
+            Made::First(held) => finish_first(alloc, def, held, later),
         }
     }
 }
@@ -98,6 +111,7 @@ fn begin(alloc: Global, later: &[Step]) -> Made
 {
     match later.first() {
         Some(Step::Group { .. }) => Made::Groups(Groups::new(alloc)),
+        Some(Step::Sort { max: Some(_), .. }) => Made::First(None),
         _ => Made::Rows(Vec::new(alloc)),
     }
 }
@@ -244,6 +258,70 @@ fn group_and_behind(later: &[Step]) -> (&[Reducer], &[Step])
         Some((Step::Group { reduce, .. }, behind)) => (reduce.as_slice(), behind),
         // No feed holds groups for other steps.
         _ => (&[], &[]),
+    }
+}
+
+/// Takes a document among the first rows, where a SORTBY with MAX comes behind the first steps.
+fn sort_doc(
+    alloc: Global,
+    def: &IndexDef,
+    load: &Load,
+    first: &[Step],
+    later: &[Step],
+    held: &mut Option<FirstRows<Row>>,
+    doc: &Doc,
+) -> Result<(), NoMemory>
+    ensures { OnOk result (list_all is_of_rows first.now ≡ true → (rows : List ARow)
+        → IsMade def.now later.now rows (AFirst held.old)
+        → IsMade def.now later.now (rows ++ piped def.now first.now (loaded load.now def.now doc.now ∷ [])) (AFirst held.new)) }
+{
+    match later.first() {
+        Some(
+            Step::Sort {
+                keys,
+                max: Some(max),
+            },
+        ) => {
+            offer_doc(
+                alloc,
+                def,
+                load,
+                first,
+                keys.as_slice(),
+                *max as usize,
+                held,
+                doc,
+            )
+        }
+        // No feed holds first rows for other steps.
+        _ => Ok(()),
+    }
+}
+
+/// What the later steps make of the rows of which these are the first.
+fn finish_first(
+    alloc: Global,
+    def: &IndexDef,
+    held: Option<FirstRows<Row>>,
+    later: &[Step],
+) -> Result<Vec<Row>, NoMemory>
+    ensures { IfOk result (λ made. (rows : List ARow)
+        → IsMade def.now later.now rows (AFirst held) → made.items ≡ piped def.now later.now rows) }
+{
+    let rows = into_items(alloc, held)?;
+    pipe(alloc, def, rows, behind_sort(later))
+}
+
+/// The steps behind the SORTBY that comes first.
+fn behind_sort(later: &[Step]) -> &[Step]
+    ensures { (def : IndexDef) (rows : List ARow) (held : Option (First ARow))
+        → IsMade def later.now rows (AFirst held)
+        → piped def result.now (rows_held held) ≡ piped def later.now rows }
+{
+    match later.split_first() {
+        Some((_, behind)) => behind,
+        // No feed holds first rows for no steps.
+        None => &[],
     }
 }
 

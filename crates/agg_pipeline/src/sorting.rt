@@ -3,11 +3,12 @@ ghost use Rattle.std.specs.Prelude.{◌≡◌, [], ◌∷◌, ◌++◌, map, tak
 ghost use Rattle.expr_eval.specs.Properties.{property_value};
 ghost use Rattle.row_sort.specs.Order.{row_order};
 ghost use Rattle.row_sort.specs.Sorting.{sorted};
+ghost use Rattle.agg_pipeline.specs.LentRow.{row_of};
 ghost use Rattle.agg_pipeline.specs.Ranking.{items_of, offered, ranked};
 ghost use Rattle.agg_pipeline.specs.Steps.{directions, first_rows, key_values, keys_order};
 
+use crate::lent_row::LentRow;
 use crate::step::SortKey;
-use expr_eval::property;
 use ft_base::{IndexDef, ListOf, NoMemory, Row, Value};
 use row_sort::{Direction, FirstRows, Ranked, order_rows};
 use std::alloc::Global;
@@ -105,20 +106,26 @@ fn rank_all(
 }
 
 /// A row with its values of the keys.
-fn rank(alloc: Global, def: &IndexDef, keys: &[SortKey], row: Row) -> Result<Ranked<Row>, NoMemory>
-    ensures { IfOk result (λ made. made ≡ ranked def.now keys.now row) }
-{
-    let values = key_values(alloc, def, keys, &row)?;
-    Ok(Ranked { values, item: row })
-}
-
-fn key_values(
+pub fn rank(
     alloc: Global,
     def: &IndexDef,
     keys: &[SortKey],
-    row: &Row,
+    row: Row,
+) -> Result<Ranked<Row>, NoMemory>
+    ensures { IfOk result (λ made. made ≡ ranked def.now keys.now row) }
+{
+    let values = key_values(alloc, def, keys, LentRow::of(&row))?;
+    Ok(Ranked { values, item: row })
+}
+
+/// A row's values of the keys. The row is lent, so that a document need not be copied for them.
+pub fn key_values(
+    alloc: Global,
+    def: &IndexDef,
+    keys: &[SortKey],
+    row: LentRow<'_>,
 ) -> Result<ListOf<Value>, NoMemory>
-    ensures { IfOk result (λ values. values ≡ key_values def.now keys.now row.now) }
+    ensures { IfOk result (λ values. values ≡ key_values def.now keys.now (row_of row.entry)) }
 {
     let mut values = ListOf::new(alloc);
     for key in keys {
@@ -132,17 +139,17 @@ fn push_value(
     values: &mut ListOf<Value>,
     def: &IndexDef,
     name: &[u8],
-    row: &Row,
+    row: LentRow<'_>,
 ) -> Result<(), NoMemory>
     ensures { OnOk result (values.new
-        ≡ values.old ++ property_value name.now row.now def.now ∷ []) }
+        ≡ values.old ++ property_value name.now (row_of row.entry) def.now ∷ []) }
 {
-    let value = property(name, row, def).own(alloc)?;
+    let value = row.property(name, def).own(alloc)?;
     values.push(value)
 }
 
 /// How each key orders; texts are compared by their bytes.
-fn directions(alloc: Global, keys: &[SortKey]) -> Result<ListOf<Direction>, NoMemory>
+pub fn directions(alloc: Global, keys: &[SortKey]) -> Result<ListOf<Direction>, NoMemory>
     ensures { IfOk result (λ by. by ≡ directions keys.now) }
 {
     let mut by = ListOf::new(alloc);
@@ -156,7 +163,7 @@ fn directions(alloc: Global, keys: &[SortKey]) -> Result<ListOf<Direction>, NoMe
 }
 
 /// The rows without their values.
-fn items_of(alloc: Global, ranked: Vec<Ranked<Row>>) -> Result<Vec<Row>, NoMemory>
+pub fn items_of(alloc: Global, ranked: Vec<Ranked<Row>>) -> Result<Vec<Row>, NoMemory>
     ensures { IfOk result (λ rows. rows.items ≡ items_of ranked.items) }
 {
     let mut rows = Vec::with_capacity(alloc, ranked.len())?;

@@ -1,6 +1,7 @@
 //! The steps of a stream, which take a row at a time: APPLY and FILTER.
 ghost use Rattle.std.specs.Prelude.{◌≡◌, [], ◌∷◌, Some, filter, true, is_some, option_to_list, IfOk, IfSome};
 ghost use Rattle.std.specs.List.{list_all};
+ghost use Rattle.agg_pipeline.specs.RowMade.{row_made};
 ghost use Rattle.agg_pipeline.specs.Rows.{loaded};
 ghost use Rattle.agg_pipeline.specs.Steps.{applied, is_kept, piped, step_rows};
 ghost use Rattle.agg_pipeline.specs.Stream.{is_of_rows};
@@ -47,8 +48,7 @@ impl StreamSteps {
 
     /// The row that a document becomes, and none exactly where a FILTER drops it.
     pub fn one(&self, def: &IndexDef, doc: &Doc) -> Result<Option<Row>, NoMemory>
-        ensures { IfOk result (λ row. option_to_list row
-            ≡ piped def.now self.now.1 (loaded self.now.0 def.now doc.now ∷ [])) }
+        ensures { IfOk result (λ row. row ≡ row_made self.now.0 self.now.1 def.now doc.now) }
     {
         pipe_doc(self.alloc, def, &self.load, self.steps.as_slice(), doc)
     }
@@ -70,7 +70,8 @@ pub fn pipe_doc(
     pipe_row(alloc, def, steps, row)
 }
 
-fn copy_doc(alloc: Global, doc: &Doc) -> Result<Doc, NoMemory>
+/// A copy of a document, for the row that owns it.
+pub fn copy_doc(alloc: Global, doc: &Doc) -> Result<Doc, NoMemory>
     ensures { IfOk result (λ copy. copy ≡ doc.now) }
 {
     let key = Bytes::from_slice(alloc, doc.key.as_slice())?;
@@ -140,7 +141,7 @@ fn keep_row(alloc: Global, def: &IndexDef, expr: &Expr, row: Row) -> Result<Opti
 }
 
 /// Whether each step takes a row at a time.
-fn are_of_rows(steps: &[Step]) -> bool
+pub fn are_of_rows(steps: &[Step]) -> bool
     ensures { result ≡ list_all is_of_rows steps.now }
 {
     steps.iter().all(is_of_rows)

@@ -57,7 +57,7 @@ word-keeps all (word ∷ words) behind = behind-next all word words behind
 pub number-keeps : (all : List Word) → Keeps all number_at
 number-keeps all words behind = leaves-read all words (number_at words) behind (λ read e. number_at-Ok all words read behind e)
 
-of-read : {A : Type 0} (all : List Word) (r : Read A) (read : A × List Word) → Leaves all r → r ≡ Ok read → Behind all read.1
+pub of-read : {A : Type 0} (all : List Word) (r : Read A) (read : A × List Word) → Leaves all r → r ≡ Ok read → Behind all read.1
 of-read {A = A} all (Ok other) read leaves e =
     let same : other ≡ read = is_ok_of e in
     subst (λ (x : A × List Word). Behind all x.1) same leaves

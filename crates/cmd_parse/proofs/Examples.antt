@@ -58,7 +58,7 @@ not_told : read 0 (codes "FT.INFO" ∷ key ∷ key ∷ []) ≡ Err Arity
 not_told = refl
 
 -- a command that is not built is not counted
-not_built : read 0 (codes "FT.CURSOR" ∷ key ∷ []) ≡ Err NotBuilt
+not_built : read 0 (codes "FT.DEBUG" ∷ key ∷ []) ≡ Err NotBuilt
 not_built = refl
 
 -- FLUSHALL with a word that it may have, and with another

@@ -2,6 +2,8 @@ pub mod AggregateBehind
 pub mod AggregateExamples
 pub mod AggregateLaws
 pub mod BehindLaws
+pub mod CursorExamples
+pub mod CursorLaws
 pub mod Examples
 pub mod ExpressionLaws
 pub mod LoopLaws

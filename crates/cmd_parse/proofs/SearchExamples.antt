@@ -134,11 +134,11 @@ pub is_4 : int_of (codes "4") ≡ Some (pos 4)
 unfolding int_of
 is_4 = rw (decimal_digit 4 (lit< tt)) refl
 
-is_million : int_of (codes "1000000") ≡ Some (pos 1000000)
+pub is_million : int_of (codes "1000000") ≡ Some (pos 1000000)
 unfolding int_of
 is_million = rw million refl
 
-is_more : int_of (codes "1000001") ≡ Some (pos 1000001)
+pub is_more : int_of (codes "1000001") ≡ Some (pos 1000001)
 unfolding int_of
 is_more = rw after_million refl
 

@@ -4,7 +4,7 @@ use Rattle.std.specs.List.{find}
 use Rattle.ft_base.specs.Names.{is_name}
 use Rattle.cmd_parse.specs.declared.command.Verb.TheVariants.{Ping, Echo, Select, Quit, Hset, Hsetnx, Hget, Hmget, Hgetall, Hdel, Hlen, Hexists, Hincrby, Hkeys, Hvals, Del, Exists, TypeOf, Dbsize, Rename, Flushall, DropIndex, ListIndexes, Info, TagVals}
 use Rattle.cmd_parse.specs.declared.table.Form.{Form}
-use Rattle.cmd_parse.specs.declared.table.Form.TheVariants.{Between, AtLeast, InPairs, Create, Alter, Search, Aggregate, Unbuilt}
+use Rattle.cmd_parse.specs.declared.table.Form.TheVariants.{Between, AtLeast, InPairs, Create, Alter, Search, Aggregate, Cursor, Unbuilt}
 
 -- The table of commands. The numbers are numbers of words, the name among them; in pairs only even ones are lawful.
 abbrev pub commands : List (List ℕ × Form)
@@ -38,7 +38,7 @@ commands =
     ∷ (codes "FT.TAGVALS", Between TagVals 3 3)
     ∷ (codes "FT.SEARCH", Search)
     ∷ (codes "FT.AGGREGATE", Aggregate)
-    ∷ (codes "FT.CURSOR", Unbuilt)
+    ∷ (codes "FT.CURSOR", Cursor)
     ∷ (codes "FT.DEBUG", Unbuilt)
     ∷ []
 

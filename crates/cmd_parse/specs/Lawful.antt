@@ -1,10 +1,11 @@
 -- What a caller may rely on of what is asked.
-use Rattle.std.specs.Prelude.{◌≡◌, ◌+◌, ◌%◌, ◌≤◌, ℕ, List, [], length, drop, slice_index_or, IsSome}
+use Rattle.std.specs.Prelude.{◌≡◌, ◌+◌, ◌%◌, ◌≤◌, ℕ, List, [], length, drop, slice_index_or, IfSome, IsSome}
 use Rattle.ft_base.specs.Number.{int_of}
 use Rattle.ft_schema.specs.Lawful.{IsLawful as AreLawful}
+use Rattle.cmd_parse.specs.Asked.{Asked, Plain, CreateIndex, AlterIndex, Search, Aggregate, CursorRead, CursorDel}
 use Rattle.cmd_parse.specs.LawfulAggregate.{IsLawfulAggregate}
+use Rattle.cmd_parse.specs.LawfulCursor.{IsCount, IsId}
 use Rattle.cmd_parse.specs.LawfulSearch.{IsLawfulSearch}
-use Rattle.cmd_parse.specs.Read.{Asked, Plain, CreateIndex, AlterIndex, Search, Aggregate}
 use Rattle.cmd_parse.specs.declared.command.Verb.{Verb}
 use Rattle.cmd_parse.specs.declared.command.Verb.TheVariants.{Ping, Echo, Select, Quit, Hset, Hsetnx, Hget, Hmget, Hgetall, Hdel, Hlen, Hexists, Hincrby, Hkeys, Hvals, Del, Exists, TypeOf, Dbsize, Rename, Flushall, DropIndex, ListIndexes, Info, TagVals}
 use Rattle.cmd_parse.specs.declared.table.Form.{Form}
@@ -56,14 +57,16 @@ pub record Lawful (verb : Verb) (args : List (List ℕ)) : Type 0 where
   pub number : LawfulNumber verb (length args)
   pub increment : HasNumber verb args
 
--- What is asked is made of these words: a plain command's arguments are lawful, the fields of a schema keep its limits, and
--- a search and an aggregate are lawful.
+-- What is asked is made of these words: a plain command's arguments are lawful, the fields of a schema keep its limits, a
+-- search and an aggregate are lawful, and so are a cursor's id and the rows of a read.
 abbrev pub IsLawful : List (List ℕ) → Asked → Type 0
 IsLawful words (Plain verb args) = (args ≡ drop 1 words) × Lawful verb args
 IsLawful words (CreateIndex index) = AreLawful index.fields
 IsLawful words (AlterIndex index fields) = (index ≡ slice_index_or words 1 []) × AreLawful fields
 IsLawful words (Search what) = IsLawfulSearch words what
 IsLawful words (Aggregate what) = IsLawfulAggregate words what
+IsLawful words (CursorRead index id count) = (index ≡ slice_index_or words 2 []) × IsId id × IfSome count IsCount
+IsLawful words (CursorDel index id) = (index ≡ slice_index_or words 2 []) × IsId id
 
 -- an index that is created has this serial
 abbrev pub HasSerial : ℕ → Asked → Type 0

@@ -3,13 +3,16 @@ pub mod AggregateNames
 pub mod AggregateSteps
 pub mod AggregateWords
 pub mod Aggregating
+pub mod Asked
 pub mod Asking
 pub mod Commands
+pub mod Cursor
 pub mod Filters
 pub mod Given
 pub mod Gives
 pub mod Lawful
 pub mod LawfulAggregate
+pub mod LawfulCursor
 pub mod LawfulSearch
 pub mod OptionNames
 pub mod Options

@@ -9,9 +9,10 @@ use Rattle.ft_base.specs.declared.definition.IndexDef.{IndexDef}
 use Rattle.ft_schema.specs.Schema.{alter, create}
 use Rattle.ft_schema.specs.declared.fault.SchemaFault.{SchemaFault}
 use Rattle.cmd_parse.specs.Aggregating.{Aggregating, aggregate}
+pub use Rattle.cmd_parse.specs.Asked.{Asked, Plain, CreateIndex, AlterIndex, Search, Aggregate, CursorRead, CursorDel}
 use Rattle.cmd_parse.specs.Commands.{form_of}
+use Rattle.cmd_parse.specs.Cursor.{cursor}
 use Rattle.cmd_parse.specs.Searching.{Searching, search}
-use Rattle.cmd_parse.specs.declared.aggregate_words.CursorSpec.{CursorSpec}
 use Rattle.cmd_parse.specs.declared.command.Verb.{Verb}
 use Rattle.cmd_parse.specs.declared.command.Verb.TheVariants.{Select, Hincrby, Flushall, DropIndex}
 use Rattle.cmd_parse.specs.declared.command.CmdFault.{CmdFault}
@@ -19,14 +20,6 @@ use Rattle.cmd_parse.specs.declared.command.CmdFault.TheVariants.{Unknown, Arity
 use Rattle.cmd_parse.specs.declared.table.Form.{Form}
 use Rattle.cmd_parse.specs.declared.table.Form.TheVariants.{Between, AtLeast, InPairs, Create, Alter, Unbuilt}
 use Rattle.cmd_parse.specs.declared.table.Form.TheVariants as form
-
--- What a command asks. A plain command has the words behind its name as arguments.
-pub data Asked : Type 0 where
-  Plain : (verb : Verb) → (args : List (List ℕ)) → Asked
-  CreateIndex : (index : IndexDef) → Asked
-  AlterIndex : (index : List ℕ) → (fields : List Field) → Asked
-  Search : (what : Searching) → Asked
-  Aggregate : (what : Aggregating) → Asked
 
 -- whether a word may stand behind FLUSHALL
 abbrev pub is_flush_word : List ℕ → Bool
@@ -72,13 +65,9 @@ abbrev pub searched : Result Searching CmdFault → Result Asked CmdFault
 searched (Ok what) = Ok (Search what)
 searched (Err fault) = Err fault
 
--- FT.AGGREGATE asks what is made of what its query finds, or has the first fault of its words. One with a cursor is not built.
-abbrev pub unless_cursor : Option CursorSpec → Aggregating → Result Asked CmdFault
-unless_cursor None what = Ok (Aggregate what)
-unless_cursor (Some cursor) what = Err NotBuilt
-
+-- FT.AGGREGATE asks what is made of what its query finds, or has the first fault of its words.
 abbrev pub aggregated : Result Aggregating CmdFault → Result Asked CmdFault
-aggregated (Ok what) = unless_cursor what.cursor what
+aggregated (Ok what) = Ok (Aggregate what)
 aggregated (Err fault) = Err fault
 
 -- a command of this form, whose words are its name and arguments
@@ -94,6 +83,7 @@ read_as (Some Alter) serial name args =
     if nat_le 6 (suc (length args)) then altered (slice_index_or args 0 []) (alter (name ∷ args)) else Err Arity
 read_as (Some form.Search) serial name args = searched (search (name ∷ args))
 read_as (Some form.Aggregate) serial name args = aggregated (aggregate (name ∷ args))
+read_as (Some form.Cursor) serial name args = if nat_le 4 (suc (length args)) then cursor (name ∷ args) else Err Arity
 read_as (Some Unbuilt) serial name args = Err NotBuilt
 
 -- What the words of a command ask, where an index that it creates has this serial.

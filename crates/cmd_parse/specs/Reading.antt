@@ -1,7 +1,8 @@
 -- What a reader of the code answers, against what the words ask.
 use Rattle.std.specs.Prelude.{◌≡◌, ℕ, List, Result, Ok, Err, IsTrue}
 use Rattle.cmd_parse.specs.Aggregating.{aggregate_of}
-use Rattle.cmd_parse.specs.Read.{Asked, Plain, CreateIndex, AlterIndex, Search, Aggregate, read, takes_memory}
+use Rattle.cmd_parse.specs.Asked.{Asked, Plain, CreateIndex, AlterIndex, Search, Aggregate, CursorRead, CursorDel}
+use Rattle.cmd_parse.specs.Read.{read, takes_memory}
 use Rattle.cmd_parse.specs.Seen.{search_of}
 use Rattle.cmd_parse.specs.declared.command.CmdFault.{CmdFault}
 use Rattle.cmd_parse.specs.declared.command.CmdFault.TheVariants.{NoMemory}
@@ -15,6 +16,8 @@ command_of (command.Create index) = CreateIndex index
 command_of (command.Alter index fields) = AlterIndex index.now fields
 command_of (command.Search spec) = Search (search_of spec)
 command_of (command.Aggregate spec) = Aggregate (aggregate_of spec)
+command_of (command.CursorRead index id count) = CursorRead index.now id count
+command_of (command.CursorDel index id) = CursorDel index.now id
 
 -- A command or a fault is what the words ask. Memory is wanting where they are read with it alone.
 abbrev pub IsReading : ℕ → List (List ℕ) → Result Command CmdFault → Type 0

@@ -1,9 +1,10 @@
 //! The words of properties, expressions and cursors in FT.AGGREGATE, with one reader for each of
 //! `specs/AggregateWords.antt`.
-ghost use Rattle.std.specs.Prelude.{◌≡◌, ◌<◌, ◌≤◌, ◌++◌, ◌∷◌, [], length, nat_le, IfOk};
+ghost use Rattle.std.specs.Prelude.{◌≡◌, ◌≢◌, ◌<◌, ◌≤◌, ◌++◌, ◌∷◌, [], length, nat_le, Err, IfOk};
 ghost use Rattle.cmd_parse.specs.AggregateWords.{are_behind, as_at, bare_name, count_at, counted_names, cursor_at, expression_at, expression_stop, limited_at, name_at, name_of, named_at, names_up_to, number_or, property_name, some_name};
 ghost use Rattle.cmd_parse.specs.Gives.{Gives, IsSeen};
 ghost use Rattle.cmd_parse.specs.Options.{is_as};
+ghost use Rattle.cmd_parse.specs.declared.stop.Stop.TheVariants.{NoMemory};
 
 use crate::aggregate_names::NameForm;
 use crate::reading::{fault, first, number, word};
@@ -200,8 +201,9 @@ pub fn name_behind_as<'a>(words: &Words<'a>) -> Result<(&'a [u8], Words<'a>), St
 }
 
 /// A number from 1 up to a limit.
-fn limited<'a>(most: usize, words: &Words<'a>) -> Result<(usize, Words<'a>), Stop>
+pub fn limited<'a>(most: usize, words: &Words<'a>) -> Result<(usize, Words<'a>), Stop>
     ensures read { Gives (λ x. x) result (limited_at most words.now) }
+    ensures memory { result ≢ Err NoMemory }
     ensures limit { IfOk result (λ x. x.0 ≤ most) }
     ensures shorter { IfOk result (λ x. length x.1 < length words.now) }
 {

@@ -60,6 +60,17 @@ pub enum Command<'a> {
     Search(SearchSpec<'a>),
     /// What is made of the documents of an index that a query finds.
     Aggregate(AggregateSpec<'a>),
+    /// The next rows of a cursor of an index: so many at the most, or as many as it was opened with.
+    CursorRead {
+        index: &'a [u8],
+        id: u64,
+        count: Option<u32>,
+    },
+    /// A cursor of an index is deleted.
+    CursorDel {
+        index: &'a [u8],
+        id: u64,
+    },
 }
 
 /// Why the words ask nothing.

@@ -7,7 +7,7 @@
 //! Read first `specs/Commands.antt`, which has the table, then `specs/Read.antt` and `read.rt`;
 //! for FT.SEARCH `specs/Search.antt` and `specs/Options.antt`, then `search.rt` and `options.rt`;
 //! for FT.AGGREGATE `specs/Aggregate.antt` and `specs/AggregateSteps.antt`, then `aggregate.rt` and
-//! `aggregate_parts.rt`.
+//! `aggregate_parts.rt`; for FT.CURSOR `specs/Cursor.antt`, then `cursor.rt`.
 #![tactic(auto)]
 
 mod aggregate;
@@ -16,6 +16,7 @@ mod aggregate_parts;
 mod aggregate_steps;
 mod aggregate_words;
 mod command;
+mod cursor;
 mod laws;
 mod option_names;
 mod option_words;

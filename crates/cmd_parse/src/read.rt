@@ -1,7 +1,7 @@
 //! A command from its words, in the order of refusals: an unknown name, a command that is not built,
 //! a wrong number of words, and the first fault of the words from the left.
 ghost use Rattle.std.specs.Prelude.{◌≡◌, ◌≢◌, ◌<◌, ◌≤◌, ◌+◌, [], length, drop, slice_index_or, Err, Ok, Some, IfOk, IsTrue, MatchResult};
-ghost use Rattle.cmd_parse.specs.Aggregating.{aggregate, aggregate_of};
+ghost use Rattle.cmd_parse.specs.Aggregating.{aggregate};
 ghost use Rattle.cmd_parse.specs.Asking.{AreWords, IsAsked};
 ghost use Rattle.cmd_parse.specs.Commands.{form_of};
 ghost use Rattle.cmd_parse.specs.Lawful.{HasSerial, IsLawful, IsLawfulForm, LawfulNumber};
@@ -13,8 +13,9 @@ ghost use Rattle.ft_base.specs.Number.{int_of};
 ghost use Rattle.ft_base.specs.declared.limits.TheConstants.{MAX_WORDS};
 ghost use Rattle.ft_schema.specs.Schema.{alter, create};
 
-use crate::aggregate::{AggregateSpec, read_aggregate};
+use crate::aggregate::read_aggregate;
 use crate::command::{CmdFault, Command, Verb};
+use crate::cursor::read_cursor;
 use crate::search::read_search;
 use crate::table::{Form, form_of};
 use ft_base::{Boxed, Words, is_name, read_int};
@@ -66,6 +67,7 @@ fn read_as<'a>(
         Form::Alter if 6 <= count => alter(alloc, words),
         Form::Search if 3 <= count => search(alloc, words),
         Form::Aggregate if 3 <= count => aggregate(alloc, words),
+        Form::Cursor if 4 <= count => read_cursor(words),
         Form::Unbuilt => Err(CmdFault::NotBuilt),
         _ => Err(CmdFault::Arity),
     }
@@ -185,17 +187,7 @@ fn aggregate<'a>(alloc: Global, words: &Words<'a>) -> Result<Command<'a>, CmdFau
     ensures lawful { IfOk result (λ command. IsLawful words.now (command_of command)) }
 {
     match read_aggregate(alloc, words) {
-        Ok(spec) => built(spec),
+        Ok(spec) => Ok(Command::Aggregate(spec)),
         Err(fault) => Err(fault),
     }
-}
-
-/// An aggregate without a cursor; one with a cursor is not built.
-fn built<'a>(spec: AggregateSpec<'a>) -> Result<Command<'a>, CmdFault>
-    ensures { asked_of result ≡ aggregated (Ok (aggregate_of spec.entry)) }
-{
-    if spec.cursor.is_some() {
-        return Err(CmdFault::NotBuilt);
-    }
-    Ok(Command::Aggregate(spec))
 }

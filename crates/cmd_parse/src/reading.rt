@@ -1,9 +1,9 @@
 //! Readers over words, one for each reader of `specs/Words.antt`: what was read and the words after
 //! it, or why reading stops.
-ghost use Rattle.std.specs.Prelude.{◌≡◌, ◌<◌, ◌≤◌, ◌+◌, ◌^◌, ◌∷◌, [], length, IfOk, MatchOption};
+ghost use Rattle.std.specs.Prelude.{◌≡◌, ◌≢◌, ◌<◌, ◌≤◌, ◌+◌, ◌^◌, ◌∷◌, [], length, Err, IfOk, MatchOption};
 ghost use Rattle.cmd_parse.specs.Gives.{Gives};
 ghost use Rattle.cmd_parse.specs.Words.{word_at, number_at, counted_at};
-ghost use Rattle.cmd_parse.specs.declared.stop.Stop.TheVariants.{Fault};
+ghost use Rattle.cmd_parse.specs.declared.stop.Stop.TheVariants.{Fault, NoMemory};
 
 use crate::stop::{Cause, Stop};
 use ft_base::{Words, read_int};
@@ -43,6 +43,8 @@ pub fn word<'a>(words: &Words<'a>) -> Result<(&'a [u8], Words<'a>), Stop>
 #[tactic(auto, unfolding(crate::specs::Words::number_at))]
 pub fn number<'a>(words: &Words<'a>) -> Result<(usize, Words<'a>), Stop>
     ensures read { Gives (λ x. x) result (number_at words.now) }
+    ensures memory { result ≢ Err NoMemory }
+    ensures bits { IfOk result (λ x. x.0 < 2 ^ 63) }
     ensures shorter { IfOk result (λ x. length x.1 < length words.now) }
 {
     let Some((word, rest)) = first(words) else {

@@ -23,6 +23,8 @@ pub enum Form {
     Search,
     /// FT.AGGREGATE.
     Aggregate,
+    /// FT.CURSOR.
+    Cursor,
     /// A command that is not built.
     Unbuilt,
 }
@@ -62,7 +64,7 @@ pub fn form_of(name: &[u8]) -> Option<Form>
         (b"FT.TAGVALS", Form::Between(Verb::TagVals, 3, 3)),
         (b"FT.SEARCH", Form::Search),
         (b"FT.AGGREGATE", Form::Aggregate),
-        (b"FT.CURSOR", Form::Unbuilt),
+        (b"FT.CURSOR", Form::Cursor),
         (b"FT.DEBUG", Form::Unbuilt),
     ];
     find(name, rows)

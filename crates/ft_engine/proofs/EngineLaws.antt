@@ -1,5 +1,5 @@
 -- What an engine keeps, and what its callers are told.
-use Rattle.std.specs.Prelude.{◌≡◌, ◌≤◌, ℕ, Bool, true, false, List, map, max, refl}
+use Rattle.std.specs.Prelude.{◌≡◌, ◌≤◌, ℕ, Bool, true, false, List, map, refl}
 use Rattle.std.proofs.Common.{arith, sym, subst}
 use Rattle.std.specs.List.{IsDistinct}
 use Rattle.std.specs.Str.{bytes_eq}
@@ -7,13 +7,13 @@ use Rattle.cmd_parse.specs.Read.{Plain}
 use Rattle.cmd_parse.specs.declared.command.Verb.{Verb}
 use Rattle.ft_base.specs.declared.doc.Doc.{Doc}
 use Rattle.ft_machine.specs.Step.{Does, last_number, next_number}
-use Rattle.indexed_store.specs.Holding.{AllStand, Holding, state_at}
+use Rattle.indexed_store.specs.Holding.{AllStand, Holding, state_of}
 use Rattle.ft_engine.specs.Stands.{IsIndexed, stands_of, unused}
 
 -- what is held is what an engine's callers are told
-pub indexed : (held : Holding) (latest next : ℕ) (pending : Bool) → IsDistinct bytes_eq (map (λ (doc : Doc). doc.key) held.space) → ((number : ℕ) → held.next ≤ number → AllStand number held)
-    → held.next ≤ unused pending next → IsIndexed (stands_of held latest next pending)
-indexed held latest next pending differ stand earlier =
+pub indexed : (held : Holding) (next : ℕ) (pending : Bool) → IsDistinct bytes_eq (map (λ (doc : Doc). doc.key) held.space) → ((number : ℕ) → held.next ≤ number → AllStand number held)
+    → held.next ≤ unused pending next → IsIndexed (stands_of held next pending)
+indexed held next pending differ stand earlier =
     let all = stand (unused pending next) earlier in
     record { definitions = refl; keys = differ; documents = all.documents; indexes = all.indexes; apart = all.apart }
 
@@ -22,16 +22,12 @@ pub begins : (first next : ℕ) (pending : Bool) → pending ≡ false → next 
 begins first next true free number earlier = absurd (cc)
 begins first next false free number earlier = omega (arith, number, earlier)
 
--- the moment 0 is never later
-pub no-later : (latest : ℕ) → max 0 latest ≡ latest
-no-later latest = omega arith
-
 -- what is done of a plain command is done of that which the verb is
 pub done-by : (verb other : Verb) (args : List (List ℕ)) (old : Holding) (written : List ℕ) → verb ≡ other
-    → ((latest : ℕ) → Does (Plain other args) old.next (state_at latest old) written (state_at latest old))
-    → (latest : ℕ) → Does (Plain verb args) old.next (state_at latest old) written (state_at latest old)
-done-by verb other args old written is does latest =
-    subst (λ (v : Verb). Does (Plain v args) old.next (state_at latest old) written (state_at latest old)) (sym is) (does latest)
+    → Does (Plain other args) old.next (state_of old) written (state_of old)
+    → Does (Plain verb args) old.next (state_of old) written (state_of old)
+done-by verb other args old written is does =
+    subst (λ (v : Verb). Does (Plain v args) old.next (state_of old) written (state_of old)) (sym is) does
 
 -- where no event is prepared, what is held is before the next one
 pub before-event : (first next : ℕ) (pending : Bool) → pending ≡ false → first ≤ unused pending next → first ≤ next

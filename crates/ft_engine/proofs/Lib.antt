@@ -1,2 +1,3 @@
 pub mod EngineLaws
 mod SteppingLaws
+mod WritingLaws

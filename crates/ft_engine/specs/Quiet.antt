@@ -1,15 +1,17 @@
--- Which commands change nothing.
-use Rattle.std.specs.Prelude.{◌≡◌}
-use Rattle.cmd_parse.specs.Read.{Asked, Search, Aggregate}
+-- Which commands change no document and no definition.
+use Rattle.std.specs.Prelude.{◌≡◌, false}
+use Rattle.cmd_parse.specs.Asked.{Asked, Search, Aggregate, CursorRead, CursorDel}
 use Rattle.cmd_parse.specs.declared.command.Verb.{Verb}
 use Rattle.cmd_parse.specs.declared.command.Verb.TheVariants.{Hset, Hsetnx, Hdel, Hincrby, Rename, Del, Flushall, DropIndex}
+use Rattle.indexed_store.specs.Changing.{is_write}
 use Rattle.indexed_store.specs.declared.change.Change.{Change}
-use Rattle.indexed_store.specs.declared.change.Change.TheVariants.{Nothing}
 
--- a search or an aggregate prepares no change
+-- a search and an aggregate change cursors at most, and so do the reads of cursors
 abbrev pub IsQuiet : Asked → Change → Type 0
-IsQuiet (Search what) change = change ≡ Nothing
-IsQuiet (Aggregate what) change = change ≡ Nothing
+IsQuiet (Search what) change = is_write change ≡ false
+IsQuiet (Aggregate what) change = is_write change ≡ false
+IsQuiet (CursorRead index id count) change = is_write change ≡ false
+IsQuiet (CursorDel index id) change = is_write change ≡ false
 IsQuiet _ change = Unit {0}
 
 -- a plain command that only reads

@@ -1,13 +1,14 @@
 -- What an engine stands for, and how its indexes stand for the documents.
-use Rattle.std.specs.Prelude.{◌≡◌, ◌≤◌, ℕ, List, [], Option, None, Bool, true, false, map}
+use Rattle.std.specs.Prelude.{◌≡◌, ◌≤◌, ℕ, List, [], Option, None, Bool, true, false, map, nat_lt, if◌then◌else◌}
 use Rattle.std.specs.List.{All, AllPairs, IsDistinct}
 use Rattle.std.specs.Str.{bytes_eq}
+use Rattle.cursor_book.specs.declared.cursor.Cursor.{Cursor}
 use Rattle.ft_base.specs.declared.doc.Doc.{Doc}
 use Rattle.ft_index.specs.Index.{Index}
 use Rattle.indexed_store.specs.DefinitionsOf.{definitions_of}
-use Rattle.indexed_store.specs.Holding.{Holding, state_at}
+use Rattle.indexed_store.specs.Holding.{Holding, state_of}
 use Rattle.indexed_store.specs.Standing.{AreApart, AreWritten, IndexStands, markers_at}
-use Rattle.ft_machine.specs.Machine.{State, empty_state}
+use Rattle.ft_machine.specs.Machine.{State, at_moment, empty_state}
 use Rattle.ft_machine.specs.Step.{last_number, next_number}
 
 pub record Stands : Type 0 where
@@ -18,27 +19,35 @@ pub record Stands : Type 0 where
   pub indexes : List Index
   -- the document that was prepared last, until it is written
   pub waits : Option Doc
+  -- the cursor that was prepared last, until it is open
+  pub opens : Option Cursor
   -- whether an event is prepared, and neither committed nor abandoned
   pub pending : Bool
   -- how many documents were read
   pub reads : ℕ
 
--- what the documents and indexes that are held stand for, at a moment and before an event of this number
-abbrev pub stands_of : Holding → ℕ → ℕ → Bool → Stands
-stands_of held latest next pending = record {
-  state = state_at latest held;
+-- what the documents, indexes and cursors that are held stand for, before an event of this number
+abbrev pub stands_of : Holding → ℕ → Bool → Stands
+stands_of held next pending = record {
+  state = state_of held;
   next = next;
   indexes = held.indexes;
   waits = held.waits;
+  opens = held.opens;
   pending = pending;
   reads = held.reads;
 }
 
--- an engine without documents and indexes, whose first event has this number
+-- an engine without documents, indexes and cursors, whose first event has this number
 abbrev pub opened : ℕ → Stands
-opened first = record { state = empty_state; next = first; indexes = []; waits = None; pending = false; reads = 0 }
+opened first = record { state = empty_state; next = first; indexes = []; waits = None; opens = None; pending = false; reads = 0 }
 
--- a number above those of all documents and markers: that of the next event, or the one behind an event that is prepared
+-- The state once an event of this number has begun at a moment: the moment counts, and cursors that are idle are gone. At the
+-- last number none begins.
+abbrev pub begun : ℕ → ℕ → State → State
+begun number moment state = if nat_lt number last_number then at_moment moment state else state
+
+-- a number above those of all documents, markers and cursors: that of the next event, or the one behind an event that is prepared
 abbrev pub unused : Bool → ℕ → ℕ
 unused true next = next_number next
 unused false next = next

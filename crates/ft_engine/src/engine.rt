@@ -1,5 +1,5 @@
 //! The engine: a state of the machine, and the events that lead from one to the next.
-ghost use Rattle.std.specs.Prelude.{◌≡◌, ◌≢◌, ◌<◌, ◌≤◌, ◌⊎◌, ◌^◌, Ok, Err, [], true, false, length, slice_index_or, vec_capacity, IfOk, IsTrue};
+ghost use Rattle.std.specs.Prelude.{◌≡◌, ◌<◌, ◌≤◌, ◌⊎◌, ◌^◌, Ok, Err, [], true, false, length, slice_index_or, vec_capacity, IfOk, IsTrue};
 ghost use Rattle.ft_base.specs.Memory.{out_of_memory};
 ghost use Rattle.ft_base.specs.Reply.{spelling};
 ghost use Rattle.ft_base.specs.Words.{KeepsLimits};
@@ -9,17 +9,16 @@ ghost use Rattle.cmd_parse.specs.Lawful.{HasSerial};
 ghost use Rattle.cmd_parse.specs.Read.{Asked, read};
 ghost use Rattle.cmd_parse.specs.Reading.{IsReading, command_of};
 ghost use Rattle.cmd_parse.specs.Refusals.{refusal};
-ghost use Rattle.ft_engine.specs.Preparing.{IsLast, abandoned, committed};
+ghost use Rattle.ft_engine.specs.Preparing.{IsLast, Writes, committed};
 ghost use Rattle.ft_engine.specs.Quiet.{IsQuiet};
-ghost use Rattle.ft_engine.specs.Stands.{IsIndexed, opened};
-ghost use Rattle.ft_machine.specs.Machine.{at_moment};
+ghost use Rattle.ft_engine.specs.Stands.{IsIndexed, begun, opened};
 ghost use Rattle.ft_machine.specs.Step.{Answers, At, last_event, next_number, outcomes};
 ghost use Rattle.index_commands.specs.Exactness.{ReadsFew, TellsExactly};
-ghost use Rattle.indexed_store.specs.Changing.{is_change};
+ghost use Rattle.indexed_store.specs.Changing.{is_write};
 ghost use Rattle.indexed_store.specs.declared.change.Change.TheVariants.{Nothing};
 
 use crate::prepared::Prepared;
-use crate::step::prepare_command;
+use crate::step::begin_command;
 use cmd_parse::{CmdFault, Command, read_command};
 use ft_base::{NoMemory, Words};
 use indexed_store::{Change, IndexedStore};
@@ -39,18 +38,21 @@ const LAST_NUMBER: u64 = 4_611_686_018_427_387_904;
 pub struct Engine {
     alloc: Global,
     held: IndexedStore,
-    latest: u64,
     next: u64,
     // Whether an event is prepared, and neither committed nor abandoned.
     pending: bool,
 }
 
 impl Model for Engine {
+    ghost use Rattle.std.specs.Coded.{codes};
+    ghost use Rattle.cursor_book.specs.contracts.cursor.Cursor as cursor;
     ghost use Rattle.ft_engine.specs.Stands.{IsEngine, Stands, stands_of};
 
     ghost Value = { Stands };
 
-    ghost view = { λ e. stands_of e.held e.latest e.next e.pending };
+    ghost coded = { Prim.hlevel (codes, cursor.the_row.coded) };
+
+    ghost view = { λ e. stands_of e.held e.next e.pending };
 
     ghost invariant = { λ e. IsEngine e.held e.pending e.next };
 }
@@ -72,7 +74,6 @@ impl Engine {
         Ok(Engine {
             alloc,
             held: IndexedStore::new(alloc)?,
-            latest: 0,
             next: first,
             pending: false,
         })
@@ -102,7 +103,8 @@ impl Engine {
         // Each index stands for the documents.
         ensures indexed { IsIndexed self.new }
 
-        // A search reads what it shows, an aggregate what it finds, and no more; what FT.INFO tells is what the lists hold.
+        // A search reads what it shows, an aggregate without a cursor what it finds, and no more; what FT.INFO tells is what the
+        // lists hold.
         ensures reads { (asks : Asked) → read self.old.next words.entry ≡ Ok asks
             → ReadsFew asks out.new.items self.old.reads self.new.reads }
         ensures records { (asks : Asked) → read self.old.next words.entry ≡ Ok asks
@@ -120,8 +122,9 @@ impl Engine {
         }
     }
 
-    /// Prepares what is asked at a moment, and writes the reply. Nothing is seen of it yet. The command is read for this
-    /// event: an index that it creates has the event's number as its serial.
+    /// Prepares what is asked at a moment, and writes the reply. Its event begins: cursors that are idle are gone. Nothing
+    /// else is seen of it yet. The command is read for this event: an index that it creates has the event's number as its
+    /// serial.
     pub fn prepare<'a>(&mut self, now: u64, command: Command<'a>, out: &mut Vec<u8>) -> Prepared<'a>
         requires asked { IsAsked (command_of command) }
         requires serial { HasSerial self.old.next (command_of command) }
@@ -131,16 +134,17 @@ impl Engine {
         // A commit makes this a step of the machine, at this event's number.
         ensures answer { At self.old.next now (outcomes (command_of command.entry) self.old.next)
             self.old.state out.new.items (committed result self.new) }
-        ensures writes { IsTrue (is_change result.change) → committed result self.new ≢ abandoned result self.new }
-        ensures state { self.new.state ≡ self.old.state }
+        // It is said to write where a commit leaves other documents or definitions.
+        ensures writes { IsTrue (is_write result) → Writes self.new.state (committed result self.new) }
+        ensures state { self.new.state ≡ begun self.old.next now self.old.state }
         ensures next { self.new.next ≡ self.old.next }
         ensures last { IsLast result self.new }
         ensures indexed { IsIndexed self.new }
         ensures reads { ReadsFew (command_of command.entry) out.new.items self.old.reads self.new.reads }
         ensures records { TellsExactly (command_of command.entry) self.old.indexes out.new.items }
-        ensures quiet { IsQuiet (command_of command.entry) result.change }
-        // Where nothing changes, nothing is entered into an index either.
-        ensures still { is_change result.change ≡ false → (out.new.items ≡ spelling out_of_memory) ⊎ (self.new.indexes ≡ self.old.indexes) }
+        ensures quiet { IsQuiet (command_of command.entry) result }
+        // Where no document and no definition changes, nothing is entered into an index either.
+        ensures still { is_write result ≡ false → (out.new.items ≡ spelling out_of_memory) ⊎ (self.new.indexes ≡ self.old.indexes) }
         ensures room { vec_capacity out.old ≤ vec_capacity out.new }
     {
         let mut reply = ReplyBuffer::over(self.alloc, out);
@@ -160,32 +164,40 @@ impl Engine {
         requires free { self.old.pending ≡ false }
         ensures answer { At self.old.next now (outcomes (command_of command.entry) self.old.next)
             self.old.state reply.new.bytes (committed result self.new) }
-        ensures writes { IsTrue (is_change result.change) → committed result self.new ≢ abandoned result self.new }
-        ensures state { self.new.state ≡ self.old.state }
+        ensures writes { IsTrue (is_write result) → Writes self.new.state (committed result self.new) }
+        ensures state { self.new.state ≡ begun self.old.next now self.old.state }
         ensures next { self.new.next ≡ self.old.next }
         ensures last { IsLast result self.new }
         ensures indexed { IsIndexed self.new }
         ensures reads { ReadsFew (command_of command.entry) reply.new.bytes self.old.reads self.new.reads }
         ensures records { TellsExactly (command_of command.entry) self.old.indexes reply.new.bytes }
-        ensures quiet { IsQuiet (command_of command.entry) result.change }
-        ensures still { is_change result.change ≡ false → (reply.new.bytes ≡ spelling out_of_memory) ⊎ (self.new.indexes ≡ self.old.indexes) }
+        ensures quiet { IsQuiet (command_of command.entry) result }
+        ensures still { is_write result ≡ false → (reply.new.bytes ≡ spelling out_of_memory) ⊎ (self.new.indexes ≡ self.old.indexes) }
+        ensures room { reply.old.room ≤ reply.new.room }
+    {
+        if LAST_NUMBER <= self.next {
+            return self.answer_last(reply);
+        }
+        self.pending = true;
+        Prepared {
+            change: begin_command(&mut self.held, self.next, now, command, reply),
+        }
+    }
+
+    // At the last number no event begins, and every command has one answer.
+    fn answer_last<'a>(&mut self, reply: &mut ReplyBuffer) -> Prepared<'a>
+        requires free { self.old.pending ≡ false }
+        ensures text { reply.new.bytes ≡ spelling (Fault last_event) }
+        ensures nothing { result ≡ Nothing }
+        ensures pending { self.new ≡ record self.old { pending = true } }
+        ensures indexed { IsIndexed self.new }
         ensures room { reply.old.room ≤ reply.new.room }
     {
         self.held.stand();
         self.pending = true;
-        if LAST_NUMBER <= self.next {
-            reply.set_fault(b"ERR last event reached");
-            return Prepared {
-                moment: 0,
-                change: Change::Nothing,
-            };
-        }
-        self.held.begin(self.next);
-        let change = prepare_command(&mut self.held, command, reply);
-        self.held.stand();
+        reply.set_fault(b"ERR last event reached");
         Prepared {
-            moment: now,
-            change,
+            change: Change::Nothing,
         }
     }
 
@@ -195,24 +207,24 @@ impl Engine {
         ensures state { self.new.state ≡ committed prepared.entry self.old }
         ensures next { self.new.next ≡ next_number self.old.next }
         ensures indexed { IsIndexed self.new }
-        ensures quiet { prepared.entry.change ≡ Nothing → self.new.reads ≡ self.old.reads }
+        // Where no document and no definition changes, none is read.
+        ensures quiet { is_write prepared.entry ≡ false → self.new.reads ≡ self.old.reads }
         ensures free { self.new.pending ≡ false }
     {
         self.held.make(self.next, prepared.change);
-        self.end(prepared.moment);
+        self.end();
     }
 
     /// Ends the event of what was prepared last without it. It takes no memory.
     pub fn abandon(&mut self, prepared: Prepared<'_>)
         requires last { IsLast prepared self.old }
-        ensures state { self.new.state ≡ abandoned prepared.entry self.old }
+        ensures state { self.new.state ≡ self.old.state }
         ensures next { self.new.next ≡ next_number self.old.next }
         ensures indexed { IsIndexed self.new }
         ensures free { self.new.pending ≡ false }
     {
-        let moment = prepared.moment;
         drop(prepared);
-        self.end(moment);
+        self.end();
     }
 
     /// Refuses a command for its words, in an event of its own, and writes why. It takes no memory.
@@ -228,6 +240,8 @@ impl Engine {
         ensures text { self.old.next < 2 ^ 62 → out.new.items ≡ spelling (Fault (refusal (slice_index_or words.entry 0 []) fault.now)) }
         ensures last { 2 ^ 62 ≤ self.old.next → out.new.items ≡ spelling (Fault last_event) }
 
+        // The moment counts, by which idle cursors are gone, and nothing else changes.
+        ensures state { self.new.state ≡ begun self.old.next now self.old.state }
         ensures reads { self.new.reads ≡ self.old.reads }
         ensures next { self.new.next ≡ next_number self.old.next }
         ensures indexed { IsIndexed self.new }
@@ -248,6 +262,7 @@ impl Engine {
             reply.new.bytes self.new.state }
         ensures text { self.old.next < 2 ^ 62 → reply.new.bytes ≡ spelling (Fault (refusal (slice_index_or words.entry 0 []) fault.now)) }
         ensures last { 2 ^ 62 ≤ self.old.next → reply.new.bytes ≡ spelling (Fault last_event) }
+        ensures state { self.new.state ≡ begun self.old.next now self.old.state }
         ensures reads { self.new.reads ≡ self.old.reads }
         ensures next { self.new.next ≡ next_number self.old.next }
         ensures indexed { IsIndexed self.new }
@@ -259,22 +274,18 @@ impl Engine {
             return reply.set_fault(b"ERR last event reached");
         }
         reply.set_refusal(words.word(0), *fault);
+        self.held.begin(self.next, now);
         self.pending = true;
-        self.end(now);
+        self.end();
     }
 
-    // Ends an event that is prepared, at its moment.
-    fn end(&mut self, moment: u64)
+    // Ends an event that is prepared.
+    fn end(&mut self)
         requires pending { self.old.pending ≡ true }
-        ensures ended { self.new ≡ record self.old {
-          state = at_moment moment self.old.state;
-          next = next_number self.old.next;
-          pending = false;
-        } }
+        ensures ended { self.new ≡ record self.old { next = next_number self.old.next; pending = false } }
         ensures indexed { IsIndexed self.new }
     {
         self.held.stand();
-        self.latest = self.latest.max(moment);
         self.pending = false;
         if self.next < LAST_NUMBER {
             self.next += 1;

@@ -1,12 +1,12 @@
 //! The plain commands, each given to the call that does it.
-ghost use Rattle.std.specs.Prelude.{◌≤◌, ◌<◌, ℕ};
+ghost use Rattle.std.specs.Prelude.{◌≡◌, ◌≤◌, ◌<◌, None};
 ghost use Rattle.cmd_parse.specs.Asking.{AreWords};
 ghost use Rattle.cmd_parse.specs.Lawful.{Lawful};
-ghost use Rattle.cmd_parse.specs.Read.{Plain};
+ghost use Rattle.cmd_parse.specs.Asked.{Plain};
 ghost use Rattle.ft_engine.specs.Quiet.{ChangesNothing};
 ghost use Rattle.ft_machine.specs.Step.{Does, last_number};
 ghost use Rattle.index_commands.specs.Exactness.{TellsExactly};
-ghost use Rattle.indexed_store.specs.Holding.{state_at};
+ghost use Rattle.indexed_store.specs.Holding.{state_of};
 ghost use Rattle.indexed_store.specs.Preparing.{OnlyReads, Prepares};
 
 use cmd_parse::Verb;
@@ -26,6 +26,7 @@ pub fn prepare_plain<'a>(
     requires number { held.old.next < last_number }
     requires lawful { Lawful verb args.now }
     requires words { AreWords args.now }
+    requires none { held.old.opens ≡ None }
     ensures prepares { Prepares (Plain verb args.now) held.old held.new reply.new.bytes result }
     ensures records { TellsExactly (Plain verb args.now) held.old.indexes reply.new.bytes }
     ensures room { reply.old.room ≤ reply.new.room }
@@ -51,8 +52,8 @@ fn answer(held: &mut IndexedStore, verb: Verb, args: &Words<'_>, reply: &mut Rep
     requires read { ChangesNothing verb }
     requires number { held.old.next < last_number }
     requires lawful { Lawful verb args.now }
-    ensures does { (latest : ℕ) → Does (Plain verb args.now) held.old.next (state_at latest held.old)
-        reply.new.bytes (state_at latest held.old) }
+    requires none { held.old.opens ≡ None }
+    ensures does { Does (Plain verb args.now) held.old.next (state_of held.old) reply.new.bytes (state_of held.old) }
     ensures records { TellsExactly (Plain verb args.now) held.old.indexes reply.new.bytes }
     ensures stays { OnlyReads held.old held.new }
     ensures room { reply.old.room ≤ reply.new.room }

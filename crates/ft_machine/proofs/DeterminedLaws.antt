@@ -1,21 +1,30 @@
 -- A command that is answered so leads to one state, and has one reply where memory is not wanting.
-use Rattle.std.specs.Prelude.{◌≡◌, ◌≢◌, ◌<◌, ◌⊎◌, ◌+ℤ◌, ℕ, ℤ, nat_le, length, List, [], ◌∷◌, ◌++◌, Bool, true, false, Option, None, Some, Result, Ok, Err, drop, is_some, slice_index_or, refl, if◌then◌else◌, codes}
+use Rattle.std.specs.Prelude.{◌≡◌, ◌≢◌, ◌<◌, ◌⊎◌, ◌+ℤ◌, ℕ, ℤ, nat_le, length, List, [], ◌∷◌, ◌++◌, Bool, true, false, Option, None, Some, Result, Ok, Err, drop, is_some, slice_index_or, map, refl, if◌then◌else◌, codes}
+use denote.Hole.Carrier.{out}
+use Rattle.std.specs.Fmt.{decimal}
 use Rattle.std.proofs.Common.{sym, ap, subst, ◌∙◌, inl, inr, arith}
 use Rattle.ft_base.proofs.SpellingLaws.{spelling-Fault, spelling-Line, spelling-Number}
 use Rattle.ft_base.specs.Memory.{out_of_memory, want_of_memory}
 use Rattle.ft_base.specs.Hash.{get_field}
 use Rattle.ft_base.specs.Number.{int_of, is_i64}
 use Rattle.ft_base.specs.Space.{doc_of}
-use Rattle.ft_base.specs.Reply.{spelling}
+use Rattle.ft_base.specs.Reply.{joined, line, spelling, spelling_step}
+use Rattle.ft_base.specs.declared.reply.Reply.TheFolds.{fold_out-Reply}
+use Rattle.ft_base.specs.declared.reply.Reply.TheViews.{out-Reply}
 use Rattle.ft_base.specs.declared.definition.Field.{Field}
 use Rattle.ft_base.specs.declared.definition.IndexDef.{IndexDef}
 use Rattle.ft_base.specs.declared.doc.Doc.{Doc}
 use Rattle.ft_base.specs.declared.query.Param.{Param}
 use Rattle.ft_base.specs.declared.query.Query.{Query}
 use Rattle.ft_base.specs.declared.reply.Reply.{Reply}
-use Rattle.ft_base.specs.declared.reply.Reply.TheVariants.{Fault, Line, Number}
+use Rattle.ft_base.specs.declared.reply.Reply.TheVariants.{Array, Fault, Line, Number}
 use Rattle.std.specs.Str.{bytes_eq}
-use Rattle.cmd_parse.specs.Read.{Asked, Plain, CreateIndex, AlterIndex, Search, Aggregate, read}
+use Rattle.cmd_parse.specs.Aggregating.{Aggregating}
+use Rattle.cmd_parse.specs.Asked.{Asked, Plain, CreateIndex, AlterIndex, Search, Aggregate, CursorRead, CursorDel}
+use Rattle.cmd_parse.specs.Read.{read}
+use Rattle.cmd_parse.specs.declared.aggregate_words.CursorSpec.{CursorSpec}
+use Rattle.cursor_book.specs.Cursors.{body_left, cursor_of, cursors_of}
+use Rattle.cursor_book.specs.declared.cursor.Cursor.{Cursor}
 use Rattle.cmd_parse.specs.declared.command.CmdFault.{CmdFault}
 use Rattle.cmd_parse.specs.declared.command.Verb.{Verb}
 use Rattle.cmd_parse.specs.declared.command.Verb.TheVariants.{Ping, Echo, Select, Quit, Hset, Hsetnx, Hget, Hmget, Hgetall, Hdel, Hlen, Hexists, Hincrby, Hkeys, Hvals, Del, Exists, TypeOf, Dbsize, Rename, Flushall, DropIndex, ListIndexes, Info, TagVals}
@@ -28,12 +37,15 @@ use Rattle.query_grammar.specs.declared.fault.QueryFault.TheVariants.{Syntax, Un
 use Rattle.ft_schema.specs.Schema.{extended}
 use Rattle.ft_schema.specs.declared.fault.SchemaFault.{SchemaFault}
 use Rattle.ft_base.specs.Words.{first, second, third}
-use Rattle.ft_machine.specs.Answering.{IsAnswered, answer_reply, queried}
+use Rattle.ft_machine.specs.Answering.{IsAnswered, query_gives, queried}
+use Rattle.ft_machine.specs.Cursors.{cursor_deleted, cursor_read, deleted_of, read_of}
 use Rattle.ft_machine.specs.Definitions.{Defined, index_of}
 use Rattle.ft_machine.specs.Determined.{DifferInRecords}
 use Rattle.ft_machine.specs.Indexes.{altered, altered_to, defines, dropped, index_over, most_indexes, unknown_index}
 use Rattle.ft_machine.specs.Info.{informed}
 use Rattle.ft_machine.specs.Machine.{Outcome, State, answered, at_moment, hash_of, just, wanting}
+use Rattle.ft_machine.specs.Opening.{aggregate_gives, body_of, kept, most_cursors, new_cursor}
+use Rattle.ft_machine.specs.Parts.{Part, part_of, part_reply}
 use Rattle.ft_machine.specs.PlainCommands.{plain}
 use Rattle.ft_machine.specs.Step.{Answers, given, last_number, outcomes, read_gives, words_give}
 use Rattle.ft_machine.specs.Writes.{hincrby, hset_unless, number_in, rename}
@@ -51,6 +63,13 @@ number-mark n e = let is : mark (spelling (Number n)) ≡ 58 = ap mark (spelling
 
 line-mark : (text : List ℕ) → mark (spelling (Line text)) ≢ 45
 line-mark text e = let is : mark (spelling (Line text)) ≡ 43 = ap mark (spelling-Line text) in absurd (omega (arith, is, e))
+
+array-is : (replies : List Reply) → mark (spelling (Array replies)) ≡ 42
+unfolding out-Reply out
+array-is replies = ap mark (fold_out-Reply (List ℕ) spelling_step (Array replies))
+
+array-mark : (replies : List Reply) → mark (spelling (Array replies)) ≢ 45
+array-mark replies e = absurd (omega (arith, array-is replies, e))
 
 want-mark : (outcome : Outcome) (state : State) → outcome ≡ wanting state → mark (spelling outcome.reply) ≡ 45
 want-mark outcome state e = ap (λ (o : Outcome). mark (spelling o.reply)) e ∙ ap mark (spelling-Fault want_of_memory)
@@ -90,6 +109,44 @@ altered_to-settled failures (Ok def) state = inr (line-mark _)
 altered-settled : (index : Option Defined) (fields : List Field) (state : State) → IsSettled state (altered index fields state)
 altered-settled None fields state = inl refl
 altered-settled (Some index) fields state = altered_to-settled index.failures (extended index.def fields) state
+
+-- FT.CURSOR, and a cursor that is opened
+read-settled : (def : IndexDef) (count : Option ℕ) (cursor : Option Cursor) (state : State) → IsSettled state (read_of def count cursor state)
+read-settled def count None state = inl refl
+read-settled def count (Some cursor) state = inr (array-mark _)
+
+deleted-settled : (cursor : Option Cursor) (state : State) → IsSettled state (deleted_of cursor state)
+deleted-settled None state = inl refl
+deleted-settled (Some cursor) state = inr (line-mark _)
+
+cursor_read-settled : (index : Option Defined) (id : ℕ) (count : Option ℕ) (state : State) → IsSettled state (cursor_read index id count state)
+cursor_read-settled None id count state = inl refl
+cursor_read-settled (Some index) id count state = read-settled index.def count (cursor_of index.def.serial id state.cursors) state
+
+cursor_deleted-settled : (index : Option Defined) (id : ℕ) (state : State) → IsSettled state (cursor_deleted index id state)
+cursor_deleted-settled None id state = inl refl
+cursor_deleted-settled (Some index) id state = deleted-settled (cursor_of index.def.serial id state.cursors) state
+
+kept-settled-by : (full : Bool) (state after : State) (text : List ℕ) (replies : List Reply)
+    → IsSettled state (if full then answered (Fault text) state else record { reply = Array replies; after = after })
+kept-settled-by true state after text replies = inl refl
+kept-settled-by false state after text replies = inr (array-mark replies)
+
+kept-settled : (number : ℕ) (cursor : Cursor) (part : Part) (state : State) → IsSettled state (kept number cursor part state)
+kept-settled number cursor part state =
+    kept-settled-by (nat_le most_cursors (length (cursors_of cursor.serial state.cursors))) state _ (codes "Too many cursors") _
+
+opened-settled : (ends : Bool) (reply : Reply) (state : State) (other : Outcome) → IsSettled state other → IsSettled state (if ends then answered reply state else other)
+opened-settled true reply state other settled = inl refl
+opened-settled false reply state other settled = settled
+
+aggregate-settled : (what : Aggregating) (cursor : Option CursorSpec) (number : ℕ) (state : State) (def : IndexDef) (query : Query)
+    → IsSettled state (aggregate_gives what cursor number state def query)
+aggregate-settled what None number state def query = inl refl
+aggregate-settled what (Some spec) number state def query =
+    let body = body_of what def query state.space in
+    let part = part_of def state.space spec.count body in
+    opened-settled part.ends (part_reply number part) state _ (kept-settled number (new_cursor def.serial spec number state.latest (body_left part.taken body)) part state)
 
 -- the state behind FT.CREATE of an index
 abbrev created_after : IndexDef → State → State
@@ -147,85 +204,6 @@ informed-after : (index : Option Defined) (state : State) (outcome : Outcome) �
 informed-after None state outcome e = ap (λ (o : Outcome). o.after) e
 informed-after (Some index) state outcome e = e.1
 
-queried-after : (index : Option Defined) (params : List Param) (query : List ℕ) (given : IndexDef → Query → Reply) (state : State) (outcome : Outcome)
-    → queried index params query given state outcome → outcome.after ≡ state
-queried-after None params query given state outcome e = ap (λ (o : Outcome). o.after) e
-queried-after (Some index) params query given state outcome e = e.1
-
--- FT.INFO, by its verb
-abbrev PlainAfter : Verb → Type 0
-PlainAfter verb = (args : List (List ℕ)) (number : ℕ) (state : State) (outcome : Outcome) → plain verb args number state outcome → outcome.after ≡ state
-
-info-after : (verb : Verb) → verb ≡ Info → PlainAfter verb
-info-after verb is = subst PlainAfter (sym is) (λ args number state outcome x. informed-after (index_of state.definitions (first args)) state outcome x)
-
-same-after : (a b : Outcome) (state : State) → a.after ≡ state → b.after ≡ state → a.after ≡ b.after
-same-after a b state x y = x ∙ sym y
-
-given-state : (asks : Asked) (number : ℕ) (state : State) (a b : Outcome) → given asks number state a → given asks number state b → a.after ≡ b.after
-given-state (Plain verb args) number state a b x y = elim (plain-one verb args number state) [
-  | inl o ↦ ap (λ (o : Outcome). o.after) (o.only a x ∙ sym (o.only b y))
-  | inr is ↦ same-after a b state (info-after verb is args number state a x) (info-after verb is args number state b y)
-]
-given-state (CreateIndex index) number state a b x y = ap (λ (o : Outcome). o.after) (x ∙ sym y)
-given-state (AlterIndex index fields) number state a b x y = ap (λ (o : Outcome). o.after) (x ∙ sym y)
-given-state (Search what) number state a b x y = same-after a b state (queried-after _ _ _ _ state a x) (queried-after _ _ _ _ state b y)
-given-state (Aggregate what) number state a b x y = same-after a b state (queried-after _ _ _ _ state a x) (queried-after _ _ _ _ state b y)
-
-by-made : (made outcome : Outcome) (state : State) → outcome ≡ made → IsSettled state made → IsSettled state outcome
-by-made made outcome state is settled = subst (λ (o : Outcome). IsSettled state o) (sym is) settled
-
-given-settled : (asks : Asked) (number : ℕ) (state : State) (a : Outcome) → given asks number state a → IsSettled state a
-given-settled (Plain verb args) number state a x = elim (plain-one verb args number state) [
-  | inl o ↦ by-made o.made a state (o.only a x) o.settled
-  | inr is ↦ inl (info-after verb is args number state a x)
-]
-given-settled (CreateIndex index) number state a x = by-made _ a state x (created-settled (is_some (index_of state.definitions index.name)) (nat_le most_indexes (length state.definitions)) state (created_after index state) (codes "Index already exists") (codes "Too many indexes"))
-given-settled (AlterIndex index fields) number state a x = by-made _ a state x (altered-settled _ fields state)
-given-settled (Search what) number state a x = inl (queried-after _ _ _ _ state a x)
-given-settled (Aggregate what) number state a x = inl (queried-after _ _ _ _ state a x)
-
--- what says that memory is wanting, and what is settled and says so, leave the state
-want-state : (a b : Outcome) (state : State) → IsSettled state a → b ≡ wanting state → spelling a.reply ≡ spelling b.reply → a.after ≡ state
-want-state a b state (inl same) want said = same
-want-state a b state (inr differs) want said = absurd (differs (ap mark said ∙ want-mark b state want))
-
-wanted-after : (b : Outcome) (state : State) → b ≡ wanting state → b.after ≡ state
-wanted-after b state e = ap (λ (o : Outcome). o.after) e
-
-outcomes-settled : (asks : Asked) (number : ℕ) (state : State) (a : Outcome) → outcomes asks number state a → IsSettled state a
-outcomes-settled asks number state a (inl x) = given-settled asks number state a x
-outcomes-settled asks number state a (inr want) = inl (wanted-after a state want.1)
-
-outcomes-state : (asks : Asked) (number : ℕ) (state : State) (a b : Outcome) → outcomes asks number state a → outcomes asks number state b → spelling a.reply ≡ spelling b.reply → a.after ≡ b.after
-outcomes-state asks number state a b (inl x) (inl y) said = given-state asks number state a b x y
-outcomes-state asks number state a b (inl x) (inr want) said = same-after a b state (want-state a b state (given-settled asks number state a x) want.1 said) (wanted-after b state want.1)
-outcomes-state asks number state a b (inr want) (inl y) said = same-after a b state (wanted-after a state want.1) (want-state b a state (given-settled asks number state b y) want.1 (sym said))
-outcomes-state asks number state a b (inr want) (inr wants) said = same-after a b state (wanted-after a state want.1) (wanted-after b state wants.1)
-
-gives-settled : (name : List ℕ) (asked : Result Asked CmdFault) (number : ℕ) (state : State) (a : Outcome) → read_gives name asked number state a → IsSettled state a
-gives-settled name (Ok asks) number state a x = outcomes-settled asks number state a x
-gives-settled name (Err fault) number state a x = inl (ap (λ (o : Outcome). o.after) x)
-
-gives-state : (name : List ℕ) (asked : Result Asked CmdFault) (number : ℕ) (state : State) (a b : Outcome) → read_gives name asked number state a → read_gives name asked number state b
-    → spelling a.reply ≡ spelling b.reply → a.after ≡ b.after
-gives-state name (Ok asks) number state a b x y said = outcomes-state asks number state a b x y said
-gives-state name (Err fault) number state a b x y said = ap (λ (o : Outcome). o.after) (x ∙ sym y)
-
-words-state : (words : List (List ℕ)) (number : ℕ) (state : State) (a b : Outcome) → words_give words number state a → words_give words number state b → spelling a.reply ≡ spelling b.reply → a.after ≡ b.after
-words-state words number state a b (inl x) (inl y) said = gives-state _ (read number words) number state a b x y said
-words-state words number state a b (inl x) (inr want) said = same-after a b state (want-state a b state (gives-settled _ (read number words) number state a x) want.1 said) (wanted-after b state want.1)
-words-state words number state a b (inr want) (inl y) said = same-after a b state (wanted-after a state want.1) (want-state b a state (gives-settled _ (read number words) number state b y) want.1 (sym said))
-words-state words number state a b (inr want) (inr wants) said = same-after a b state (wanted-after a state want.1) (wanted-after b state wants.1)
-
-pub has-one-state : (words : List (List ℕ)) (number moment : ℕ) (old : State) (written : List ℕ) (new next : State)
-    → Answers words number moment old written new → Answers words number moment old written next → new ≡ next
-has-one-state words number moment old written new next (inl x) (inl y) =
-    x.1.after ∙ (words-state words number (at_moment moment old) x.1.outcome y.1.outcome x.1.may y.1.may (sym x.1.reply ∙ y.1.reply) ∙ sym y.1.after)
-has-one-state words number moment old written new next (inl x) (inr y) = absurd (omega (arith, x.0, y.0))
-has-one-state words number moment old written new next (inr x) (inl y) = absurd (omega (arith, x.0, y.0))
-has-one-state words number moment old written new next (inr x) (inr y) = x.2 ∙ sym y.2
-
 -- the laws of the language, as its crate states them
 pub record Laws : Type 0 where
   pub tree : (def : IndexDef) (params : List Param) (ts : List Lexeme) (q r : Query) → IsMeaning def params ts q → IsMeaning def params ts r → q ≡ r
@@ -264,15 +242,101 @@ one-told laws def params end (Err stop) (Ok q) b ka kb x y = absurd x
 one-told laws def params end (Err stop) (Err f) (Ok q) ka kb x y = absurd y
 one-told laws def params end (Err stop) (Err f) (Err g) ka kb x y = ap (λ (f : QueryFault). Err f) (as-lexical def params end stop f ka x ∙ sym (as-lexical def params end stop g kb y))
 
-one-answered : Laws → (def : IndexDef) (params : List Param) (query : List ℕ) (given : Query → Reply) (a b : Reply)
-    → IsAnswered def params query given a → IsAnswered def params query given b → a ≡ b
-one-answered laws def params query given a b x y =
-    x.same ∙ (ap (answer_reply given) (one-told laws def params _ (lexemes query) x.answer y.answer x.read y.read x.text y.text) ∙ sym y.same)
+-- one outcome of a query's text
+one-queried : Laws → (index : Option Defined) (params : List Param) (query : List ℕ) (given : IndexDef → Query → Outcome) (state : State) (a b : Outcome)
+    → queried index params query given state a → queried index params query given state b → a ≡ b
+one-queried laws None params query given state a b x y = x ∙ sym y
+one-queried laws (Some index) params query given state a b x y =
+    x.same ∙ (ap (query_gives (given index.def) state) (one-told laws index.def params _ (lexemes query) x.answer y.answer x.read y.read x.text y.text) ∙ sym y.same)
 
-one-queried : Laws → (index : Option Defined) (params : List Param) (query : List ℕ) (given : IndexDef → Query → Reply) (state : State) (a b : Outcome)
-    → queried index params query given state a → queried index params query given state b → a.reply ≡ b.reply
-one-queried laws None params query given state a b x y = ap (λ (o : Outcome). o.reply) (x ∙ sym y)
-one-queried laws (Some index) params query given state a b x y = one-answered laws index.def params query (given index.def) a.reply b.reply x.0 y.0
+by-made : (made outcome : Outcome) (state : State) → outcome ≡ made → IsSettled state made → IsSettled state outcome
+by-made made outcome state is settled = subst (λ (o : Outcome). IsSettled state o) (sym is) settled
+
+answer-settled : (given : Query → Outcome) (state : State) (answer : Result Query QueryFault) → ((query : Query) → IsSettled state (given query))
+    → IsSettled state (query_gives given state answer)
+answer-settled given state (Ok query) settled = settled query
+answer-settled given state (Err fault) settled = inl refl
+
+queried-settled : (index : Option Defined) (params : List Param) (query : List ℕ) (given : IndexDef → Query → Outcome) (state : State) (outcome : Outcome)
+    → ((def : IndexDef) (query : Query) → IsSettled state (given def query)) → queried index params query given state outcome → IsSettled state outcome
+queried-settled None params query given state outcome settled e = inl (ap (λ (o : Outcome). o.after) e)
+queried-settled (Some index) params query given state outcome settled e =
+    by-made _ outcome state e.same (answer-settled (given index.def) state e.answer (settled index.def))
+
+-- FT.INFO, by its verb
+abbrev PlainAfter : Verb → Type 0
+PlainAfter verb = (args : List (List ℕ)) (number : ℕ) (state : State) (outcome : Outcome) → plain verb args number state outcome → outcome.after ≡ state
+
+info-after : (verb : Verb) → verb ≡ Info → PlainAfter verb
+info-after verb is = subst PlainAfter (sym is) (λ args number state outcome x. informed-after (index_of state.definitions (first args)) state outcome x)
+
+same-after : (a b : Outcome) (state : State) → a.after ≡ state → b.after ≡ state → a.after ≡ b.after
+same-after a b state x y = x ∙ sym y
+
+given-state : Laws → (asks : Asked) (number : ℕ) (state : State) (a b : Outcome) → given asks number state a → given asks number state b → a.after ≡ b.after
+given-state laws (Plain verb args) number state a b x y = elim (plain-one verb args number state) [
+  | inl o ↦ ap (λ (o : Outcome). o.after) (o.only a x ∙ sym (o.only b y))
+  | inr is ↦ same-after a b state (info-after verb is args number state a x) (info-after verb is args number state b y)
+]
+given-state laws (CreateIndex index) number state a b x y = ap (λ (o : Outcome). o.after) (x ∙ sym y)
+given-state laws (AlterIndex index fields) number state a b x y = ap (λ (o : Outcome). o.after) (x ∙ sym y)
+given-state laws (Search what) number state a b x y = ap (λ (o : Outcome). o.after) (one-queried laws _ _ _ _ state a b x y)
+given-state laws (Aggregate what) number state a b x y = ap (λ (o : Outcome). o.after) (one-queried laws _ _ _ _ state a b x y)
+given-state laws (CursorRead index id count) number state a b x y = ap (λ (o : Outcome). o.after) (x ∙ sym y)
+given-state laws (CursorDel index id) number state a b x y = ap (λ (o : Outcome). o.after) (x ∙ sym y)
+
+given-settled : (asks : Asked) (number : ℕ) (state : State) (a : Outcome) → given asks number state a → IsSettled state a
+given-settled (Plain verb args) number state a x = elim (plain-one verb args number state) [
+  | inl o ↦ by-made o.made a state (o.only a x) o.settled
+  | inr is ↦ inl (info-after verb is args number state a x)
+]
+given-settled (CreateIndex index) number state a x = by-made _ a state x (created-settled (is_some (index_of state.definitions index.name)) (nat_le most_indexes (length state.definitions)) state (created_after index state) (codes "Index already exists") (codes "Too many indexes"))
+given-settled (AlterIndex index fields) number state a x = by-made _ a state x (altered-settled _ fields state)
+given-settled (Search what) number state a x = queried-settled _ _ _ _ state a (λ def query. inl refl) x
+given-settled (Aggregate what) number state a x = queried-settled _ _ _ _ state a (aggregate-settled what what.cursor number state) x
+given-settled (CursorRead index id count) number state a x = by-made _ a state x (cursor_read-settled _ id count state)
+given-settled (CursorDel index id) number state a x = by-made _ a state x (cursor_deleted-settled _ id state)
+
+-- what says that memory is wanting, and what is settled and says so, leave the state
+want-state : (a b : Outcome) (state : State) → IsSettled state a → b ≡ wanting state → spelling a.reply ≡ spelling b.reply → a.after ≡ state
+want-state a b state (inl same) want said = same
+want-state a b state (inr differs) want said = absurd (differs (ap mark said ∙ want-mark b state want))
+
+wanted-after : (b : Outcome) (state : State) → b ≡ wanting state → b.after ≡ state
+wanted-after b state e = ap (λ (o : Outcome). o.after) e
+
+outcomes-settled : (asks : Asked) (number : ℕ) (state : State) (a : Outcome) → outcomes asks number state a → IsSettled state a
+outcomes-settled asks number state a (inl x) = given-settled asks number state a x
+outcomes-settled asks number state a (inr want) = inl (wanted-after a state want.1)
+
+outcomes-state : Laws → (asks : Asked) (number : ℕ) (state : State) (a b : Outcome) → outcomes asks number state a → outcomes asks number state b → spelling a.reply ≡ spelling b.reply → a.after ≡ b.after
+outcomes-state laws asks number state a b (inl x) (inl y) said = given-state laws asks number state a b x y
+outcomes-state laws asks number state a b (inl x) (inr want) said = same-after a b state (want-state a b state (given-settled asks number state a x) want.1 said) (wanted-after b state want.1)
+outcomes-state laws asks number state a b (inr want) (inl y) said = same-after a b state (wanted-after a state want.1) (want-state b a state (given-settled asks number state b y) want.1 (sym said))
+outcomes-state laws asks number state a b (inr want) (inr wants) said = same-after a b state (wanted-after a state want.1) (wanted-after b state wants.1)
+
+gives-settled : (name : List ℕ) (asked : Result Asked CmdFault) (number : ℕ) (state : State) (a : Outcome) → read_gives name asked number state a → IsSettled state a
+gives-settled name (Ok asks) number state a x = outcomes-settled asks number state a x
+gives-settled name (Err fault) number state a x = inl (ap (λ (o : Outcome). o.after) x)
+
+gives-state : Laws → (name : List ℕ) (asked : Result Asked CmdFault) (number : ℕ) (state : State) (a b : Outcome) → read_gives name asked number state a → read_gives name asked number state b
+    → spelling a.reply ≡ spelling b.reply → a.after ≡ b.after
+gives-state laws name (Ok asks) number state a b x y said = outcomes-state laws asks number state a b x y said
+gives-state laws name (Err fault) number state a b x y said = ap (λ (o : Outcome). o.after) (x ∙ sym y)
+
+words-state : Laws → (words : List (List ℕ)) (number : ℕ) (state : State) (a b : Outcome) → words_give words number state a → words_give words number state b → spelling a.reply ≡ spelling b.reply → a.after ≡ b.after
+words-state laws words number state a b (inl x) (inl y) said = gives-state laws _ (read number words) number state a b x y said
+words-state laws words number state a b (inl x) (inr want) said = same-after a b state (want-state a b state (gives-settled _ (read number words) number state a x) want.1 said) (wanted-after b state want.1)
+words-state laws words number state a b (inr want) (inl y) said = same-after a b state (wanted-after a state want.1) (want-state b a state (gives-settled _ (read number words) number state b y) want.1 (sym said))
+words-state laws words number state a b (inr want) (inr wants) said = same-after a b state (wanted-after a state want.1) (wanted-after b state wants.1)
+
+pub has-one-state : Laws → (words : List (List ℕ)) (number moment : ℕ) (old : State) (written : List ℕ) (new next : State)
+    → Answers words number moment old written new → Answers words number moment old written next → new ≡ next
+has-one-state laws words number moment old written new next (inl x) (inl y) =
+    x.1.after ∙ (words-state laws words number (at_moment moment old) x.1.outcome y.1.outcome x.1.may y.1.may (sym x.1.reply ∙ y.1.reply) ∙ sym y.1.after)
+has-one-state laws words number moment old written new next (inl x) (inr y) = absurd (omega (arith, x.0, y.0))
+has-one-state laws words number moment old written new next (inr x) (inl y) = absurd (omega (arith, x.0, y.0))
+has-one-state laws words number moment old written new next (inr x) (inr y) = x.2 ∙ sym y.2
 
 -- whether FT.INFO is asked of no index that is there
 abbrev NotInfo : Result Asked CmdFault → State → Type 0
@@ -299,8 +363,10 @@ given-reply laws (Plain verb args) number state other_than a b x y = elim (plain
 ]
 given-reply laws (CreateIndex index) number state other_than a b x y = ap (λ (o : Outcome). o.reply) (x ∙ sym y)
 given-reply laws (AlterIndex index fields) number state other_than a b x y = ap (λ (o : Outcome). o.reply) (x ∙ sym y)
-given-reply laws (Search what) number state other_than a b x y = one-queried laws _ _ _ _ state a b x y
-given-reply laws (Aggregate what) number state other_than a b x y = one-queried laws _ _ _ _ state a b x y
+given-reply laws (Search what) number state other_than a b x y = ap (λ (o : Outcome). o.reply) (one-queried laws _ _ _ _ state a b x y)
+given-reply laws (Aggregate what) number state other_than a b x y = ap (λ (o : Outcome). o.reply) (one-queried laws _ _ _ _ state a b x y)
+given-reply laws (CursorRead index id count) number state other_than a b x y = ap (λ (o : Outcome). o.reply) (x ∙ sym y)
+given-reply laws (CursorDel index id) number state other_than a b x y = ap (λ (o : Outcome). o.reply) (x ∙ sym y)
 
 -- an outcome that does not tell of want of memory
 abbrev Says : Outcome → Type 0

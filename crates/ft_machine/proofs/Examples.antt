@@ -17,11 +17,11 @@ abbrev value : List ℕ
 value = codes "v"
 
 -- an earlier moment counts as the latest one
-earlier_moment : (at_moment 5 (record { space = []; definitions = []; latest = 7 })).latest ≡ 7
+earlier_moment : (at_moment 5 (record { space = []; definitions = []; cursors = []; latest = 7 })).latest ≡ 7
 earlier_moment = refl
 
 -- a later moment is the latest from then on
-later_moment : (at_moment 9 (record { space = []; definitions = []; latest = 7 })).latest ≡ 9
+later_moment : (at_moment 9 (record { space = []; definitions = []; cursors = []; latest = 7 })).latest ≡ 9
 later_moment = refl
 
 -- a document of its parts

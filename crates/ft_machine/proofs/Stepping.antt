@@ -5,7 +5,8 @@ use Rattle.ft_base.specs.Memory.{out_of_memory}
 use Rattle.ft_base.specs.Reply.{spelling}
 use Rattle.ft_base.specs.declared.reply.Reply.{Reply}
 use Rattle.ft_base.specs.declared.reply.Reply.TheVariants.{Fault}
-use Rattle.cmd_parse.specs.Read.{Asked, read}
+use Rattle.cmd_parse.specs.Asked.{Asked}
+use Rattle.cmd_parse.specs.Read.{read}
 use Rattle.cmd_parse.specs.Reading.{IsReading}
 use Rattle.cmd_parse.specs.Refusals.{refusal}
 use Rattle.cmd_parse.specs.declared.command.CmdFault.{CmdFault}

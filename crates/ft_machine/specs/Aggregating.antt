@@ -1,5 +1,5 @@
 -- What an aggregate is answered (RediSearch, FT.AGGREGATE): the rows that its steps make of the documents found.
-use Rattle.std.specs.Prelude.{pos, List, [], ◌∷◌, length, map, Option}
+use Rattle.std.specs.Prelude.{pos, List, [], ◌∷◌, length, map}
 use Rattle.std.specs.Fmt.{signed_decimal}
 use Rattle.std.specs.List.{flat_map}
 use Rattle.agg_pipeline.specs.Rows.{loaded}
@@ -18,9 +18,6 @@ use Rattle.ft_base.specs.declared.row.Value.{Value}
 use Rattle.ft_base.specs.declared.row.Value.TheFolds.{fold-Value}
 use Rattle.ft_base.specs.declared.row.Value.TheOpen as layer
 use Rattle.ft_meaning.specs.Holds.{found_of}
-use Rattle.ft_machine.specs.Answering.{queried}
-use Rattle.ft_machine.specs.Definitions.{Defined}
-use Rattle.ft_machine.specs.Machine.{Outcome, State}
 
 -- how one value is shown, with each inner value as it is shown: a number in its canonical spelling
 abbrev pub value_step : layer.Value-F Reply → Reply
@@ -49,7 +46,3 @@ aggregate_rows load steps def docs = piped def steps (map (loaded load def) docs
 
 abbrev pub aggregate_reply : Aggregating → List Doc → IndexDef → Query → Reply
 aggregate_reply what docs def query = rows_reply (aggregate_rows what.load what.steps def (found_of query def docs))
-
--- what an aggregate may give, where there is the index or none
-abbrev pub aggregated : Option Defined → Aggregating → State → Outcome → Type 0
-aggregated index what state outcome = queried index what.params what.query (aggregate_reply what state.space) state outcome

@@ -1,6 +1,7 @@
 -- How far a command's reply and the next state are determined.
 use Rattle.std.specs.Prelude.{◌≡◌, ◌≢◌, ◌<◌, ℕ, List, Some, None, Ok}
-use Rattle.cmd_parse.specs.Read.{Plain, read}
+use Rattle.cmd_parse.specs.Asked.{Plain}
+use Rattle.cmd_parse.specs.Read.{read}
 use Rattle.cmd_parse.specs.declared.command.Verb.TheVariants.{Info}
 use Rattle.ft_base.specs.Memory.{out_of_memory}
 use Rattle.ft_base.specs.Reply.{spelling}

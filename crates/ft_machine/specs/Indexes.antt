@@ -2,6 +2,7 @@
 use Rattle.std.specs.Prelude.{ℕ, List, [], ◌∷◌, ◌++◌, length, map, ◌&&◌, nat_le, Option, Some, None, is_some, Result, Ok, Err, codes, if◌then◌else◌}
 use Rattle.std.specs.List.{find}
 use Rattle.std.specs.Str.{bytes_eq}
+use Rattle.cursor_book.specs.Cursors.{without_index as without_cursors}
 use Rattle.ft_base.specs.Kinds.{is_tag}
 use Rattle.ft_base.specs.declared.definition.Field.{Field}
 use Rattle.ft_base.specs.declared.definition.IndexDef.{IndexDef}
@@ -48,12 +49,17 @@ abbrev pub altered : Option Defined → List Field → State → Outcome
 altered None fields state = answered (Fault unknown_index) state
 altered (Some index) fields state = altered_to index.failures (extended index.def fields) state
 
+-- the cursors of an index are gone with it
+abbrev pub undefines : Defined → List ℕ → State → Outcome
+undefines index name state =
+    defines (without_index state.definitions name) (record state { cursors = without_cursors index.def.serial state.cursors })
+
 -- FT.DROPINDEX, with the words behind the index's name: DD removes the index's members too.
 abbrev pub dropped : Option Defined → List ℕ → List (List ℕ) → State → Outcome
 dropped None name how state = answered (Fault unknown_index) state
-dropped (Some index) name [] state = defines (without_index state.definitions name) state
+dropped (Some index) name [] state = undefines index name state
 dropped (Some index) name (_ ∷ _) state =
-    defines (without_index state.definitions name) (record state { space = without_members (Some index) state.space })
+    undefines index name (record state { space = without_members (Some index) state.space })
 
 -- FT._LIST: the names in order of creation
 abbrev pub name_bulk : Defined → Reply

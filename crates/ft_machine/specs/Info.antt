@@ -1,5 +1,7 @@
 -- What is told of an index (RediSearch, FT.INFO, of which it has seven fields).
 use Rattle.std.specs.Prelude.{◌≡◌, ◌≤◌, ℕ, pos, List, [], ◌∷◌, ◌++◌, length, map, Bool, Option, Some, None, codes, if◌then◌else◌}
+use Rattle.cursor_book.specs.Cursors.{cursors_of}
+use Rattle.cursor_book.specs.declared.cursor.Cursor.{Cursor}
 use Rattle.ft_base.specs.declared.definition.Field.{Field}
 use Rattle.ft_base.specs.declared.definition.FieldKind.{FieldKind}
 use Rattle.ft_base.specs.declared.definition.FieldKind.TheVariants.{Text, Tag, Numeric}
@@ -59,14 +61,14 @@ info_reply def counts = Array (
     ∷ []
     )
 
--- A reply tells of an index its definition, how many members it has, and how often a document failed to be one. It tells a
--- number of records that is at least that of the live ones, and no cursor.
-pub record Tells (index : Defined) (docs : List Doc) (reply : Reply) : Type 0 where
+-- A reply tells of an index its definition, how many members it has, how often a document failed to be one, and how many
+-- cursors are open on it. It tells a number of records that is at least that of the live ones.
+pub record Tells (index : Defined) (docs : List Doc) (cursors : List Cursor) (reply : Reply) : Type 0 where
   pub records : ℕ
   pub least : live_records index.def (members index.def docs) ≤ records
-  pub same : reply ≡ info_reply index.def (record { docs = length (members index.def docs); records = records; failures = index.failures; cursors = 0 })
+  pub same : reply ≡ info_reply index.def (record { docs = length (members index.def docs); records = records; failures = index.failures; cursors = length (cursors_of index.def.serial cursors) })
 
 -- what may be told of an index, where there is the index
 abbrev pub informed : Option Defined → State → Outcome → Type 0
 informed None state outcome = just (answered (Fault unknown_index) state) outcome
-informed (Some index) state outcome = Tells index state.space outcome.reply × (outcome.after ≡ state)
+informed (Some index) state outcome = Tells index state.space state.cursors outcome.reply × (outcome.after ≡ state)

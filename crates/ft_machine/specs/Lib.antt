@@ -1,12 +1,15 @@
 pub mod Aggregating
 pub mod Answering
 pub mod Counted
+pub mod Cursors
 pub mod Definitions
 pub mod Determined
 pub mod History
 pub mod Indexes
 pub mod Info
 pub mod Machine
+pub mod Opening
+pub mod Parts
 pub mod PlainCommands
 pub mod Reads
 pub mod Searching

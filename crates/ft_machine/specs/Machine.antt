@@ -1,5 +1,7 @@
 -- The state of the machine: the plain hashes, and what else a reply may depend on.
 use Rattle.std.specs.Prelude.{◌≡◌, ℕ, max, List, []}
+use Rattle.cursor_book.specs.Cursors.{live}
+use Rattle.cursor_book.specs.declared.cursor.Cursor.{Cursor}
 use Rattle.ft_base.specs.Memory.{out_of_memory}
 use Rattle.ft_base.specs.Hash.{Hash}
 use Rattle.ft_base.specs.Space.{doc_of}
@@ -13,15 +15,19 @@ pub record State : Type 0 where
   pub space : List Doc
   -- the definitions of the indexes, in order of creation, with their counts of failures
   pub definitions : List Defined
+  -- the cursors that are open, in order of their ids
+  pub cursors : List Cursor
   -- the latest moment that a command came with
   pub latest : ℕ
 
 abbrev pub empty_state : State
-empty_state = record { space = []; definitions = []; latest = 0 }
+empty_state = record { space = []; definitions = []; cursors = []; latest = 0 }
 
--- The state at an event's moment, before the event does anything. A moment that is earlier counts as the latest one.
+-- The state at an event's moment, before the event does anything. A moment that is earlier counts as the latest one. A
+-- cursor that was not used for longer than it may is gone.
 abbrev pub at_moment : ℕ → State → State
-at_moment moment state = record state { latest = max moment state.latest }
+at_moment moment state =
+    let now = max moment state.latest in record state { cursors = live now state.cursors; latest = now }
 
 -- the hash of a key
 abbrev pub hash_of : State → List ℕ → Hash

@@ -43,7 +43,7 @@ plain DropIndex args number state = just (dropped (index_of state.definitions (f
 plain ListIndexes args number state = just (answered (listed state.definitions) state)
 plain Info args number state = informed (index_of state.definitions (first args)) state
 plain TagVals args number state = just (answered (tag_vals (index_of state.definitions (first args)) (second args) state.space) state)
-plain Flushall args number state = just (record { reply = Line (codes "OK"); after = record state { space = []; definitions = [] } })
+plain Flushall args number state = just (record { reply = Line (codes "OK"); after = record state { space = []; definitions = []; cursors = [] } })
 
 -- how many keys DEL counts without memory
 abbrev pub most_counted : ℕ

@@ -10,7 +10,7 @@ use Rattle.ft_base.specs.declared.reply.Reply.TheVariants.{Fault}
 use Rattle.ft_machine.specs.Answering.{queried}
 use Rattle.ft_machine.specs.Counted.{counted, first_unknown, in_order}
 use Rattle.ft_machine.specs.Definitions.{Defined}
-use Rattle.ft_machine.specs.Machine.{Outcome, State}
+use Rattle.ft_machine.specs.Machine.{Outcome, State, answered}
 use Rattle.ft_machine.specs.Shown.{found_reply}
 
 -- the text for a name of SORTBY or FILTER that is no such field's, by its word
@@ -29,4 +29,5 @@ search_reply what docs def query =
 
 -- what a search may give, where there is the index or none
 abbrev pub searched : Option Defined → Searching → State → Outcome → Type 0
-searched index what state outcome = queried index what.params what.query (search_reply what state.space) state outcome
+searched index what state outcome =
+    queried index what.params what.query (λ def query. answered (search_reply what state.space def query) state) state outcome

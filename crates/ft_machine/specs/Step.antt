@@ -1,16 +1,18 @@
 -- One step of the machine: a command at an event's number and a moment gives a reply and the next state.
 use Rattle.std.specs.Prelude.{◌≡◌, ◌<◌, ◌≤◌, ◌⊎◌, ℕ, List, [], ◌+◌, ◌^◌, min, slice_index_or, Result, Ok, Err, IsTrue, codes}
-use Rattle.cmd_parse.specs.Read.{Asked, Plain, CreateIndex, AlterIndex, Search, Aggregate, read, takes_memory}
+use Rattle.cmd_parse.specs.Asked.{Asked, Plain, CreateIndex, AlterIndex, Search, Aggregate, CursorRead, CursorDel}
+use Rattle.cmd_parse.specs.Read.{read, takes_memory}
 use Rattle.cmd_parse.specs.Refusals.{refusal}
 use Rattle.cmd_parse.specs.declared.command.CmdFault.{CmdFault}
 use Rattle.ft_base.specs.Memory.{out_of_memory}
 use Rattle.ft_base.specs.Reply.{spelling}
 use Rattle.ft_base.specs.declared.reply.Reply.{Reply}
 use Rattle.ft_base.specs.declared.reply.Reply.TheVariants.{Fault}
-use Rattle.ft_machine.specs.Aggregating.{aggregated}
+use Rattle.ft_machine.specs.Cursors.{cursor_deleted, cursor_read}
 use Rattle.ft_machine.specs.Definitions.{index_of}
 use Rattle.ft_machine.specs.Indexes.{altered, created}
 use Rattle.ft_machine.specs.Machine.{Outcome, State, answered, at_moment, just, wanting}
+use Rattle.ft_machine.specs.Opening.{aggregated}
 use Rattle.ft_machine.specs.PlainCommands.{PlainMayWant, plain}
 use Rattle.ft_machine.specs.Searching.{searched}
 
@@ -20,11 +22,14 @@ given (Plain verb args) number state = plain verb args number state
 given (CreateIndex index) number state = just (created index state)
 given (AlterIndex index fields) number state = just (altered (index_of state.definitions index) fields state)
 given (Search what) number state = searched (index_of state.definitions what.index) what state
-given (Aggregate what) number state = aggregated (index_of state.definitions what.index) what state
+given (Aggregate what) number state = aggregated (index_of state.definitions what.index) what number state
+given (CursorRead index id count) number state = just (cursor_read (index_of state.definitions index) id count state)
+given (CursorDel index id) number state = just (cursor_deleted (index_of state.definitions index) id state)
 
 -- Whether a command may be answered that memory is wanting.
 abbrev pub MayWant : Asked → Type 0
 MayWant (Plain verb args) = PlainMayWant verb args
+MayWant (CursorDel index id) = ⊥
 MayWant _ = Unit {0}
 
 -- What a command may give: what it asks; or memory was wanting.

@@ -16,4 +16,8 @@ pub fn one_reply()
 /// A command that is answered so leads to one state: a history has one state behind it.
 pub fn one_state()
     ensures { HasOneState }
-{}
+{
+    one_tree();
+    one_fault();
+    tree_or_fault();
+}

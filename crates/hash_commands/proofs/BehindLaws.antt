@@ -23,6 +23,8 @@ pub stays-behind : (old mid new : Holding) → OnlyReads old mid → Stays mid n
 stays-behind old mid new reads stays = record {
   space = stays.space ∙ reads.space;
   definitions = stays.definitions ∙ ap (λ (is : List Index). definitions_of is) reads.indexes;
+  cursors = stays.cursors ∙ reads.cursors;
+  latest = stays.latest ∙ reads.latest;
   next = omega (arith, stays.next, reads.next);
 }
 
@@ -31,6 +33,8 @@ pub stays-read : (old new : Holding) → OnlyReads old new → Stays old new
 stays-read old new reads = record {
   space = reads.space;
   definitions = ap (λ (is : List Index). definitions_of is) reads.indexes;
+  cursors = reads.cursors;
+  latest = reads.latest;
   next = omega (arith, reads.next);
 }
 
@@ -39,6 +43,9 @@ pub reads-nothing : (old new : Holding) → new ≡ old → OnlyReads old new
 reads-nothing old new same = record {
   space = ap (λ (held : Holding). held.space) same;
   indexes = ap (λ (held : Holding). held.indexes) same;
+  cursors = ap (λ (held : Holding). held.cursors) same;
+  latest = ap (λ (held : Holding). held.latest) same;
   waits = ap (λ (held : Holding). held.waits) same;
+  opens = ap (λ (held : Holding). held.opens) same;
   next = ap (λ (held : Holding). held.next) same;
 }

@@ -22,7 +22,7 @@ use Rattle.ft_machine.specs.Step.{Does, MayWant, given, outcomes}
 use Rattle.ft_machine.specs.Writes.{fields_gone, hdel, hincrby, hset_unless, number_in, put, set_pairs, without_fields}
 use Rattle.ft_machine.proofs.Stepping.{gives, wants, widened}
 use Rattle.indexed_store.specs.Changing.{IsOther, changed}
-use Rattle.indexed_store.specs.Holding.{Holding, state_at}
+use Rattle.indexed_store.specs.Holding.{Holding, state_of}
 use Rattle.indexed_store.specs.Preparing.{IsPrepared, OnlyReads, Prepares, Stays, WaitsFor}
 use Rattle.indexed_store.proofs.PreparingLaws.{prepares-read}
 use Rattle.hash_commands.proofs.BehindLaws.{reads-nothing, stays-behind, waits-behind}
@@ -34,14 +34,14 @@ use Rattle.indexed_store.specs.declared.change.Change.TheVariants.{Nothing, Move
 -- a command for which memory was wanting
 pub prepares-wanting : (asks : Asked) (old new : Holding) (said : List ℕ) → MayWant asks → Stays old new → said ≡ spelling out_of_memory → Prepares asks old new said Nothing
 prepares-wanting asks old new said may stays is = record {
-  does = λ latest. wants asks old.next (state_at latest old) said may is;
+  does = wants asks old.next (state_of old) said may is;
   stays = stays;
   ready = tt;
   still = λ nothing. inl is;
 }
 
 -- a command that leaves everything as it was
-pub prepares-same : (asks : Asked) (old new : Holding) (said : List ℕ) → new ≡ old → ((latest : ℕ) → Does asks old.next (state_at latest old) said (state_at latest old)) → Prepares asks old new said Nothing
+pub prepares-same : (asks : Asked) (old new : Holding) (said : List ℕ) → new ≡ old → Does asks old.next (state_of old) said (state_of old) → Prepares asks old new said Nothing
 prepares-same asks old new said same does = prepares-read asks old new said (reads-nothing old new same) does
 
 -- the state once the document that waits is written
@@ -50,13 +50,13 @@ after_write waits state = record state { space = written waits state.space; defi
 
 -- a command that lets a hash wait
 pub prepares-write : (asks : Asked) (old new : Holding) (said key : List ℕ) (hash : Hash) (token : ℕ) (reply : Reply)
-    → ((latest : ℕ) → given asks old.next (state_at latest old) (record { reply = reply; after = put key hash old.next (state_at latest old) })) → WaitsFor key hash token old new → Stays old new → said ≡ spelling reply
+    → given asks old.next (state_of old) (record { reply = reply; after = put key hash old.next (state_of old) }) → WaitsFor key hash token old new → Stays old new → said ≡ spelling reply
     → Prepares asks old new said (Write token)
 prepares-write asks old new said key hash token reply may waits stays is = record {
-  does = λ latest.
-      (let state : State = state_at latest old in
+  does =
+      let state : State = state_of old in
       gives asks old.next state (record { reply = reply; after = put key hash old.next state }) said (after_write new.waits state)
-      (may latest) is (ap (λ (w : Option Doc). after_write w state) waits.ready));
+      may is (ap (λ (w : Option Doc). after_write w state) waits.ready);
   stays = stays;
   ready = waits.waits;
   still = λ nothing. cc (nothing);
@@ -87,7 +87,7 @@ kept-there args number state said there is = stays-plain Hsetnx Hsetnx args numb
 pub sets-absent : (args : List (List ℕ)) (old new : Holding) (said : List ℕ) (change : Change) → is_some (get_field (hash_in (doc_of old.space (first args))) (second args)) ≡ false
     → Prepares (Plain Hset args) old new said change → Prepares (Plain Hsetnx args) old new said change
 sets-absent args old new said change absent prepares = record {
-  does = λ latest. widened (outcomes (Plain Hset args) old.next (state_at latest old)) (outcomes (Plain Hsetnx args) old.next (state_at latest old)) said _ (by_case (state_at latest old) refl) (prepares.does latest);
+  does = widened (outcomes (Plain Hset args) old.next (state_of old)) (outcomes (Plain Hsetnx args) old.next (state_of old)) said _ (by_case (state_of old) refl) prepares.does;
   stays = prepares.stays;
   ready = prepares.ready;
   still = prepares.still;
@@ -100,13 +100,13 @@ sets-absent args old new said change absent prepares = record {
 
 -- HDEL of a key and fields that are among the arguments
 pub hdel-prepares : (args : List (List ℕ)) (old new : Holding) (said key : List ℕ) (fields : List (List ℕ)) (change : Change) (gone : ℕ) → key ≡ first args → fields ≡ drop 1 args
-    → ((state : State) → state.space ≡ old.space → changed change new.waits state ≡ fields_gone key fields old.next state)
+    → ((state : State) → state.space ≡ old.space → changed change new.waits new.opens state ≡ fields_gone key fields old.next state)
     → gone ≡ length (hash_in (doc_of old.space key)) - length (without_fields (hash_in (doc_of old.space key)) fields) → IsPrepared change old new → Stays old new → said ≡ spelling (Number (pos gone))
     → Prepares (Plain Hdel args) old new said change
 hdel-prepares args old new said key fields change gone k f made count prepared stays is = record {
-  does = λ latest.
-      (let state : State = state_at latest old in
-      gives (Plain Hdel args) old.next state (hdel args old.next state) said (changed change new.waits state) refl
+  does =
+      (let state : State = state_of old in
+      gives (Plain Hdel args) old.next state (hdel args old.next state) said (changed change new.waits new.opens state) refl
       (is ∙ ap (λ (n : ℕ). spelling (Number (pos n))) (count ∙ (ap (λ (word : List ℕ). lost word fields) k ∙ ap (λ (words : List (List ℕ)). lost (first args) words) f)))
       (made state refl ∙ (ap (λ (word : List ℕ). fields_gone word fields old.next state) k ∙ ap (λ (words : List (List ℕ)). fields_gone (first args) words old.next state) f)));
   stays = stays;
@@ -139,7 +139,7 @@ pub hincrby-prepares : (args : List (List ℕ)) (old mid new : Holding) (said ke
     → Prepares (Plain Hincrby args) old new said (Write token)
 hincrby-prepares args old mid new said key field first_value by sum token k f is more total reads waits stays told =
     prepares-write (Plain Hincrby args) old new said key (set_field (hash_in (doc_of old.space key)) field (signed_decimal sum)) token (Number sum)
-    (λ latest. hincrby-gives args old.next (state_at latest old) key field first_value by sum k f is more total.0 total.1)
+    (hincrby-gives args old.next (state_of old) key field first_value by sum k f is more total.0 total.1)
     (waits-behind key (λ (docs : List Doc). set_field (hash_in (doc_of docs key)) field (signed_decimal sum)) token old mid new reads waits) (stays-behind old mid new reads stays) told
 
 -- a hash that waits is under another key than this one
@@ -151,8 +151,8 @@ pub rename-prepares : (args : List (List ℕ)) (old new : Holding) (said : List 
     → is_some (doc_of old.space from.now) ≡ true → test ≡ bytes_eq from.now to → test ≡ false → WaitsFor to (hash_in (doc_of old.space from.now)) token old new → Stays old new → said ≡ spelling (Line (codes "OK"))
     → Prepares (Plain Rename args) old new said (Move token from)
 rename-prepares args old new said from to token test f t there is apart waits stays ok = record {
-  does = λ latest.
-      (let state : State = state_at latest old in
+  does =
+      (let state : State = state_of old in
       renamed args old.next state _ said (ap (λ (word : List ℕ). is_some (doc_of old.space word)) (sym f) ∙ there)
       (same-words from.now to (first args) (second args) test false f t is apart) ok
       (moved new.waits state from.now to (first args) (second args) old.next f t waits.ready));

@@ -1,5 +1,5 @@
 -- What DEL and FLUSHALL give.
-use Rattle.std.proofs.Common.{◌≡◌, ◌≢◌, ◌<◌, ◌+◌, ℕ, List, [], length, refl, sym, ap, ◌∙◌, subst, arith}
+use Rattle.std.proofs.Common.{◌≡◌, ◌≢◌, ◌<◌, ◌+◌, ℕ, List, [], length, refl, sym, ap, ◌∙◌, subst, arith, inr}
 use Rattle.std.specs.Prelude.{◌-◌, pos, codes, drop, ◌⊎◌}
 use Rattle.cmd_parse.specs.Read.{Plain}
 use Rattle.cmd_parse.specs.declared.command.Verb.TheVariants.{Del, Flushall}
@@ -11,9 +11,10 @@ use Rattle.ft_machine.specs.Machine.{State}
 use Rattle.ft_machine.specs.Step.{Does}
 use Rattle.ft_machine.specs.Writes.{del}
 use Rattle.ft_machine.proofs.Stepping.{gives}
-use Rattle.indexed_store.specs.Holding.{Holding, state_at}
-use Rattle.indexed_store.specs.Preparing.{Prepares}
-use Rattle.indexed_store.specs.declared.change.Change.TheVariants.{EraseKeys, Flush}
+use Rattle.indexed_store.specs.DefinitionsOf.{definitions_of}
+use Rattle.indexed_store.specs.Holding.{Holding, state_of}
+use Rattle.indexed_store.specs.Preparing.{Prepares, Stays}
+use Rattle.indexed_store.specs.declared.change.Change.TheVariants.{CloseCursors, EraseKeys, Flush}
 
 -- DEL of keys that have no documents
 pub deleted-nothing : (keys : List (List ℕ)) (number count : ℕ) (state : State) (written : List ℕ) (docs : List Doc) → state.space ≡ docs → count ≡ 0 → without_keys docs keys ≡ docs
@@ -22,7 +23,7 @@ deleted-nothing keys number count state written docs same none whole said =
     let left : without_keys state.space keys ≡ state.space = ap (λ (docs : List Doc). without_keys docs keys) same ∙ (whole ∙ sym same) in
     let nothing : count ≡ length state.space - length (without_keys state.space keys) = omega (arith, none, ap (λ (docs : List Doc). length docs) left) in
     gives (Plain Del keys) number state (del keys state) written state refl
-    (said ∙ ap (λ (n : ℕ). spelling (Number (pos n))) nothing) (ap (λ (docs : List Doc). record { space = docs; definitions = state.definitions; latest = state.latest }) (sym left))
+    (said ∙ ap (λ (n : ℕ). spelling (Number (pos n))) nothing) (ap (λ (docs : List Doc). record state { space = docs }) (sym left))
 
 -- DEL of keys that have some
 deleted-some : (keys : List (List ℕ)) (number count : ℕ) (state : State) (written : List ℕ) (docs : List Doc) → state.space ≡ docs
@@ -32,17 +33,25 @@ deleted-some keys number count state written docs same counted said =
     gives (Plain Del keys) number state (del keys state) written (record state { space = without_keys state.space keys }) refl
     (said ∙ ap (λ (n : ℕ). spelling (Number (pos n))) many) refl
 
--- FLUSHALL of nothing
-pub flushed-nothing : (args : List (List ℕ)) (number : ℕ) (state : State) (written : List ℕ) → state.space ≡ [] → state.definitions ≡ [] → written ≡ spelling (Line (codes "OK")) → Does (Plain Flushall args) number state written state
-flushed-nothing args number state written none nothing said =
-    gives (Plain Flushall args) number state (record { reply = Line (codes "OK"); after = record state { space = []; definitions = [] } }) written state refl
-    said (ap (λ (docs : List Doc). record { space = docs; definitions = state.definitions; latest = state.latest }) none ∙ ap (λ (defs : List Defined). record { space = []; definitions = defs; latest = state.latest }) nothing)
-
 -- FLUSHALL
-flushed : (args : List (List ℕ)) (number : ℕ) (state : State) (written : List ℕ) → written ≡ spelling (Line (codes "OK")) → Does (Plain Flushall args) number state written (record state { space = []; definitions = [] })
+flushed : (args : List (List ℕ)) (number : ℕ) (state : State) (written : List ℕ) → written ≡ spelling (Line (codes "OK"))
+    → Does (Plain Flushall args) number state written (record state { space = []; definitions = []; cursors = [] })
 flushed args number state written said =
-    let after : State = record state { space = []; definitions = [] } in
+    let after : State = record state { space = []; definitions = []; cursors = [] } in
     gives (Plain Flushall args) number state (record { reply = Line (codes "OK"); after = after }) written after refl said refl
+
+-- FLUSHALL where there are cursors at most
+closed : (args : List (List ℕ)) (number : ℕ) (state : State) (written : List ℕ) → state.space ≡ [] → state.definitions ≡ [] → written ≡ spelling (Line (codes "OK"))
+    → Does (Plain Flushall args) number state written (record state { cursors = [] })
+closed args number state written none nothing said =
+    gives (Plain Flushall args) number state (record { reply = Line (codes "OK"); after = record state { space = []; definitions = []; cursors = [] } }) written (record state { cursors = [] }) refl
+    said
+    (ap (λ (docs : List Doc). record state { space = docs; cursors = [] }) none
+    ∙ ap (λ (defs : List Defined). record state { space = []; definitions = defs; cursors = [] }) nothing)
+
+-- what is the same is not seen
+unseen : (held : Holding) → Stays held held
+unseen held = record { space = refl; definitions = refl; cursors = refl; latest = refl; next = omega arith }
 
 -- DEL of keys that have some documents
 pub del-prepares : (args rest : List (List ℕ)) (old new : Holding) (said : List ℕ) (count : ℕ) → rest ≡ drop 0 args → new ≡ old → count + length (without_keys old.space args) ≡ length old.space → count ≢ 0
@@ -53,8 +62,8 @@ del-prepares args rest old new said count keys same counted some is =
   where
     whole : Prepares (Plain Del args) old old said (EraseKeys args)
     whole = record {
-      does = λ latest. deleted-some args old.next count (state_at latest old) said old.space refl counted is;
-      stays = record { space = refl; definitions = refl; next = omega arith };
+      does = deleted-some args old.next count (state_of old) said old.space refl counted is;
+      stays = unseen old;
       ready = omega (arith, counted, some);
       still = λ nothing. cc (nothing);
     }
@@ -62,8 +71,17 @@ del-prepares args rest old new said count keys same counted some is =
 -- FLUSHALL of something
 pub flush-prepares : (args : List (List ℕ)) (held : Holding) (said : List ℕ) → said ≡ spelling (Line (codes "OK")) → (0 < length held.space) ⊎ (0 < length held.indexes) → Prepares (Plain Flushall args) held held said Flush
 flush-prepares args held said is some = record {
-  does = λ latest. flushed args held.next (state_at latest held) said is;
-  stays = record { space = refl; definitions = refl; next = omega arith };
+  does = flushed args held.next (state_of held) said is;
+  stays = unseen held;
   ready = some;
   still = λ nothing. cc (nothing);
+}
+
+-- FLUSHALL where there are cursors at most
+pub close-prepares : (args : List (List ℕ)) (held : Holding) (said : List ℕ) → said ≡ spelling (Line (codes "OK")) → held.space ≡ [] → definitions_of held.indexes ≡ [] → Prepares (Plain Flushall args) held held said CloseCursors
+close-prepares args held said is none nothing = record {
+  does = closed args held.next (state_of held) said none nothing is;
+  stays = unseen held;
+  ready = tt;
+  still = λ same. inr refl;
 }

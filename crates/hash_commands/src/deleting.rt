@@ -42,7 +42,7 @@ fn take_fields<'a>(
 ) -> Result<(Change<'a>, usize), NoMemory>
     requires number { held.old.next < last_number }
     ensures change { IfOk result (λ made. (state : State) → state.space ≡ held.old.space
-        → changed made.0 held.new.waits state ≡ fields_gone key.now fields.now held.old.next state) }
+        → changed made.0 held.new.waits held.new.opens state ≡ fields_gone key.now fields.now held.old.next state) }
     ensures gone { IfOk result (λ made. made.1 ≡ length (hash_in (doc_of held.old.space key.now))
         - length (without_fields (hash_in (doc_of held.old.space key.now)) fields.now)) }
     ensures ready { IfOk result (λ made. IsPrepared made.0 held.old held.new) }

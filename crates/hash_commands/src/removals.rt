@@ -1,4 +1,4 @@
-//! DEL and FLUSHALL: removals of documents, prepared without memory but where DEL has very many keys.
+//! DEL and FLUSHALL: removals, prepared without memory but where DEL has very many keys.
 ghost use Rattle.std.specs.Prelude.{◌≡◌, ◌≤◌};
 ghost use Rattle.cmd_parse.specs.Read.{Plain};
 ghost use Rattle.cmd_parse.specs.declared.command.Verb.TheVariants.{Del, Flushall};
@@ -16,7 +16,8 @@ pub fn flush<'a>(held: &mut IndexedStore, args: &Words<'a>, reply: &mut ReplyBuf
 {
     reply.set_short(b"+OK\r\n");
     if held.len() == 0 && held.index_count() == 0 {
-        return Change::Nothing;
+        // No index is left that could have cursors, but nothing says so here.
+        return Change::CloseCursors;
     }
     Change::Flush
 }

@@ -6,7 +6,6 @@ use Rattle.cmd_parse.specs.Read.{Asked}
 use Rattle.ft_base.specs.Memory.{out_of_memory}
 use Rattle.ft_base.specs.Reply.{spelling}
 use Rattle.ft_base.specs.declared.definition.IndexDef.{IndexDef}
-use Rattle.ft_base.specs.declared.doc.Doc.{Doc}
 use Rattle.ft_base.specs.declared.query.Param.{Param}
 use Rattle.ft_base.specs.declared.query.Query.{Query}
 use Rattle.ft_base.specs.declared.reply.Reply.{Reply}
@@ -32,18 +31,18 @@ pub named : (indexes : List Index) (state : State) (name : List ℕ) (index : Op
 named indexes state name index same there =
     ap (λ (defs : List Defined). index_of defs name) same ∙ (index_of-named indexes name ∙ ap (option_map defined) there)
 
--- What a command asks that has a query: an index's name, the text with its parameters, and the reply by the documents, the
--- index and the query.
+-- What a command asks that has a query: an index's name, the text with its parameters, and what it gives by the event's
+-- number, the state, the index and the query.
 pub record Queried : Type 0 where
   pub asks : Asked
   pub name : List ℕ
   pub params : List Param
   pub query : List ℕ
-  pub reply : List Doc → IndexDef → Query → Reply
+  pub outcome : ℕ → State → IndexDef → Query → Outcome
 
 -- it gives what the query does, and memory may be wanting
 pub record IsQuery (what : Queried) (number : ℕ) (state : State) : Type 0 where
-  pub gives : (outcome : Outcome) → queried (index_of state.definitions what.name) what.params what.query (what.reply state.space) state outcome → given what.asks number state outcome
+  pub gives : (outcome : Outcome) → queried (index_of state.definitions what.name) what.params what.query (what.outcome number state) state outcome → given what.asks number state outcome
   pub may : MayWant what.asks
 
 -- a fault that is not want of memory
@@ -54,42 +53,52 @@ module _ (what : Queried) (number : ℕ) (state : State) (is : IsQuery what numb
   abbrev Found : Index → Type 0
   Found index = find (is_named what.name) indexes ≡ Some index
 
+  abbrev Given : Option Defined → Outcome → Type 0
+  Given index outcome = queried index what.params what.query (what.outcome number state) state outcome
+
   -- there is no such index
   pub queries-none : (written : List ℕ) → find (is_named what.name) indexes ≡ None → written ≡ spelling (Fault unknown_index) → Does what.asks number state written state
   queries-none written none said =
       let outcome = answered (Fault unknown_index) state in
       gives what.asks number state outcome written state
-      (is.gives outcome (subst (λ (i : Option Defined). queried i what.params what.query (what.reply state.space) state outcome) (sym (named indexes state what.name None same none)) refl)) said refl
+      (is.gives outcome (subst (λ (i : Option Defined). Given i outcome) (sym (named indexes state what.name None same none)) refl)) said refl
 
-  -- an index is there, and the reply is that of the query in it
-  queries-index : (index : Index) (written : List ℕ) (reply : Reply) → Found index → IsAnswered index.def what.params what.query (what.reply state.space index.def) reply
-      → written ≡ spelling reply → Does what.asks number state written state
-  queries-index index written reply there answer said =
-      let outcome = answered reply state in
-      gives what.asks number state outcome written state
-      (is.gives outcome (subst (λ (i : Option Defined). queried i what.params what.query (what.reply state.space) state outcome) (sym (named indexes state what.name (Some index) same there)) (answer, refl))) said refl
+  -- an index is there, and this is given by the query's text in it
+  queries-index : (index : Index) (outcome : Outcome) → Found index → IsAnswered index.def what.params what.query (what.outcome number state index.def) state outcome → given what.asks number state outcome
+  queries-index index outcome there answer =
+      is.gives outcome (subst (λ (i : Option Defined). Given i outcome) (sym (named indexes state what.name (Some index) same there)) answer)
 
-  -- The query has a tree, and the reply that it gives was answered, or out of memory.
-  pub queries-found : (index : Index) (def : IndexDef) (written : List ℕ) (query : Query) (docs : List Doc) → Found index → def ≡ index.def → state.space ≡ docs
-      → IsAnswer def what.params what.query (Ok query) → (written ≡ spelling (what.reply docs index.def query)) ⊎ (written ≡ spelling out_of_memory) → Does what.asks number state written state
-  queries-found index def written query docs there its all answer (inl said) =
-      queries-index index written (what.reply docs index.def query) there (record {
+  -- the query has a tree, and this is what it gives
+  pub queries-given : (index : Index) (def : IndexDef) (query : Query) → Found index → def ≡ index.def → IsAnswer def what.params what.query (Ok query)
+      → given what.asks number state (what.outcome number state index.def query)
+  queries-given index def query there its answer =
+      queries-index index (what.outcome number state index.def query) there (record {
         answer = Ok query;
         read = λ wrong. cc;
         text = subst (λ (d : IndexDef). IsAnswer d what.params what.query (Ok query)) its answer;
-        same = ap (λ (ds : List Doc). what.reply ds index.def query) (sym all);
-      }) said
-  queries-found index def written query docs there its all answer (inr want) = wants what.asks number state written is.may want
+        same = refl;
+      })
+
+  -- The query has a tree, and the reply that it gives was answered, or out of memory.
+  pub queries-found : (index : Index) (def : IndexDef) (written : List ℕ) (query : Query) (reply : Reply) → Found index → def ≡ index.def
+      → IsAnswer def what.params what.query (Ok query) → what.outcome number state index.def query ≡ answered reply state
+      → (written ≡ spelling reply) ⊎ (written ≡ spelling out_of_memory) → Does what.asks number state written state
+  queries-found index def written query reply there its answer is_reply (inl said) =
+      gives what.asks number state (answered reply state) written state
+      (subst (λ (outcome : Outcome). given what.asks number state outcome) is_reply (queries-given index def query there its answer)) said refl
+  queries-found index def written query reply there its answer is_reply (inr want) = wants what.asks number state written is.may want
 
   queries-fault : (index : Index) (def : IndexDef) (written : List ℕ) (fault : QueryFault) → Found index → def ≡ index.def → IsKnown fault
       → IsAnswer def what.params what.query (Err fault) → written ≡ spelling (Fault (query_refusal fault)) → Does what.asks number state written state
   queries-fault index def written fault there its known answer said =
-      queries-index index written (Fault (query_refusal fault)) there (record {
+      let outcome = answered (Fault (query_refusal fault)) state in
+      gives what.asks number state outcome written state
+      (queries-index index outcome there (record {
         answer = Err fault;
         read = known;
         text = subst (λ (d : IndexDef). IsAnswer d what.params what.query (Err fault)) its answer;
         same = refl;
-      }) said
+      })) said refl
 
   -- The text is no query, and its fault was answered, or out of memory.
   pub queries-fault_of : (index : Index) (def : IndexDef) (written : List ℕ) (fault : QueryFault) → Found index → def ≡ index.def

@@ -1,9 +1,10 @@
 -- What is read for a search and for an aggregate, and what is told of an index, exactly.
-use Rattle.std.specs.Prelude.{◌≡◌, ◌≤◌, ℕ, List, length, Option, None, Some, Result, Ok, Err, IfOk, OnOk, find}
+use Rattle.std.specs.Prelude.{◌≡◌, ◌≤◌, ℕ, List, length, Option, None, Some, Result, Ok, Err, IfOk, OnOk, find, refl}
 use Rattle.std.proofs.Common.{ap, ◌∙◌, inl, inr}
 use Rattle.cmd_parse.specs.Aggregating.{Aggregating}
 use Rattle.cmd_parse.specs.Searching.{Searching}
-use Rattle.cmd_parse.specs.Read.{Asked, Plain, Search, Aggregate}
+use Rattle.cmd_parse.specs.Asked.{Asked, Plain, Search, Aggregate}
+use Rattle.cmd_parse.specs.declared.aggregate_words.CursorSpec.{CursorSpec}
 use Rattle.cmd_parse.specs.declared.command.Verb.TheVariants.{Info}
 use Rattle.ft_base.specs.Words.{first}
 use Rattle.ft_base.specs.Reply.{spelling}
@@ -15,7 +16,7 @@ use Rattle.ft_base.specs.Memory.{want_of_memory}
 use Rattle.ft_machine.specs.Aggregating.{aggregate_rows, rows_reply}
 use Rattle.ft_machine.specs.Counted.{in_order}
 use Rattle.ft_machine.specs.Step.{Told}
-use Rattle.index_commands.specs.Exactness.{IsRefusal, ReadsFew, ReadsFound, ReadsRows, TellsEntries, TellsExactly, TellsOf}
+use Rattle.index_commands.specs.Exactness.{IsRefusal, ReadsAll, ReadsFew, ReadsFound, ReadsRows, TellsEntries, TellsExactly, TellsOf}
 use Rattle.ft_machine.specs.Info.{info_reply}
 use Rattle.ft_machine.specs.declared.counts.Counts.{Counts}
 use Rattle.ft_index.specs.Lists.{AllLists}
@@ -41,10 +42,22 @@ reads-made what def docs written (Ok reply) old new is reads rises (inl said) = 
 reads-made what def docs written (Ok reply) old new is reads rises (inr want) = inr (inr (want, rises))
 reads-made what def docs written (Err e) old new is reads rises want = inr (inr (want, rises))
 
+-- an aggregate that reads no more where it has no cursor
+pub reads-all : (what : Aggregating) (written : List ℕ) (old new : ℕ) → (what.cursor ≡ None → ReadsFound what written old new) → ReadsFew (Aggregate what) written old new
+reads-all what written old new reads = by_cursor what.cursor refl
+  where
+    by_cursor : (cursor : Option CursorSpec) → what.cursor ≡ cursor → ReadsAll cursor what written old new
+    by_cursor None none = reads none
+    by_cursor (Some cursor) some = tt
+
 -- a command that is refused reads nothing for a search or an aggregate
 pub reads-refused : (asks : Asked) (written : List ℕ) (old new : ℕ) → IsRefusal written → new ≡ old → ReadsFew asks written old new
 reads-refused (Search what) written old new refused same = inr (inl (refused, same))
-reads-refused (Aggregate what) written old new refused same = inr (inl (refused, same))
+reads-refused (Aggregate what) written old new refused same = by_cursor what.cursor
+  where
+    by_cursor : (cursor : Option CursorSpec) → ReadsAll cursor what written old new
+    by_cursor None = inr (inl (refused, same))
+    by_cursor (Some cursor) = tt
 reads-refused _ written old new refused same = tt
 
 -- and tells of no index

@@ -1,5 +1,5 @@
 -- What the commands of indexes give.
-use Rattle.std.proofs.Common.{◌≡◌, ◌<◌, ◌≤◌, ◌+◌, ℕ, Bool, true, false, cond, List, [], ◌∷◌, ◌++◌, length, map, Option, Some, None, refl, sym, ap, ◌∙◌, subst, arith}
+use Rattle.std.proofs.Common.{◌≡◌, ◌<◌, ◌≤◌, ◌+◌, ℕ, Bool, true, false, cond, List, [], ◌∷◌, ◌++◌, length, map, Option, Some, None, refl, sym, ap, ◌∙◌, subst, arith, inr}
 use Rattle.std.specs.Prelude.{◌||◌, Result, Ok, Err, IfOk, IsTrue, codes, drop, find, is_some, nat_le, nat_lt}
 use Rattle.std.specs.Borrow.{Bor}
 use Rattle.std.specs.List.{All}
@@ -25,7 +25,6 @@ use Rattle.ft_schema.specs.Schema.{extended, has_any_alias, is_over}
 use Rattle.ft_schema.specs.declared.fault.SchemaFault.{SchemaFault}
 use Rattle.ft_schema.specs.declared.fault.SchemaFault.TheVariants as schema
 use Rattle.indexed_store.proofs.NamedLaws.{index_of-named}
-use Rattle.indexed_store.proofs.PreparingLaws.{prepares-nothing}
 use Rattle.ft_machine.specs.Definitions.{Defined, failures_over, index_of, with_index, without_index, without_members}
 use Rattle.indexed_store.specs.DefinitionsOf.{defined, definitions_of}
 use Rattle.indexed_store.specs.Named.{is_named}
@@ -34,10 +33,10 @@ use Rattle.ft_machine.specs.TagValues.{tag_values}
 use Rattle.ft_base.proofs.RepliesLaws.{fits-Bulk, shown-fits}
 use Rattle.ft_machine.proofs.Stepping.{gives, told, wants}
 use Rattle.ft_base.specs.Words.{first, second}
-use Rattle.ft_machine.specs.Indexes.{altered, altered_to, created, defines, dropped, index_over, listed, most_indexes, name_bulk, tag_field, tag_vals, tags_reply, unknown_index}
+use Rattle.ft_machine.specs.Indexes.{altered, altered_to, created, defines, dropped, index_over, listed, most_indexes, name_bulk, tag_field, tag_vals, tags_reply, undefines, unknown_index}
 use Rattle.ft_machine.specs.Machine.{State, answered}
-use Rattle.indexed_store.specs.Changing.{HasMore}
-use Rattle.indexed_store.specs.Holding.{Holding, state_at}
+use Rattle.indexed_store.specs.Changing.{HasMore, without_cursors_of}
+use Rattle.indexed_store.specs.Holding.{Holding, state_of}
 use Rattle.indexed_store.specs.Preparing.{IsMade, Prepares, Stays}
 use Rattle.indexed_store.specs.Standing.{AreApart}
 use Rattle.indexed_store.specs.declared.change.Change.TheVariants.{Alter, Nothing}
@@ -66,9 +65,22 @@ named-some indexes definitions name index same found = ap (λ (ds : List Defined
 pub named-none : (indexes : List Index) (definitions : List Defined) (name : List ℕ) → definitions ≡ definitions_of indexes → None ≡ find (is_named name) indexes → index_of definitions name ≡ None
 named-none indexes definitions name same found = ap (λ (ds : List Defined). index_of ds name) same ∙ (index_of-named indexes name ∙ ap (option_map defined) (sym found))
 
+-- nothing is seen of what was only looked at
+pub stays-same : (held : Holding) → Stays held held
+stays-same held = record { space = refl; definitions = refl; cursors = refl; latest = refl; next = omega arith }
+
+-- a command that changes nothing is prepared
+pub prepares-stays : (asks : Asked) (old new : Holding) (written : List ℕ) → Stays old new → new.indexes ≡ old.indexes → Does asks old.next (state_of old) written (state_of old) → Prepares asks old new written Nothing
+prepares-stays asks old new written stays same does = record {
+  does = does;
+  stays = stays;
+  ready = tt;
+  still = λ nothing. inr same;
+}
+
 -- where memory was wanting for an index, no change is prepared
 pub prepares-wanting : (asks : Asked) (old new : Holding) (written : List ℕ) → MayWant asks → Stays old new → new.indexes ≡ old.indexes → written ≡ spelling out_of_memory → Prepares asks old new written Nothing
-prepares-wanting asks old new written may stays same said = prepares-nothing asks old new written stays.space same stays.next (λ latest. wants asks old.next (state_at latest old) written may said)
+prepares-wanting asks old new written may stays same said = prepares-stays asks old new written stays same (wants asks old.next (state_of old) written may said)
 
 -- FT.CREATE of a name that is taken
 created-taken : (def : IndexDef) (state : State) → is_some (index_of state.definitions def.name) ≡ true → created def state ≡ answered (Fault (codes "Index already exists")) state
@@ -193,7 +205,7 @@ alter-prepares name fields old new index made read def count written found some 
     let failed : made.failures ≡ failures_over made.def old.space index.failures =
     done.failures ∙ (ap (λ (d : IndexDef). failures_over d old.space count) (sym done.same) ∙ ap (failures_over made.def old.space) counted) in
     record {
-      does = λ latest. alter-done name fields old.next (state_at latest old) written (defined index) made (named-some old.indexes (definitions_of old.indexes) name index refl found) all failed said;
+      does = alter-done name fields old.next (state_of old) written (defined index) made (named-some old.indexes (definitions_of old.indexes) name index refl found) all failed said;
       stays = stays;
       ready = (
         alter-more old.indexes new.indexes name fields index made same found some all,
@@ -213,33 +225,49 @@ drop-unknown args number state written none said =
     by_index None none = refl
     by_index (Some index) none = cc (none)
 
+-- the state without an index and its cursors
+abbrev pub dropped_state : List ℕ → State → State
+dropped_state name state = record state {
+  definitions = without_index state.definitions name;
+  cursors = without_cursors_of (index_of state.definitions name) state.cursors;
+}
+
+-- and without its members too
+abbrev pub dropped_members : List ℕ → State → State
+dropped_members name state = record state {
+  space = without_members (index_of state.definitions name) state.space;
+  definitions = without_index state.definitions name;
+  cursors = without_cursors_of (index_of state.definitions name) state.cursors;
+}
+
 pub drop-one : (args : List (List ℕ)) (number : ℕ) (state : State) (written name : List ℕ) → is_some (index_of state.definitions (first args)) ≡ true → length args ≡ 1 → name ≡ first args → written ≡ spelling (Line (codes "OK"))
-    → Does (Plain DropIndex args) number state written (record state { definitions = without_index state.definitions name })
+    → Does (Plain DropIndex args) number state written (dropped_state name state)
 drop-one [] number state written name there one is said = absurd (omega (arith, one))
 drop-one (word ∷ []) number state written name there one is said = by_index (index_of state.definitions word) refl there
   where
-    by_index : (index : Option Defined) → index_of state.definitions word ≡ index → is_some index ≡ true → Does (Plain DropIndex (word ∷ [])) number state written (record state { definitions = without_index state.definitions name })
+    by_index : (index : Option Defined) → index_of state.definitions word ≡ index → is_some index ≡ true → Does (Plain DropIndex (word ∷ [])) number state written (dropped_state name state)
     by_index None found there = cc (there)
     by_index (Some index) found there =
-        gives (Plain DropIndex (word ∷ [])) number state (defines (without_index state.definitions word) state) written (record state { definitions = without_index state.definitions name })
-        (sym (ap (λ (i : Option Defined). dropped i word [] state) found)) said (ap (λ (w : List ℕ). record state { definitions = without_index state.definitions w }) is)
+        gives (Plain DropIndex (word ∷ [])) number state (undefines index word state) written (dropped_state name state)
+        (sym (ap (λ (i : Option Defined). dropped i word [] state) found)) said
+        (ap (λ (w : List ℕ). dropped_state w state) is
+        ∙ ap (λ (i : Option Defined). record state { definitions = without_index state.definitions word; cursors = without_cursors_of i state.cursors }) found)
 drop-one (word ∷ more ∷ args) number state written name there one is said = absurd (omega (arith, one))
 
 pub drop-two : (args : List (List ℕ)) (number : ℕ) (state : State) (written name : List ℕ) → is_some (index_of state.definitions (first args)) ≡ true → 2 ≤ length args → name ≡ first args → written ≡ spelling (Line (codes "OK"))
-    → Does (Plain DropIndex args) number state written (record state { space = without_members (index_of state.definitions name) state.space; definitions = without_index state.definitions name })
+    → Does (Plain DropIndex args) number state written (dropped_members name state)
 drop-two [] number state written name there two is said = absurd (omega (arith, two))
 drop-two (word ∷ []) number state written name there two is said = absurd (omega (arith, two))
 drop-two (word ∷ how ∷ args) number state written name there two is said = by_index (index_of state.definitions word) refl there
   where
     by_index : (index : Option Defined) → index_of state.definitions word ≡ index → is_some index ≡ true
-        → Does (Plain DropIndex (word ∷ how ∷ args)) number state written (record state { space = without_members (index_of state.definitions name) state.space; definitions = without_index state.definitions name })
+        → Does (Plain DropIndex (word ∷ how ∷ args)) number state written (dropped_members name state)
     by_index None found there = cc (there)
     by_index (Some index) found there =
-        gives (Plain DropIndex (word ∷ how ∷ args)) number state (defines (without_index state.definitions word) (record state { space = without_members (Some index) state.space })) written
-        (record state { space = without_members (index_of state.definitions name) state.space; definitions = without_index state.definitions name })
+        gives (Plain DropIndex (word ∷ how ∷ args)) number state (undefines index word (record state { space = without_members (Some index) state.space })) written (dropped_members name state)
         (sym (ap (λ (i : Option Defined). dropped i word (how ∷ args) state) found)) said
-        (ap (λ (w : List ℕ). record state { space = without_members (index_of state.definitions w) state.space; definitions = without_index state.definitions w }) is
-        ∙ ap (λ (i : Option Defined). record state { space = without_members i state.space; definitions = without_index state.definitions word }) found)
+        (ap (λ (w : List ℕ). dropped_members w state) is
+        ∙ ap (λ (i : Option Defined). record state { space = without_members i state.space; definitions = without_index state.definitions word; cursors = without_cursors_of i state.cursors }) found)
 
 -- FT._LIST
 names-listed : (indexes : List Index) → map (λ (index : Index). Bulk index.def.name) indexes ≡ map name_bulk (definitions_of indexes)

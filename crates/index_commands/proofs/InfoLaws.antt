@@ -5,6 +5,8 @@ use Rattle.std.proofs.lemmas.List.{length-map}
 use Rattle.std.proofs.lemmas.Result.{IfOk-weaker}
 use Rattle.cmd_parse.specs.Read.{Plain}
 use Rattle.cmd_parse.specs.declared.command.Verb.TheVariants.{Info}
+use Rattle.cursor_book.specs.Cursors.{cursors_of}
+use Rattle.cursor_book.specs.declared.cursor.Cursor.{Cursor}
 use Rattle.ft_base.specs.Reply.{spelling}
 use Rattle.ft_base.specs.declared.definition.IndexDef.{IndexDef}
 use Rattle.ft_base.specs.declared.doc.Doc.{Doc}
@@ -45,30 +47,32 @@ informs-none indexes state number args written same none said =
 
 -- there is, and what was told of it was answered, or memory was wanting
 pub informs-index : {E : Type 0} (indexes : List Index) (index : Index) (state : State) (number : ℕ) (args : List (List ℕ)) (written : List ℕ) (made : Result Reply E) → state.definitions ≡ definitions_of indexes
-    → find (is_named (first args)) indexes ≡ Some index → IfOk made (λ reply. Tells (defined index) state.space reply) → Told made written → Does (Plain Info args) number state written state
+    → find (is_named (first args)) indexes ≡ Some index → IfOk made (λ reply. Tells (defined index) state.space state.cursors reply) → Told made written → Does (Plain Info args) number state written state
 informs-index indexes index state number args written made same there tells said =
     told (Plain Info args) number state written made tt
     (IfOk-weaker made _ _ (λ reply tells. subst (λ (i : Option Defined). informed i state (answered reply state)) (sym (named indexes state (first args) (Some index) same there)) (tells, refl)) tells) said
 
 -- what is told by the counts of an index
-pub told-of : {E : Type 0} (index : Index) (def : IndexDef) (lists : AllLists) (made : Result Reply E) (docs records failures : ℕ) → def ≡ index.def → lists ≡ index.lists → docs ≡ length index.table.live → failures ≡ index.failures
-    → ((def : IndexDef) (live : List (ℕ × List ℕ)) (all : List Doc) → Has def live lists all → live_records def all ≤ records)
-    → IfOk made (λ reply. reply ≡ info_reply def (record { docs = docs; records = records; failures = failures; cursors = 0 }))
-    → IfOk made (λ reply. (all : List Doc) → Indexes index all → Tells (defined index) all reply)
-told-of index def lists (Err e) docs records failures its of_lists counted failed least made = tt
-told-of index def lists (Ok reply) docs records failures its of_lists counted failed least made = λ all stands.
+pub told-of : {E : Type 0} (index : Index) (def : IndexDef) (lists : AllLists) (made : Result Reply E) (docs records failures cursors : ℕ) → def ≡ index.def → lists ≡ index.lists → docs ≡ length index.table.live
+    → failures ≡ index.failures → ((def : IndexDef) (live : List (ℕ × List ℕ)) (all : List Doc) → Has def live lists all → live_records def all ≤ records)
+    → IfOk made (λ reply. reply ≡ info_reply def (record { docs = docs; records = records; failures = failures; cursors = cursors }))
+    → IfOk made (λ reply. (all : List Doc) (opened : List Cursor) → Indexes index all → cursors ≡ length (cursors_of index.def.serial opened) → Tells (defined index) all opened reply)
+told-of index def lists (Err e) docs records failures cursors its of_lists counted failed least made = tt
+told-of index def lists (Ok reply) docs records failures cursors its of_lists counted failed least made = λ all opened stands are.
     let there = members index.def all in
     let count : docs ≡ length there = counted ∙ (ap (λ (rows : List (ℕ × List ℕ)). length rows) stands.live ∙ length-map there (λ (doc : Doc). (doc.id, doc.key))) in
     record {
       records = records;
       least = least index.def index.table.live there (subst (λ (ls : AllLists). Has index.def index.table.live ls there) (sym of_lists) stands);
-      same = made ∙ (ap (λ (d : IndexDef). info_reply d (record { docs = docs; records = records; failures = failures; cursors = 0 })) its
-          ∙ (ap (λ (n : ℕ). info_reply index.def (record { docs = n; records = records; failures = failures; cursors = 0 })) count
-          ∙ ap (λ (n : ℕ). info_reply index.def (record { docs = length there; records = records; failures = n; cursors = 0 })) failed));
+      same = made ∙ (ap (λ (d : IndexDef). info_reply d (record { docs = docs; records = records; failures = failures; cursors = cursors })) its
+          ∙ (ap (λ (n : ℕ). info_reply index.def (record { docs = n; records = records; failures = failures; cursors = cursors })) count
+          ∙ (ap (λ (n : ℕ). info_reply index.def (record { docs = length there; records = records; failures = n; cursors = cursors })) failed
+          ∙ ap (λ (n : ℕ). info_reply index.def (record { docs = length there; records = records; failures = index.failures; cursors = n })) are)));
     }
 
--- what is told of an index is told of the documents that it stands for
-pub told-at : {E : Type 0} (index : Index) (made : Result Reply E) (docs : List Doc) → Indexes index docs
-    → IfOk made (λ reply. (all : List Doc) → Indexes index all → Tells (defined index) all reply) → IfOk made (λ reply. Tells (defined index) docs reply)
-told-at index (Ok reply) docs stands tells = tells docs stands
-told-at index (Err e) docs stands tells = tt
+-- what is told of an index is told of the documents that it stands for, and of the cursors that were counted
+pub told-at : {E : Type 0} (index : Index) (made : Result Reply E) (docs : List Doc) (opened : List Cursor) (cursors : ℕ) → Indexes index docs → cursors ≡ length (cursors_of index.def.serial opened)
+    → IfOk made (λ reply. (all : List Doc) (opened : List Cursor) → Indexes index all → cursors ≡ length (cursors_of index.def.serial opened) → Tells (defined index) all opened reply)
+    → IfOk made (λ reply. Tells (defined index) docs opened reply)
+told-at index (Ok reply) docs opened cursors stands are tells = tells docs opened stands are
+told-at index (Err e) docs opened cursors stands are tells = tt

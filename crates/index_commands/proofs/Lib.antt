@@ -1,8 +1,10 @@
 pub mod AggregateLaws
 pub mod AnsweringLaws
+pub mod CursorLaws
 pub mod ExactLaws
 pub mod FilterLaws
 pub mod IndexCommandLaws
 pub mod InfoLaws
+pub mod OpeningLaws
 pub mod SearchLaws
 pub mod TagLaws

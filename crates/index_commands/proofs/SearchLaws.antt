@@ -7,6 +7,7 @@ use Rattle.cmd_parse.specs.Read.{Search}
 use Rattle.cmd_parse.specs.Searching.{Searching}
 use Rattle.ft_base.specs.declared.definition.IndexDef.{IndexDef}
 use Rattle.ft_base.specs.declared.doc.Doc.{Doc}
+use Rattle.ft_base.specs.declared.query.Query.{Query}
 use Rattle.ft_base.specs.declared.reply.Reply.{Reply}
 use Rattle.ft_index.specs.Has.{Has}
 use Rattle.ft_index.specs.Index.{Index, Indexes, IsIndex}
@@ -15,7 +16,7 @@ use Rattle.ft_meaning.specs.Meaning.{ValuesFit}
 use Rattle.ft_meaning.specs.Member.{member, members}
 use Rattle.query_plan.specs.Finds.{AreOf, IsKept}
 use Rattle.ft_machine.specs.Counted.{in_order}
-use Rattle.ft_machine.specs.Machine.{State}
+use Rattle.ft_machine.specs.Machine.{State, answered}
 use Rattle.ft_machine.specs.Searching.{search_reply}
 use Rattle.ft_machine.specs.Shown.{found_reply}
 use Rattle.search_exec.specs.Ids.{docs_of}
@@ -23,10 +24,15 @@ use Rattle.index_commands.proofs.AnsweringLaws.{IsQuery, Queried}
 
 -- a search, as a command that has a query
 abbrev pub search_query : Searching → Queried
-search_query what = record { asks = Search what; name = what.index; params = what.params; query = what.query; reply = search_reply what }
+search_query what = record { asks = Search what; name = what.index; params = what.params; query = what.query; outcome = λ number state def query. answered (search_reply what state.space def query) state }
 
 pub is-search : (what : Searching) (number : ℕ) (state : State) → IsQuery (search_query what) number state
 is-search what number state = record { gives = λ outcome x. x; may = tt }
+
+-- what is shown of the documents is what it gives
+pub gives-shown : (what : Searching) (number : ℕ) (state : State) (docs : List Doc) (def : IndexDef) (query : Query) → state.space ≡ docs
+    → (search_query what).outcome number state def query ≡ answered (search_reply what docs def query) state
+gives-shown what number state docs def query all = ap (λ (ds : List Doc). answered (search_reply what ds def query) state) all
 
 -- what is shown of the documents of a set is shown of those that were found, by the index's definition
 pub shown-by : {E : Type 0} (what : Searching) (def same : IndexDef) (docs found : List Doc) (made : Result Reply E) → def ≡ same → docs ≡ found

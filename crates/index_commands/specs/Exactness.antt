@@ -3,7 +3,8 @@
 use Rattle.std.specs.Prelude.{◌≡◌, ◌≤◌, ◌⊎◌, ℕ, List, length, Option, Some, None, find}
 use Rattle.cmd_parse.specs.Aggregating.{Aggregating}
 use Rattle.cmd_parse.specs.Searching.{Searching}
-use Rattle.cmd_parse.specs.Read.{Asked, Plain, Search, Aggregate}
+use Rattle.cmd_parse.specs.Asked.{Asked, Plain, Search, Aggregate}
+use Rattle.cmd_parse.specs.declared.aggregate_words.CursorSpec.{CursorSpec}
 use Rattle.cmd_parse.specs.declared.command.Verb.TheVariants.{Info}
 use Rattle.ft_base.specs.Memory.{out_of_memory}
 use Rattle.ft_base.specs.Reply.{spelling}
@@ -55,10 +56,15 @@ ReadsFound what written old new =
     ReadsMade what written old new
     ⊎ ((IsRefusal written × (new ≡ old)) ⊎ ((written ≡ spelling out_of_memory) × (old ≤ new)))
 
--- whatever is asked, a search or an aggregate reads no more than that
+-- the same where all rows are answered; a cursor's reads are not counted here
+abbrev pub ReadsAll : Option CursorSpec → Aggregating → List ℕ → ℕ → ℕ → Type 0
+ReadsAll None what written old new = ReadsFound what written old new
+ReadsAll (Some cursor) what written old new = Unit {0}
+
+-- whatever is asked, a search, or an aggregate without a cursor, reads no more than that
 abbrev pub ReadsFew : Asked → List ℕ → ℕ → ℕ → Type 0
 ReadsFew (Search what) written old new = ReadsRows what written old new
-ReadsFew (Aggregate what) written old new = ReadsFound what written old new
+ReadsFew (Aggregate what) written old new = ReadsAll what.cursor what written old new
 ReadsFew _ written old new = Unit {0}
 
 -- What is told of an index has as many records as its lists have entries.

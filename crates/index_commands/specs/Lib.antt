@@ -1,2 +1,3 @@
 pub mod Exactness
 pub mod Gathered
+pub mod Parts

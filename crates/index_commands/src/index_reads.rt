@@ -13,7 +13,7 @@ ghost use Rattle.ft_machine.specs.Machine.{State};
 ghost use Rattle.ft_machine.specs.Step.{Does};
 ghost use Rattle.ft_machine.specs.TagValues.{tag_values};
 ghost use Rattle.indexed_store.specs.DefinitionsOf.{definitions_of};
-ghost use Rattle.indexed_store.specs.Holding.{state_at};
+ghost use Rattle.indexed_store.specs.Holding.{state_of};
 ghost use Rattle.indexed_store.specs.Preparing.{OnlyReads};
 
 use crate::tag_walk::tag_values;
@@ -26,8 +26,8 @@ use std::alloc::Global;
 
 /// Does FT._LIST, and writes the reply: the names of the indexes, in order of creation.
 pub fn answer_names(held: &mut IndexedStore, _args: &Words<'_>, reply: &mut ReplyBuffer)
-    ensures does { (latest : ℕ) → Does (Plain ListIndexes _args.now) held.old.next (state_at latest held.old)
-        reply.new.bytes (state_at latest held.old) }
+    ensures does { Does (Plain ListIndexes _args.now) held.old.next (state_of held.old)
+        reply.new.bytes (state_of held.old) }
     ensures stays { OnlyReads held.old held.new }
     ensures reads { held.new.reads ≡ held.old.reads }
     ensures room { reply.old.room ≤ reply.new.room }
@@ -58,8 +58,8 @@ fn bulks_of_names(indexes: &[FtIndex], alloc: Global) -> Result<ListOf<Reply>, N
 /// Does FT.TAGVALS, and writes the reply.
 pub fn answer_tag_vals(held: &mut IndexedStore, args: &Words<'_>, reply: &mut ReplyBuffer)
     requires words { length args.now ≡ 2 }
-    ensures does { (latest : ℕ) → Does (Plain TagVals args.now) held.old.next (state_at latest held.old)
-        reply.new.bytes (state_at latest held.old) }
+    ensures does { Does (Plain TagVals args.now) held.old.next (state_of held.old)
+        reply.new.bytes (state_of held.old) }
     ensures stays { OnlyReads held.old held.new }
     ensures room { reply.old.room ≤ reply.new.room }
 {

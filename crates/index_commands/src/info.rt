@@ -1,8 +1,10 @@
 //! FT.INFO: what there is to tell of an index.
-ghost use Rattle.std.specs.Prelude.{◌≡◌, ◌<◌, ◌≤◌, ◌^◌, ℕ, List, length, IfOk, IsTrue};
+ghost use Rattle.std.specs.Prelude.{◌≡◌, ◌<◌, ◌≤◌, ◌^◌, List, None, length, IfOk, IsTrue};
 ghost use Rattle.std.specs.List.{find};
 ghost use Rattle.cmd_parse.specs.Read.{Plain};
 ghost use Rattle.cmd_parse.specs.declared.command.Verb.TheVariants.{Info};
+ghost use Rattle.cursor_book.specs.Cursors.{cursors_of};
+ghost use Rattle.cursor_book.specs.declared.cursor.Cursor.{Cursor};
 ghost use Rattle.ft_base.specs.Reply.{fits_wire};
 ghost use Rattle.ft_base.specs.declared.doc.Doc.{Doc};
 ghost use Rattle.ft_index.specs.Index.{Indexes};
@@ -11,7 +13,7 @@ ghost use Rattle.ft_machine.specs.Info.{Tells};
 ghost use Rattle.ft_machine.specs.Step.{Does, last_number};
 ghost use Rattle.index_commands.specs.Exactness.{TellsEntries, TellsOf};
 ghost use Rattle.indexed_store.specs.DefinitionsOf.{defined};
-ghost use Rattle.indexed_store.specs.Holding.{state_at};
+ghost use Rattle.indexed_store.specs.Holding.{state_of};
 ghost use Rattle.indexed_store.specs.Named.{is_named};
 ghost use Rattle.indexed_store.specs.Preparing.{OnlyReads};
 
@@ -27,8 +29,9 @@ use std::alloc::{AllocError, Global};
 pub fn answer_info(held: &mut IndexedStore, args: &Words<'_>, reply: &mut ReplyBuffer)
     requires number { held.old.next < last_number }
     requires words { length args.now ≡ 1 }
-    ensures does { (latest : ℕ) → Does (Plain Info args.now) held.old.next (state_at latest held.old)
-        reply.new.bytes (state_at latest held.old) }
+    requires none { held.old.opens ≡ None }
+    ensures does { Does (Plain Info args.now) held.old.next (state_of held.old)
+        reply.new.bytes (state_of held.old) }
     // As many records are told as the lists have entries.
     ensures records { TellsOf (find (is_named (first args.now)) held.old.indexes) reply.new.bytes }
     ensures stays { OnlyReads held.old held.new }
@@ -41,26 +44,30 @@ pub fn answer_info(held: &mut IndexedStore, args: &Words<'_>, reply: &mut ReplyB
     let Some(index) = held.index_named(args.word(0)) else {
         return reply.set_fault(b"Unknown index name");
     };
-    reply.set_made(told(index, alloc));
+    let cursors = held.cursor_count(index.def().serial);
+    reply.set_made(told(index, alloc, cursors));
 }
 
-/// What there is to tell of an index. Where its lists have more entries than a reply can say, that
+/// What there is to tell of an index. Where its lists have more entries than a reply can say, or it has more cursors, that
 /// counts as want of memory.
-fn told(index: &FtIndex, alloc: Global) -> Result<Reply, NoMemory>
+fn told(index: &FtIndex, alloc: Global, cursors: usize) -> Result<Reply, NoMemory>
     requires few { index.now.table.last < 2 ^ 62 }
-    ensures tells { IfOk result (λ reply. (docs : List Doc) → Indexes index.now docs
-        → Tells (defined index.now) docs reply) }
+    ensures tells { IfOk result (λ reply. (docs : List Doc) (opened : List Cursor) → Indexes index.now docs
+        → cursors ≡ length (cursors_of index.now.def.serial opened) → Tells (defined index.now) docs opened reply) }
     ensures exact { IfOk result (λ reply. TellsEntries index.now reply) }
     ensures fits { IfOk result (λ reply. IsTrue (fits_wire reply)) }
 {
     let Some(records) = index.lists().records() else {
         return Err(AllocError);
     };
+    if cursors > i64::MAX as usize {
+        return Err(AllocError);
+    }
     let counts = Counts {
         docs: index.docs(),
         records,
         failures: index.failures(),
-        cursors: 0,
+        cursors: cursors as u64,
     };
     info_reply(alloc, index.def(), counts)
 }

@@ -1,6 +1,6 @@
 //! FT.SEARCH: the query is parsed by the fields of its index, joined by the FILTERs, and answered by its plan. The store
 //! is read for the documents that are sorted, or shown with their fields, and for no other.
-ghost use Rattle.std.specs.Prelude.{◌≡◌, ◌<◌, ◌≤◌, ◌^◌, ◌⊎◌, ℕ, None, length, IfOk, IsTrue, OnOk};
+ghost use Rattle.std.specs.Prelude.{◌≡◌, ◌<◌, ◌≤◌, ◌+◌, ◌^◌, ◌⊎◌, ℕ, None, length, IfOk, IsTrue, OnOk};
 ghost use Rattle.std.specs.List.{All};
 ghost use Rattle.cmd_parse.specs.Read.{Search};
 ghost use Rattle.cmd_parse.specs.Seen.{search_of};
@@ -23,7 +23,7 @@ ghost use Rattle.id_iters.specs.Ready.{Ready};
 ghost use Rattle.id_iters.specs.Sets.{in_set};
 ghost use Rattle.index_commands.specs.Exactness.{ReadsRows};
 ghost use Rattle.indexed_store.specs.DefinitionsOf.{definitions_of};
-ghost use Rattle.indexed_store.specs.Holding.{state_at};
+ghost use Rattle.indexed_store.specs.Holding.{state_of};
 ghost use Rattle.indexed_store.specs.Preparing.{OnlyReads};
 ghost use Rattle.indexed_store.specs.Standing.{InStep};
 ghost use Rattle.search_exec.specs.Ids.{AreKnown, docs_in, docs_of, reads_for};
@@ -47,8 +47,8 @@ use std::sync::ledger::{Blank, Ledger};
 pub fn answer_search(held: &mut IndexedStore, search: &SearchSpec<'_>, reply: &mut ReplyBuffer)
     requires number { held.old.next < last_number }
     requires query { length search.now.query.now ≤ MAX_WORD_BYTES }
-    ensures does { (latest : ℕ) → Does (Search (search_of search.now)) held.old.next (state_at latest held.old)
-        reply.new.bytes (state_at latest held.old) }
+    ensures does { Does (Search (search_of search.now)) held.old.next (state_of held.old)
+        reply.new.bytes (state_of held.old) }
     ensures stays { OnlyReads held.old held.new }
     // No more is read than is shown or sorted.
     ensures reads { ReadsRows (search_of search.now) reply.new.bytes held.old.reads held.new.reads }
@@ -185,18 +185,19 @@ fn found_in<L: Ledger>(
     ensures rises { store.old.reads ≤ store.new.reads }
 {
     let mut steps = Steps::<L>::new(blank);
-    let iter = ids_found(store, index, alloc, query, &mut steps)?;
+    let iter = ids_found(store, index, alloc, query, 0, &mut steps)?;
     let found = search_reply(alloc, index.def(), index, store, iter, search, &mut steps);
     drop(steps);
     found
 }
 
-/// The ids of what a query finds in an index.
+/// The ids of what a query finds in an index, to be asked for behind `after`.
 pub fn ids_found<L: Ledger>(
     store: &HashStore,
     index: &FtIndex,
     alloc: Global,
     query: &Query,
+    after: u64,
     steps: &mut Steps<L>,
 ) -> Result<Iter, NoMemory>
     requires stands { Indexes index.now store.now.space }
@@ -204,7 +205,7 @@ pub fn ids_found<L: Ledger>(
     requires few { index.now.table.last < 2 ^ 62 }
     requires values { All (λ (doc : Doc). ValuesFit doc.hash) store.now.space }
     ensures lists { OnOk result (AreLists (held_of index.now.lists index.now.table.live)) }
-    ensures ready { IfOk result (λ iter. Ready (held_of index.now.lists index.now.table.live) iter 1) }
+    ensures ready { IfOk result (λ iter. Ready (held_of index.now.lists index.now.table.live) iter (after + 1)) }
     ensures known { IfOk result (λ iter. AreKnown (in_set (held_of index.now.lists index.now.table.live) iter)
         (named_of index.now.lists index.now.table.live).keys store.now.space) }
     ensures found { IfOk result (λ iter.
@@ -214,5 +215,5 @@ pub fn ids_found<L: Ledger>(
     // Tells that the ids of the documents rise.
     let _count = store.len();
     let hints = Hints(ListOf::new(alloc));
-    Ok(plan(alloc, index.def(), index, query, &hints, 0, steps)?)
+    Ok(plan(alloc, index.def(), index, query, &hints, after, steps)?)
 }

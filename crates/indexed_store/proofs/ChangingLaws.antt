@@ -3,24 +3,26 @@ use Rattle.std.specs.Prelude.{◌≡◌, ◌≢◌, ◌<◌, ◌+◌, ℕ, Bool,
 use Rattle.std.proofs.Common.{sym, ap, ◌∙◌, subst, inl, inr, arith, All}
 use Rattle.std.specs.Str.{bytes_eq}
 use Rattle.std.proofs.lemmas.Bool.{cases_Bool}
-use Rattle.std.proofs.lemmas.List.{length-append, length-map, map-append, take_at}
+use Rattle.std.proofs.lemmas.List.{append-nil, length-append, length-map, map-append, take_at}
 use Rattle.std.proofs.lemmas.Slice.Eq.{bytes_eq-Decides}
+use Rattle.cursor_book.specs.declared.cursor.Cursor.{Cursor}
 use Rattle.ft_base.specs.Hash.{Hash}
 use Rattle.ft_base.specs.Space.{erase, write}
 use Rattle.ft_base.specs.declared.doc.Doc.{Doc}
 use Rattle.ft_machine.specs.Machine.{State}
-use Rattle.indexed_store.specs.Changing.{HasMore, IsReady, changed, is_change}
+use Rattle.indexed_store.specs.Changing.{HasMore, IsReady, changed, is_change, is_write, without_cursors_of}
 use Rattle.indexed_store.specs.Standing.{AreApart, AreWritten, IndexStands, InStep, markers_at}
 use Rattle.ft_machine.specs.Definitions.{Defined, index_of, with_index, without_index}
 use Rattle.indexed_store.specs.DefinitionsOf.{defined, definitions_of}
 use Rattle.ft_machine.specs.Step.{last_number, next_number}
 use Rattle.indexed_store.specs.declared.change.Change.{Change}
-use Rattle.indexed_store.specs.declared.change.Change.TheVariants.{Alter, Create, Drop, DropMembers, EraseKey, EraseKeys, Flush, Move, Nothing, Write}
+use Rattle.indexed_store.specs.declared.change.Change.TheVariants.{Alter, CloseCursor, CloseCursors, Create, Drop, DropMembers, EraseKey, EraseKeys, Flush, Move, Nothing, OpenCursor, ReadCursor, Write}
 use Rattle.ft_index.proofs.IndexLaws.{last-push}
 use Rattle.ft_index.proofs.AliveLaws.{row_of}
 use Rattle.ft_index.specs.Index.{Index}
 use Rattle.hash_store.specs.Store.{Store}
 use Rattle.inverted_list.specs.Listing.{last_id}
+use Rattle.indexed_store.proofs.CursorsLaws.{AreBelow, below-filter, below-read}
 use Rattle.indexed_store.proofs.StepLaws.{erase-there, in_step-more}
 
 -- below the last number the next one is one more
@@ -118,27 +120,69 @@ moved-new docs from key hash id above other same =
     ∙ (ap (last_id 0) (map-append row_of (erase (erase docs key) from) (doc ∷ [])) ∙ last-push 0 (id, key) (map row_of (erase (erase docs key) from))) in
     absurd (omega (arith, above, end, ap (λ (docs : List Doc). last_id 0 (map row_of docs)) same))
 
--- a change that is ready changes something
-pub changes-something : (change : Change) (number : ℕ) (waits : Option Doc) (indexes : List Index) (state : State) → AreWritten state.space number → state.definitions ≡ definitions_of indexes
-    → IsReady change number state.space waits indexes → IsTrue (is_change change) → changed change waits state ≢ state
-changes-something Nothing number waits indexes state documents definitions ready some same = cc (some)
-changes-something (Write put) number None indexes state documents definitions ready some same = absurd ready
-changes-something (Write put) number (Some doc) indexes state documents definitions ready some same =
+-- whatever is not nothing is a change
+pub some-change : (change : Change) → (change ≡ Nothing → ⊥) → IsTrue (is_change change)
+some-change Nothing other = absurd (other refl)
+some-change (Write put) other = refl
+some-change (Move put from) other = refl
+some-change (EraseKey key) other = refl
+some-change (EraseKeys keys) other = refl
+some-change (Create index) other = refl
+some-change (Alter index) other = refl
+some-change (Drop name) other = refl
+some-change (DropMembers name) other = refl
+some-change OpenCursor other = refl
+some-change (ReadCursor place taken) other = refl
+some-change (CloseCursor place) other = refl
+some-change CloseCursors other = refl
+some-change Flush other = refl
+
+-- but for the one that waits, a change brings no cursor
+below-dropped : (next : ℕ) (index : Option Defined) (cursors : List Cursor) → AreBelow next cursors → AreBelow next (without_cursors_of index cursors)
+below-dropped next None cursors below = below
+below-dropped next (Some index) cursors below = below-filter next _ cursors below
+
+pub changed-below : (change : Change) (waits : Option Doc) (state : State) (next : ℕ) → AreBelow next state.cursors → AreBelow next (changed change waits None state).cursors
+changed-below Nothing waits state next below = below
+changed-below (Write put) waits state next below = below
+changed-below (Move put from) waits state next below = below
+changed-below (EraseKey key) waits state next below = below
+changed-below (EraseKeys keys) waits state next below = below
+changed-below (Create index) waits state next below = below
+changed-below (Alter index) waits state next below = below
+changed-below (Drop name) waits state next below = below-dropped next (index_of state.definitions name.now) state.cursors below
+changed-below (DropMembers name) waits state next below = below-dropped next (index_of state.definitions name.now) state.cursors below
+changed-below OpenCursor waits state next below = subst (AreBelow next) (sym (append-nil state.cursors)) below
+changed-below (ReadCursor place taken) waits state next below = below-read next place.serial place.id state.latest taken state.cursors below
+changed-below (CloseCursor place) waits state next below = below-filter next _ state.cursors below
+changed-below CloseCursors waits state next below = tt
+changed-below Flush waits state next below = tt
+
+-- a write that is ready changes documents or definitions
+pub changes-something : (change : Change) (number : ℕ) (waits : Option Doc) (opens : Option Cursor) (indexes : List Index) (state : State) → AreWritten state.space number → state.definitions ≡ definitions_of indexes
+    → IsReady change number state.space waits indexes → IsTrue (is_write change) → changed change waits opens state ≢ state
+changes-something Nothing number waits opens indexes state documents definitions ready some same = cc (some)
+changes-something (Write put) number None opens indexes state documents definitions ready some same = absurd ready
+changes-something (Write put) number (Some doc) opens indexes state documents definitions ready some same =
     written-new state.space doc.key doc.hash doc.id (omega (arith, documents.earlier, ready.id)) (ap (λ (s : State). s.space) same)
-changes-something (Move put from) number None indexes state documents definitions ready some same = absurd ready.0
-changes-something (Move put from) number (Some doc) indexes state documents definitions ready some same =
+changes-something (Move put from) number None opens indexes state documents definitions ready some same = absurd ready.0
+changes-something (Move put from) number (Some doc) opens indexes state documents definitions ready some same =
     moved-new state.space from.now doc.key doc.hash doc.id (omega (arith, documents.earlier, ready.0.id)) ready.1 (ap (λ (s : State). s.space) same)
-changes-something (EraseKey key) number waits indexes state documents definitions ready some same =
+changes-something (EraseKey key) number waits opens indexes state documents definitions ready some same =
     absurd (omega (arith, erase-there state.space key.now ready, ap (λ (s : State). length s.space) same))
-changes-something (EraseKeys keys) number waits indexes state documents definitions ready some same = absurd (omega (arith, ready, ap (λ (s : State). length s.space) same))
-changes-something (Create index) number waits indexes state documents definitions ready some same =
+changes-something (EraseKeys keys) number waits opens indexes state documents definitions ready some same = absurd (omega (arith, ready, ap (λ (s : State). length s.space) same))
+changes-something (Create index) number waits opens indexes state documents definitions ready some same =
     absurd (omega (arith, length-append state.definitions (defined index ∷ []), ap (λ (s : State). length s.definitions) same))
-changes-something (Alter index) number waits indexes state documents definitions ready some same =
+changes-something (Alter index) number waits opens indexes state documents definitions ready some same =
     let more : HasMore (index_of state.definitions index.def.name) index = subst (λ (ds : List Defined). HasMore (index_of ds index.def.name) index) (sym definitions) ready.0 in
     with-more state.definitions index more (ap (λ (s : State). s.definitions) same)
-changes-something (Drop name) number waits indexes state documents definitions ready some same = without-new indexes state.definitions name.now definitions ready (ap (λ (s : State). s.definitions) same)
-changes-something (DropMembers name) number waits indexes state documents definitions ready some same = without-new indexes state.definitions name.now definitions ready (ap (λ (s : State). s.definitions) same)
-changes-something Flush number waits indexes state documents definitions ready some same = elim ready [
+changes-something (Drop name) number waits opens indexes state documents definitions ready some same = without-new indexes state.definitions name.now definitions ready (ap (λ (s : State). s.definitions) same)
+changes-something (DropMembers name) number waits opens indexes state documents definitions ready some same = without-new indexes state.definitions name.now definitions ready (ap (λ (s : State). s.definitions) same)
+changes-something OpenCursor number waits opens indexes state documents definitions ready some same = cc (some)
+changes-something (ReadCursor place taken) number waits opens indexes state documents definitions ready some same = cc (some)
+changes-something (CloseCursor place) number waits opens indexes state documents definitions ready some same = cc (some)
+changes-something CloseCursors number waits opens indexes state documents definitions ready some same = cc (some)
+changes-something Flush number waits opens indexes state documents definitions ready some same = elim ready [
   | inl docs ↦ absurd (omega (arith, docs, ap (λ (s : State). length s.space) same))
   | inr some ↦ absurd (omega (arith, some, length-map indexes defined, ap (λ (defs : List Defined). length defs) definitions, ap (λ (s : State). length s.definitions) same))
 ]

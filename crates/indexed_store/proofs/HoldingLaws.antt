@@ -1,11 +1,13 @@
 -- That indexes which stand for documents before a number stand for them before any later one.
-use Rattle.std.specs.Prelude.{◌≡◌, ◌<◌, ◌≤◌, ◌⊎◌, ℕ, List}
+use Rattle.std.specs.Prelude.{◌≡◌, ◌<◌, ◌≤◌, ◌⊎◌, ℕ, List, Option}
 use Rattle.std.proofs.Common.{arith, inl, inr}
 use Rattle.std.proofs.lemmas.Bool.Decides.{eqb_tells}
+use Rattle.cursor_book.specs.declared.cursor.Cursor.{Cursor}
 use Rattle.ft_base.specs.declared.doc.Doc.{Doc}
 use Rattle.ft_index.specs.Index.{Index}
 use Rattle.hash_store.specs.Store.{Store}
 use Rattle.indexed_store.specs.Holding.{AllStand, holding_of}
+use Rattle.indexed_store.specs.declared.waiting.CursorPlace.{CursorPlace}
 use Rattle.indexed_store.specs.Standing.{AreWritten, IndexStands, InStep, markers_at}
 use Rattle.indexed_store.proofs.IndexingLaws.{stands-later}
 
@@ -42,8 +44,9 @@ in_step-until store indexes n m more step = record {
 }
 
 -- the same, as it is seen from outside
-pub all-stand : (store : Store) (indexes : List Index) (next number : ℕ) → next ≤ number → InStep store indexes next → AllStand number (holding_of store indexes next)
-all-stand store indexes next number more step = let later = in_step-until store indexes next number more step in record {
+pub all-stand : (store : Store) (indexes : List Index) (book : List Cursor) (opens : Option CursorPlace) (latest next number : ℕ) → next ≤ number → InStep store indexes next
+    → AllStand number (holding_of store indexes book opens latest next)
+all-stand store indexes book opens latest next number more step = let later = in_step-until store indexes next number more step in record {
   documents = later.documents;
   indexes = later.stand;
   apart = later.apart;

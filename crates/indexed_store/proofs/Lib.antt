@@ -1,6 +1,7 @@
 pub mod ApartLaws
 pub mod ChangingLaws
 pub mod CountingLaws
+pub mod CursorsLaws
 pub mod DroppingLaws
 pub mod FillingLaws
 pub mod HoldingLaws

@@ -1,7 +1,7 @@
 -- What a command leaves: one that reads, one that is prepared, and the change that is made of it.
 use Rattle.std.specs.Prelude.{◌≡◌, ◌≤◌, ◌<◌, ◌+◌, ◌⊎◌, ℕ, List, Some, false, IsTrue}
 use Rattle.std.specs.List.{All}
-use Rattle.cmd_parse.specs.Read.{Asked}
+use Rattle.cmd_parse.specs.Asked.{Asked}
 use Rattle.ft_base.specs.Hash.{Hash}
 use Rattle.ft_base.specs.Memory.{out_of_memory}
 use Rattle.ft_base.specs.Reply.{spelling}
@@ -9,9 +9,9 @@ use Rattle.ft_base.specs.declared.definition.IndexDef.{IndexDef}
 use Rattle.ft_index.specs.Index.{Index}
 use Rattle.ft_machine.specs.Definitions.{failures_over}
 use Rattle.ft_machine.specs.Step.{Does, last_number}
-use Rattle.indexed_store.specs.Changing.{IsReady, changed, is_change}
+use Rattle.indexed_store.specs.Changing.{IsReady, changed, is_change, is_write}
 use Rattle.indexed_store.specs.DefinitionsOf.{definitions_of}
-use Rattle.indexed_store.specs.Holding.{Holding, state_at}
+use Rattle.indexed_store.specs.Holding.{Holding, state_of}
 use Rattle.indexed_store.specs.Standing.{AreApart, AreWritten, IndexStands, markers_at}
 use Rattle.indexed_store.specs.Writing.{Waits}
 use Rattle.indexed_store.specs.declared.change.Change.{Change}
@@ -20,13 +20,18 @@ use Rattle.indexed_store.specs.declared.change.Change.{Change}
 pub record OnlyReads (old new : Holding) : Type 0 where
   pub space : new.space ≡ old.space
   pub indexes : new.indexes ≡ old.indexes
+  pub cursors : new.cursors ≡ old.cursors
+  pub latest : new.latest ≡ old.latest
   pub waits : new.waits ≡ old.waits
+  pub opens : new.opens ≡ old.opens
   pub next : new.next ≡ old.next
 
 -- Nothing is seen of what may wait. The event's number is given at most.
 pub record Stays (old new : Holding) : Type 0 where
   pub space : new.space ≡ old.space
   pub definitions : definitions_of new.indexes ≡ definitions_of old.indexes
+  pub cursors : new.cursors ≡ old.cursors
+  pub latest : new.latest ≡ old.latest
   pub next : new.next ≤ old.next + 1
 
 -- A key's hash waits to be written in this event, in the store and in each index.
@@ -34,18 +39,18 @@ pub record WaitsFor (key : List ℕ) (hash : Hash) (put : ℕ) (old new : Holdin
   pub ready : new.waits ≡ Some (record { id = old.next; key = key; hash = hash })
   pub waits : Waits put old.next new.space new.indexes new.waits
 
--- A change is ready in this event. Where nothing changes, nothing is entered into an index either.
+-- A change is ready in this event. Where no document and no definition changes, nothing is entered into an index either.
 pub record IsPrepared (change : Change) (old new : Holding) : Type 0 where
   pub ready : IsReady change old.next new.space new.waits new.indexes
-  pub still : is_change change ≡ false → new.indexes ≡ old.indexes
+  pub still : is_write change ≡ false → new.indexes ≡ old.indexes
 
 -- A command is prepared in this event: its reply is written, its change is ready, and nothing is seen of it yet.
 pub record Prepares (asks : Asked) (old new : Holding) (written : List ℕ) (change : Change) : Type 0 where
-  pub does : (latest : ℕ) → Does asks old.next (state_at latest old) written (changed change new.waits (state_at latest old))
+  pub does : Does asks old.next (state_of old) written (changed change new.waits new.opens (state_of old))
   pub stays : Stays old new
   pub ready : IsReady change old.next new.space new.waits new.indexes
-  -- Where nothing changes, nothing is entered into an index either.
-  pub still : is_change change ≡ false → (written ≡ spelling out_of_memory) ⊎ (new.indexes ≡ old.indexes)
+  -- Where no document and no definition changes, nothing is entered into an index either.
+  pub still : is_write change ≡ false → (written ≡ spelling out_of_memory) ⊎ (new.indexes ≡ old.indexes)
 
 -- A change of the event of this number can be made.
 pub record CanMake (change : Change) (number : ℕ) (held : Holding) : Type 0 where

@@ -1,4 +1,6 @@
 //! What a prepared command changes once it is committed.
+use crate::waiting::CursorPlace;
+use cursor_book::Taken;
 use ft_base::Words;
 use ft_index::FtIndex;
 use hash_store::ReadyPut;
@@ -22,10 +24,18 @@ pub enum Change<'a> {
     Create(FtIndex),
     /// The index takes the place of the one of its name.
     Alter(FtIndex),
-    /// The index of this name is gone.
+    /// The index of this name is gone, and its cursors.
     Drop(&'a [u8]),
     /// The same, and the documents that are its members.
     DropMembers(&'a [u8]),
-    /// All documents and indexes are gone.
+    /// The cursor that waits is open.
+    OpenCursor,
+    /// So much of the cursor there is read.
+    ReadCursor(CursorPlace, Taken),
+    /// The cursor there is gone.
+    CloseCursor(CursorPlace),
+    /// All cursors are gone.
+    CloseCursors,
+    /// All documents, indexes and cursors are gone.
     Flush,
 }

@@ -1,18 +1,19 @@
-//! The documents and the indexes over them as one value, in which each index always stands for the documents.
-ghost use Rattle.std.specs.Prelude.{◌≡◌, ◌≤◌, ◌<◌, ◌+◌, ℕ, length, map, IfOk, IsErr};
+//! The documents, the indexes over them and the cursors as one value, in which each index always stands for the documents.
+ghost use Rattle.std.specs.Prelude.{◌≡◌, ◌≤◌, ◌<◌, ◌+◌, ℕ, None, Some, false, length, map, IfOk, IsErr, OnOk};
 ghost use Rattle.std.specs.List.{IsDistinct, find};
 ghost use Rattle.std.specs.Option.{option_copied};
 ghost use Rattle.std.specs.Str.{bytes_eq};
+ghost use Rattle.cursor_book.specs.Cursors.{cursor_of, cursors_of};
 ghost use Rattle.ft_base.specs.declared.doc.Doc.{Doc};
 ghost use Rattle.ft_machine.specs.Definitions.{without_keys};
 ghost use Rattle.ft_machine.specs.Step.{last_number};
 ghost use Rattle.ft_meaning.specs.Meaning.{ValuesFit};
 ghost use Rattle.ft_meaning.specs.Member.{most_failures};
-ghost use Rattle.indexed_store.specs.Changing.{changed};
-ghost use Rattle.indexed_store.specs.Holding.{AllStand, nothing_held, state_at};
+ghost use Rattle.indexed_store.specs.Changing.{changed, is_write};
+ghost use Rattle.indexed_store.specs.Holding.{AllStand, begun, nothing_held, state_of};
 ghost use Rattle.indexed_store.specs.Named.{is_named};
-ghost use Rattle.indexed_store.specs.Preparing.{CanMake, IsMade, Stays, WaitsFor};
 ghost use Rattle.indexed_store.specs.declared.change.Change.TheVariants.{Nothing};
+ghost use Rattle.indexed_store.specs.Preparing.{CanMake, IsMade, Stays, WaitsFor};
 ghost use Rattle.indexed_store.specs.declared.counting.TheConstants.{MOST_COUNTED};
 
 use crate::change::{Change, MOST_INDEXES};
@@ -20,50 +21,67 @@ use crate::counting::{MOST_COUNTED, count_found};
 use crate::creation::index_over;
 use crate::index_list::index_named;
 use crate::making::make;
+use crate::waiting::{CursorPlace, let_go};
 use crate::writes::prepare_hash;
+use cursor_book::{Cursor, CursorBook};
 use ft_base::{HashRec, IndexDef, NoMemory, Words};
 use ft_index::FtIndex;
 use hash_store::{HashStore, ReadyPut};
 use std::alloc::Global;
 use std::marker::Model;
 
-/// The documents and the indexes over them. Whoever takes hold of a part leaves each index standing
-/// for the documents.
+/// The documents, the indexes over them and the cursors. Whoever takes hold of a part leaves each index standing for the
+/// documents.
 #[derive(Drop)]
 pub struct IndexedStore {
-    /// The allocator of both.
+    /// The allocator of all.
     pub alloc: Global,
     /// The documents.
     pub store: HashStore,
     /// The indexes, with room for as many as there may be.
     pub indexes: Vec<FtIndex>,
+    /// The cursors, the one that waits among them.
+    pub cursors: CursorBook,
+    /// Where the cursor is that waits until it is opened.
+    pub opens: Option<CursorPlace>,
+    /// The latest moment of an event, in milliseconds.
+    pub latest: u64,
     /// Room to count the keys that DEL finds.
     pub ids: Vec<u64>,
-    /// A number above those of all documents and markers.
+    /// A number above those of all documents, markers and cursors.
     pub next: u64,
 }
 
 impl Model for IndexedStore {
+    ghost use Rattle.std.specs.Coded.{codes};
     ghost use Rattle.std.specs.Prelude.{vec_capacity};
+    ghost use Rattle.cursor_book.specs.contracts.cursor.Cursor as cursor;
     ghost use Rattle.indexed_store.specs.Holding.{Holding, IsHolding, holding_of};
 
     ghost Value = { Holding };
 
-    ghost view = { λ s. holding_of s.store s.indexes.items s.next };
+    ghost coded = { Prim.hlevel (codes, cursor.the_row.coded) };
 
-    ghost invariant = { λ s. IsHolding s.store s.indexes.items (vec_capacity s.indexes) (vec_capacity s.ids) s.next };
+    ghost view = { λ s. holding_of s.store s.indexes.items s.cursors s.opens s.latest s.next };
+
+    ghost invariant = { λ s. IsHolding s.store s.indexes.items s.cursors s.opens (vec_capacity s.indexes) (vec_capacity s.ids) s.next };
 }
 
 impl IndexedStore {
-    /// Without documents and indexes, and with all the room that it needs for any change.
+    /// Without documents, indexes and cursors, and with all the room that it needs for any change.
     pub fn new(alloc: Global) -> Result<IndexedStore, NoMemory>
         ensures { IfOk result (λ held. held ≡ nothing_held) }
     {
+        let indexes = Vec::with_capacity(alloc, MOST_INDEXES)?;
+        let ids = Vec::with_capacity(alloc, MOST_COUNTED)?;
         Ok(IndexedStore {
             alloc,
             store: HashStore::new(alloc),
-            indexes: Vec::with_capacity(alloc, MOST_INDEXES)?,
-            ids: Vec::with_capacity(alloc, MOST_COUNTED)?,
+            indexes,
+            cursors: CursorBook::new(alloc),
+            opens: None,
+            latest: 0,
+            ids,
             next: 1,
         })
     }
@@ -76,11 +94,15 @@ impl IndexedStore {
         let _count = self.store.len();
     }
 
-    /// The event of this number begins.
-    pub fn begin(&mut self, number: u64)
+    /// The event of this number begins at a moment, in milliseconds. A cursor that was prepared and never opened is gone, and
+    /// so are those that are idle.
+    pub fn begin(&mut self, number: u64, moment: u64)
         requires { self.old.next ≤ number }
-        ensures { self.new ≡ record self.old { next = number } }
+        ensures { self.new ≡ begun number moment self.old }
     {
+        let_go(&mut self.cursors, &mut self.opens);
+        self.latest = self.latest.max(moment);
+        self.cursors.drop_idle(self.latest);
         self.next = number;
     }
 
@@ -146,18 +168,65 @@ impl IndexedStore {
         count_found(&self.store, &mut self.ids, keys)
     }
 
+    /// Lets a cursor of this event wait until it is opened. Where memory is wanting, nothing is seen of it.
+    pub fn prepare_cursor(&mut self, cursor: Cursor) -> Result<(), NoMemory>
+        requires number { self.old.next < last_number }
+        requires id { cursor.id ≡ self.old.next }
+        requires none { self.old.opens ≡ None }
+        ensures waits { OnOk result (self.new.opens ≡ Some cursor) }
+        ensures stays { Stays self.old self.new }
+        ensures indexes { self.new.indexes ≡ self.old.indexes }
+    {
+        self.next += 1;
+        let place = CursorPlace {
+            serial: cursor.serial,
+            id: cursor.id,
+        };
+        self.cursors.open(cursor)?;
+        self.opens = Some(place);
+        Ok(())
+    }
+
+    /// The cursor of an index with an id.
+    pub fn cursor(&self, serial: u64, id: u64) -> Option<&Cursor>
+        requires none { self.now.opens ≡ None }
+        ensures { option_copied result ≡ cursor_of serial id self.now.cursors }
+    {
+        self.cursors.find(serial, id)
+    }
+
+    /// How many cursors an index has.
+    pub fn cursor_count(&self, serial: u64) -> usize
+        requires none { self.now.opens ≡ None }
+        ensures { result ≡ length (cursors_of serial self.now.cursors) }
+    {
+        self.cursors.count(serial)
+    }
+
     /// Makes a change of the event of this number. It takes no memory.
     pub fn make(&mut self, number: u64, change: Change<'_>)
         requires { CanMake change number self.old }
-        ensures state { (latest : ℕ) → state_at latest self.new
-            ≡ changed change.entry self.old.waits (state_at latest self.old) }
+        ensures state { state_of self.new ≡ changed change.entry self.old.waits self.old.opens (state_of self.old) }
         ensures next { self.new.next ≤ number + 1 }
-        ensures quiet { change.entry ≡ Nothing → self.new ≡ self.old }
+        // Where no document and no definition changes, none is read.
+        ensures quiet { is_write change.entry ≡ false → self.new.reads ≡ self.old.reads }
+        ensures same { change.entry ≡ Nothing → self.new ≡ self.old }
     {
-        if let Change::Nothing = change {
-            return;
+        match change {
+            Change::Nothing => {}
+            Change::OpenCursor => self.opens = None,
+            change => {
+                let_go(&mut self.cursors, &mut self.opens);
+                self.next = number + 1;
+                make(
+                    &mut self.store,
+                    &mut self.indexes,
+                    &mut self.cursors,
+                    number,
+                    self.latest,
+                    change,
+                );
+            }
         }
-        self.next = number + 1;
-        make(&mut self.store, &mut self.indexes, number, change);
     }
 }

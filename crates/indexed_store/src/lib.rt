@@ -1,9 +1,10 @@
-//! The documents of a store and the indexes over them, which change together.
+//! The documents of a store, the indexes over them and the cursors, which change together.
 //!
 //! A document that is written waits in the store and in each index, and takes its key's old one's place
 //! everywhere at once. A document that is removed leaves the store and each index. An index that is
-//! created takes the documents that are there. `IndexedStore` holds both as one value, in which each index always stands
-//! for the documents. A command's call answers a `Change`, of which nothing is seen until `make` makes it.
+//! created takes the documents that are there, and one that is dropped takes its cursors along. `IndexedStore` holds all as
+//! one value, in which each index always stands for the documents. A command's call answers a `Change`, of which nothing is
+//! seen until `make` makes it.
 //! Read first `specs/Standing.antt`, which says how indexes stand for documents, and `specs/Preparing.antt`, which says
 //! what a command leaves; then `held.rt` and `writes.rt`.
 #![tactic(auto)]
@@ -24,6 +25,7 @@ mod reading;
 mod removals;
 mod values;
 mod versions;
+mod waiting;
 mod writes;
 
 /// What a command changes, and how many indexes there may be.
@@ -44,5 +46,7 @@ pub use making::make;
 pub use removals::{remove, remove_all};
 /// New versions of a hash.
 pub use versions::{copy_of, left_of, number_of, set_pairs};
+/// Where a cursor is found.
+pub use waiting::CursorPlace;
 /// A document is written.
 pub use writes::{prepare_hash, settle};

@@ -3,8 +3,11 @@ use crate::aggregates::put_aggregate;
 use crate::answer::Answer;
 use crate::arguments::{frame_of, word};
 use crate::schemas::{put_fault as put_schema_fault, put_fields, put_index};
-use cmd_parse::{CmdFault, Command, FilterSpec, SearchSpec, SortSpec, Verb, read_command};
-use ft_base::{IndexDef, MAX_WORDS, NoMemory, Param, Words};
+use cmd_parse::{
+    AggregateSpec, CmdFault, Command, CursorSpec, FilterSpec, SearchSpec, SortSpec, Verb,
+    read_command,
+};
+use ft_base::{Field, IndexDef, MAX_WORDS, NoMemory, Param, Words};
 use row_text::split_words;
 use std::alloc::Global;
 
@@ -52,15 +55,11 @@ fn put_command(alloc: Global, command: &Command<'_>, out: &mut Answer) -> Result
             put_args(args, out);
         }
         Command::Create(index) => put_create(index.get(), out),
-        Command::Alter { index, fields } => {
-            put_named(b"alter ", index, out);
-            put_fields(fields.as_slice(), out);
-        }
+        Command::Alter { index, fields } => put_alter(index, fields.as_slice(), out),
         Command::Search(spec) => put_search(spec, out),
-        Command::Aggregate(spec) => {
-            put_aggregate(alloc, spec, out);
-            put_params(spec.params.as_slice(), out);
-        }
+        Command::Aggregate(spec) => put_whole_aggregate(alloc, spec, out),
+        Command::CursorRead { index, id, count } => put_cursor_read(index, *id, *count, out),
+        Command::CursorDel { index, id } => put_cursor(b"cursor delete ", index, *id, out),
     }
     Ok(())
 }
@@ -88,6 +87,11 @@ fn put_create(index: &IndexDef, out: &mut Answer) {
     out.put_number(i64::try_from(index.serial).ok());
     out.put(b" ");
     put_index(index, out);
+}
+
+fn put_alter(index: &[u8], fields: &[Field], out: &mut Answer) {
+    put_named(b"alter ", index, out);
+    put_fields(fields, out);
 }
 
 // The index, the query, whether keys alone are asked for or fields too, what the other options ask, and each parameter.
@@ -157,6 +161,36 @@ fn put_params(params: &[Param], out: &mut Answer) {
         put_named(b" ", param.name.as_slice(), out);
         put_named(b"=", param.value.as_slice(), out);
     }
+}
+
+// The aggregate, its cursor and each parameter.
+fn put_whole_aggregate(alloc: Global, spec: &AggregateSpec<'_>, out: &mut Answer) {
+    put_aggregate(alloc, spec, out);
+    put_opening(&spec.cursor, out);
+    put_params(spec.params.as_slice(), out);
+}
+
+// How many rows a read gives, and the milliseconds between two, where rows are read by a cursor.
+fn put_opening(cursor: &Option<CursorSpec>, out: &mut Answer) {
+    if let Some(cursor) = cursor {
+        out.put_at(b" cursor", cursor.count as usize);
+        out.put_at(b"", cursor.max_idle as usize);
+    }
+}
+
+// The cursor, and how many rows where that is said.
+fn put_cursor_read(index: &[u8], id: u64, count: Option<u32>, out: &mut Answer) {
+    put_cursor(b"cursor read ", index, id, out);
+    if let Some(count) = count {
+        out.put_at(b" count", count as usize);
+    }
+}
+
+// The index and the id.
+fn put_cursor(name: &[u8], index: &[u8], id: u64, out: &mut Answer) {
+    put_named(name, index, out);
+    out.put(b" ");
+    out.put_number(i64::try_from(id).ok());
 }
 
 fn put_fault(fault: CmdFault, out: &mut Answer) {

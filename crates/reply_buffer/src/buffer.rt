@@ -1,6 +1,6 @@
 //! A buffer for one reply after another, which always has room for a short one.
 ghost use Rattle.reply_buffer.specs.declared.short_reply.TheConstants.{SHORT_REPLY};
-ghost use Rattle.std.specs.Prelude.{◌≡◌, ◌<◌, ◌≤◌, ◌+◌, ◌⊎◌, [], length, pos, vec_capacity, Option, is_some, IfOk, IsTrue};
+ghost use Rattle.std.specs.Prelude.{◌≡◌, ◌<◌, ◌≤◌, ◌+◌, ◌⊎◌, [], false, length, pos, true, vec_capacity, Option, is_some, IfOk, IsTrue};
 ghost use Rattle.cmd_parse.specs.declared.command.CmdFault.TheVariants.{Arity};
 ghost use Rattle.cmd_parse.specs.Refusals.{refusal};
 ghost use Rattle.ft_base.specs.Memory.{out_of_memory};
@@ -12,8 +12,9 @@ ghost use Rattle.ft_machine.specs.Searching.{unknown_field};
 ghost use Rattle.ft_machine.specs.Step.{Told};
 ghost use Rattle.ft_schema.specs.Refusals.{schema_refusal};
 ghost use Rattle.query_grammar.specs.Refusals.{query_refusal};
+ghost use Rattle.reply_buffer.specs.Written.{IsWritten};
 
-use crate::made_reply::put_made;
+use crate::made_reply::{put_if_made, put_made};
 use crate::message::put_message;
 use crate::refusals::{put_query_refusal, put_refusal, put_schema_refusal, put_unknown_field};
 use crate::short_reply::{
@@ -201,5 +202,16 @@ impl ReplyBuffer {
     {
         self.bytes.clear();
         put_made(made, &mut self.bytes);
+    }
+
+    /// The same, and answers whether it was made and written.
+    pub fn set_if_made(&mut self, made: Result<Reply, NoMemory>) -> bool
+        requires { IfOk made (λ reply. IsTrue (fits_wire reply)) }
+        ensures written { result ≡ true → IsWritten made self.new.bytes }
+        ensures wanting { result ≡ false → self.new.bytes ≡ spelling out_of_memory }
+        ensures room { self.old.room ≤ self.new.room }
+    {
+        self.bytes.clear();
+        put_if_made(made, &mut self.bytes)
     }
 }

@@ -1,8 +1,9 @@
 //! Replies whose making or writing may find memory wanting.
-ghost use Rattle.std.specs.Prelude.{◌≡◌, ◌≤◌, ◌⊎◌, [], vec_capacity, IfOk, IsTrue};
+ghost use Rattle.std.specs.Prelude.{◌≡◌, ◌≤◌, [], false, true, vec_capacity, IfOk, IsTrue};
 ghost use Rattle.ft_base.specs.Reply.{fits_wire, spelling};
 ghost use Rattle.ft_base.specs.Memory.{out_of_memory};
 ghost use Rattle.ft_machine.specs.Step.{Told};
+ghost use Rattle.reply_buffer.specs.Written.{IsWritten};
 
 use crate::short_reply::{SHORT_REPLY, put_no_memory};
 use ft_base::{NoMemory, Reply, put_reply};
@@ -15,21 +16,40 @@ pub fn put_made(made: Result<Reply, NoMemory>, out: &mut Vec<u8>)
     ensures told { Told made out.new.items }
     ensures room { vec_capacity out.old ≤ vec_capacity out.new }
 {
+    let _written = put_if_made(made, out);
+}
+
+/// The same, and answers whether it was made and written.
+pub fn put_if_made(made: Result<Reply, NoMemory>, out: &mut Vec<u8>) -> bool
+    requires fits { IfOk made (λ reply. IsTrue (fits_wire reply)) }
+    requires empty { out.old.items ≡ [] }
+    requires room { SHORT_REPLY ≤ vec_capacity out.old }
+    ensures written { result ≡ true → IsWritten made out.new.items }
+    ensures wanting { result ≡ false → out.new.items ≡ spelling out_of_memory }
+    ensures room { vec_capacity out.old ≤ vec_capacity out.new }
+{
     match made {
         Ok(reply) => put_tree(&reply, out),
-        Err(_) => put_no_memory(out),
+        Err(_) => {
+            put_no_memory(out);
+            false
+        }
     }
 }
 
-fn put_tree(reply: &Reply, out: &mut Vec<u8>)
+fn put_tree(reply: &Reply, out: &mut Vec<u8>) -> bool
     requires fits { IsTrue (fits_wire reply.now) }
     requires empty { out.old.items ≡ [] }
     requires room { SHORT_REPLY ≤ vec_capacity out.old }
-    ensures told { (out.new.items ≡ spelling reply.now) ⊎ (out.new.items ≡ spelling out_of_memory) }
+    ensures written { result ≡ true → out.new.items ≡ spelling reply.now }
+    ensures wanting { result ≡ false → out.new.items ≡ spelling out_of_memory }
     ensures room { vec_capacity out.old ≤ vec_capacity out.new }
 {
     match put_reply(out, reply) {
-        Ok(()) => {}
-        Err(_) => put_no_memory(out),
+        Ok(()) => true,
+        Err(_) => {
+            put_no_memory(out);
+            false
+        }
     }
 }

@@ -2,8 +2,9 @@
 //!
 //! Standard input has the sessions. `== NAME` begins one, which runs in a fresh server; each further line is
 //! a row of `row_text`, a command and its reply. A row that begins with `N..M` stands for one row for each of
-//! these numbers, with `{}` in its words and its reply replaced by the number. Each row that is answered
-//! otherwise is told, and the last line counts them.
+//! these numbers, with `{}` in its words and its reply replaced by the number. `@ N` is the moment, in
+//! milliseconds, of each command behind it. Each row that is answered otherwise is told, and the last line
+//! counts them.
 #![tactic(auto)]
 
 use fs_ports::{MemLink, ScriptedClock};
@@ -20,11 +21,15 @@ const MOST_SHOWN: usize = 400;
 /// The most bytes that a link takes in one write.
 const WRITE_MAX: usize = 1_000;
 
-/// A name, and the commands of one server from its start.
+/// A name, and the commands of one server from its start, each at a moment in milliseconds.
 #[derive(Drop)]
 struct Session {
     name: String,
     rows: Vec<Row>,
+    /// The moment of each row.
+    moments: Vec<u64>,
+    /// That of the rows to come.
+    moment: u64,
 }
 
 /// What was run so far, how many rows were answered otherwise, and what is told of these.
@@ -48,24 +53,44 @@ fn main(rt: HostRuntime) -> io::Result<()> {
 
 // Runs the sessions of a text.
 fn run_all<R: Wait>(rt: &R, alloc: Global, text: &str) -> Result<Tally, NoMemory> {
-    let mut session = Session {
+    let mut tally = no_tally(alloc);
+    run_lines(rt, alloc, text, &mut tally)?;
+    Ok(tally)
+}
+
+fn run_lines<R: Wait>(
+    rt: &R,
+    alloc: Global,
+    text: &str,
+    tally: &mut Tally,
+) -> Result<(), NoMemory> {
+    let mut session = no_session(alloc);
+    for line in text.lines() {
+        take_line(rt, alloc, line, &mut session, tally)?;
+    }
+    end_session(rt, alloc, &mut session, tally)
+}
+
+// A session without a name and rows, as before the first one.
+fn no_session(alloc: Global) -> Session {
+    Session {
         name: String::new(alloc),
         rows: Vec::new(alloc),
-    };
-    let mut tally = Tally {
+        moments: Vec::new(alloc),
+        moment: 0,
+    }
+}
+
+fn no_tally(alloc: Global) -> Tally {
+    Tally {
         sessions: 0,
         rows: 0,
         differ: 0,
         told: Vec::new(alloc),
-    };
-    for line in text.lines() {
-        take_line(rt, alloc, line, &mut session, &mut tally)?;
     }
-    end_session(rt, alloc, &mut session, &mut tally)?;
-    Ok(tally)
 }
 
-// Begins another session where the line has its name, and else adds the line's rows.
+// Begins another session where the line has its name, and else takes it as one of the session.
 fn take_line<R: Wait>(
     rt: &R,
     alloc: Global,
@@ -75,7 +100,7 @@ fn take_line<R: Wait>(
 ) -> Result<(), NoMemory> {
     match line.strip_prefix("== ") {
         Some(name) => begin_session(rt, alloc, name, session, tally),
-        None => put_rows(alloc, line, &mut session.rows),
+        None => take_session_line(alloc, line, session),
     }
 }
 
@@ -88,6 +113,30 @@ fn begin_session<R: Wait>(
 ) -> Result<(), NoMemory> {
     end_session(rt, alloc, session, tally)?;
     session.name.push_str(name)
+}
+
+// Takes the moment of the rows to come, where the line has one, and else adds the line's rows.
+fn take_session_line(alloc: Global, line: &str, session: &mut Session) -> Result<(), NoMemory> {
+    if let Some(moment) = moment_of(line) {
+        session.moment = moment;
+        return Ok(());
+    }
+    put_rows(alloc, line, &mut session.rows)?;
+    put_moments(session)
+}
+
+// The moment that a line has, where it has one.
+fn moment_of(line: &str) -> Option<u64> {
+    let number = read_int(line.strip_prefix("@ ")?.as_bytes())?;
+    u64::try_from(number).ok()
+}
+
+// Gives each row that has none yet the moment of now.
+fn put_moments(session: &mut Session) -> Result<(), NoMemory> {
+    for _ in session.moments.len()..session.rows.len() {
+        session.moments.push(session.moment)?;
+    }
+    Ok(())
 }
 
 // Runs a session that has rows, and leaves one without.
@@ -103,6 +152,8 @@ fn end_session<R: Wait>(
     }
     session.name.clear();
     session.rows.clear();
+    session.moments.clear();
+    session.moment = 0;
     Ok(())
 }
 
@@ -199,7 +250,7 @@ fn run_session<R: Wait>(
     tally: &mut Tally,
 ) -> Result<(), NoMemory> {
     let mut out = Vec::new(alloc);
-    let exit = answer(rt, alloc, session.rows.as_slice(), &mut out)?;
+    let exit = answer(rt, alloc, session, &mut out)?;
     check_session(alloc, session, out.as_slice(), exit, tally)
 }
 
@@ -207,13 +258,18 @@ fn run_session<R: Wait>(
 fn answer<R: Wait>(
     rt: &R,
     alloc: Global,
-    rows: &[Row],
+    session: &Session,
     out: &mut Vec<u8>,
 ) -> Result<Exit, NoMemory> {
-    let mut link = link_over(alloc, requests_of(alloc, rows)?)?;
-    let exit = script(rt, alloc, &mut link);
+    let mut link = link_for(alloc, session.rows.as_slice())?;
+    let exit = script(rt, alloc, session.moments.as_slice(), &mut link);
     out.extend_from_slice(link.output())?;
     Ok(exit)
+}
+
+// A link that gives the commands of these rows.
+fn link_for(alloc: Global, rows: &[Row]) -> Result<MemLink, NoMemory> {
+    link_over(alloc, requests_of(alloc, rows)?)
 }
 
 // All commands of a session as a client sends them.
@@ -249,17 +305,22 @@ fn link_over(alloc: Global, requests: Vec<u8>) -> Result<MemLink, NoMemory> {
     MemLink::new(alloc, pieces, no_reads, ListOf::new(alloc), WRITE_MAX)
 }
 
-// Serves the link, at a clock that stands still.
-fn script<R: Wait>(rt: &R, alloc: Global, link: &mut MemLink) -> Exit {
+// Serves the link, with a moment for each command.
+fn script<R: Wait>(rt: &R, alloc: Global, moments: &[u64], link: &mut MemLink) -> Exit {
     let Ok(words) = words_of(alloc, "script") else {
         return Exit::NoMemory;
     };
-    let mut moments = ListOf::new(alloc);
-    if moments.push(5).is_err() {
+    let Ok(mut clock) = clock_of(alloc, moments) else {
         return Exit::NoMemory;
-    }
-    let mut clock = ScriptedClock::new(moments);
+    };
     run(rt, alloc, words.as_slice(), link, &mut clock)
+}
+
+// A clock of these moments, and one behind them, for which nobody asks: a clock has one at least.
+fn clock_of(alloc: Global, moments: &[u64]) -> Result<ScriptedClock, NoMemory> {
+    let mut all = ListOf::from_vec(moments.to_vec(alloc)?);
+    all.push(0)?;
+    Ok(ScriptedClock::new(all))
 }
 
 // A command line of one word.

@@ -79,3 +79,34 @@ impl<R: std::rt::Clock + Drop> Clock for SystemClock<R> {
         }
     }
 }
+
+#[cfg(test)]
+mod tests {
+    use super::*;
+
+    /// The most often that a clock is asked until it moves.
+    const MOST_ASKED: u32 = 100_000_000;
+
+    // Whether the clock does not fall, and gives a later moment where it is asked for long enough.
+    fn moves<C: Clock>(clock: &mut C) -> bool {
+        let first = clock.now();
+        let mut last = first;
+        for _ in 0..MOST_ASKED {
+            let now = clock.now();
+            if now < last {
+                return false;
+            }
+            last = now;
+            if first < last {
+                return true;
+            }
+        }
+        false
+    }
+
+    #[test]
+    fn the_clock_moves_and_does_not_fall(rt: HostRuntime) {
+        let mut clock = SystemClock { rt };
+        assert!(rt; moves(&mut clock));
+    }
+}

@@ -16,11 +16,11 @@ use Rattle.id_iters.specs.Sets.{About, about, in_set, living}
 use Rattle.id_iters.specs.declared.iter.Iter.{Iter}
 use Rattle.search_exec.specs.Ids.{doc_at, docs_in}
 
-abbrev ids : List Doc → List ℕ
+abbrev pub ids : List Doc → List ℕ
 ids docs = map (λ (doc : Doc). doc.id) docs
 
 -- the documents whose ids a set has, from a number on
-abbrev docs_from : ℕ → (ℕ → Bool) → List Doc → List Doc
+abbrev pub docs_from : ℕ → (ℕ → Bool) → List Doc → List Doc
 docs_from from has docs = filter (λ (doc : Doc). nat_le from doc.id && has doc.id) docs
 
 -- a document is passed over where its id fails wherever it is asked for
@@ -51,7 +51,7 @@ at-above low n (d ∷ docs) doc less found =
       | inr away ↦ at-above low n docs doc less.1 (rw away at found)
     ]
 
-next : (from n : ℕ) (has : ℕ → Bool) (docs : List Doc) (doc : Doc) → IsStrictlySortedBy nat_cmp (ids docs) → doc_at n docs ≡ Some doc → IsLeastAt has from n
+pub next : (from n : ℕ) (has : ℕ → Bool) (docs : List Doc) (doc : Doc) → IsStrictlySortedBy nat_cmp (ids docs) → doc_at n docs ≡ Some doc → IsLeastAt has from n
     → docs_from from has docs ≡ doc ∷ docs_from (n + 1) has docs
 next from n has [] doc rise found least = cc (found)
 next from n has (d ∷ docs) doc rise found least =
@@ -78,7 +78,7 @@ next from n has (d ∷ docs) doc rise found least =
     ]
 
 -- where no id is answered, no document is left
-none-left : (from : ℕ) (has : ℕ → Bool) (docs : List Doc) → NoneFrom has from → docs_from from has docs ≡ []
+pub none-left : (from : ℕ) (has : ℕ → Bool) (docs : List Doc) → NoneFrom has from → docs_from from has docs ≡ []
 none-left from has [] none = refl
 none-left from has (doc ∷ docs) none = rw (missed from doc.id has (none.fails doc.id)) (none-left from has docs none)
 

@@ -7,3 +7,4 @@ pub mod PageLaws
 pub mod RowsReplyLaws
 pub mod SearchLaws
 pub mod ShapeLaws
+pub mod StreamLaws

@@ -13,7 +13,7 @@ ghost use Rattle.id_iters.specs.Ready.{Ready};
 ghost use Rattle.id_iters.specs.Sets.{in_set};
 ghost use Rattle.search_exec.specs.Ids.{AreKnown, doc_at, docs_in};
 
-use crate::rows_reply::rows_reply;
+use crate::replied_rows::rows_reply;
 use agg_pipeline::{Feed, Load, Step};
 use ft_base::{IndexDef, NoMemory, Reply, Row, Steps};
 use hash_store::HashStore;
@@ -57,7 +57,7 @@ pub fn aggregate_reply<T: Lists, L: Ledger>(
 }
 
 /// The rows that the steps make of the documents that an iterator finds.
-fn found_rows<T: Lists, L: Ledger>(
+pub fn found_rows<T: Lists, L: Ledger>(
     alloc: Global,
     def: &IndexDef,
     lists: &T,

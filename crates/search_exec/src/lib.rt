@@ -4,8 +4,8 @@
 //! A search asks the iterator of a query for its ids, counts them all, and reads the documents that it shows or sorts.
 //! What is answered is defined in `ft_machine`, `specs/Counted.antt` and `specs/Shown.antt`; read `search.rt` first, then
 //! `candidates.rt`, `shape.rt`, and the two orders `by_ids.rt` and `by_field.rt`. An aggregate reads each document that the
-//! iterator finds, and its steps make rows of them: `aggregate.rt` and `rows_reply.rt`, defined in `specs/Aggregating.antt`
-//! of `ft_machine`.
+//! iterator finds, and its steps make rows of them: `aggregate.rt` and `replied_rows.rt`, defined in `specs/Aggregating.antt`
+//! of `ft_machine`. A stream is read from an id on, document by document: `stream.rt`, defined in `specs/Parts.antt`.
 #![tactic(auto)]
 
 mod aggregate;
@@ -13,11 +13,16 @@ mod by_field;
 mod by_ids;
 mod candidates;
 mod page;
-mod rows_reply;
+mod replied_rows;
 mod search;
 mod shape;
+mod stream;
 
-/// What an aggregate answers.
-pub use aggregate::aggregate_reply;
+/// What an aggregate answers, and its rows by themselves.
+pub use aggregate::{aggregate_reply, found_rows};
+/// Rows as they are replied.
+pub use replied_rows::{lent_rows_reply, rows_reply};
 /// What a search answers.
 pub use search::search_reply;
+/// A read of a stream.
+pub use stream::{StreamRead, read_stream};

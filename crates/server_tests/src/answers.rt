@@ -1,6 +1,6 @@
 //! What a link is answered, and how its connection and the run end.
 use crate::links::{
-    CURSOR, Faults, HSET, HSET_AGAIN, NONE, NOPE, PING, QUIT, is_run, is_served, link_of,
+    Faults, HSET, HSET_AGAIN, NONE, NOPE, NOT_BUILT, PING, QUIT, is_run, is_served, link_of,
     run_words, serve,
 };
 use ft_server::{End, Exit};
@@ -34,7 +34,7 @@ fn answers_commands<R: Wait>(rt: &R, alloc: Global) -> bool {
     is_answered(
         rt,
         alloc,
-        &[HSET, HSET_AGAIN, b"*0\r\n", CURSOR, NOPE],
+        &[HSET, HSET_AGAIN, b"*0\r\n", NOT_BUILT, NOPE],
         REPLIES,
         Exit::Done,
     ) && is_answered(rt, alloc, &[], b"", Exit::Done)
@@ -57,7 +57,12 @@ fn answers_commands<R: Wait>(rt: &R, alloc: Global) -> bool {
 
 fn answers_faults<R: Wait>(rt: &R, alloc: Global) -> bool {
     is_faulty(rt, alloc, &[b"*1\n$4\nPING\n*1\n$4\nPING\n"], COUNT)
-        && is_faulty(rt, alloc, &[HSET, b"*1\r\n$+4\r\nPING\r\n", CURSOR], LENGTH)
+        && is_faulty(
+            rt,
+            alloc,
+            &[HSET, b"*1\r\n$+4\r\nPING\r\n", NOT_BUILT],
+            LENGTH,
+        )
         && is_faulty(rt, alloc, &[b"PING\r\n"], COUNT)
         && is_faulty(rt, alloc, &[b"*1\r\n+"], PLUS)
         && is_faulty(rt, alloc, &[b"*1\r\n\x7f"], OTHER)
@@ -155,7 +160,7 @@ fn bytes_behind_quit_are_not_executed(rt: HostRuntime) {
 
 /// Whether the program refuses these words, and writes nothing to its link.
 fn is_refused<R: Wait>(rt: &R, alloc: Global, words: &[&str]) -> bool {
-    match link_of(alloc, &[CURSOR], &NONE) {
+    match link_of(alloc, &[NOT_BUILT], &NONE) {
         Some(mut link) => {
             let ended = run_words(rt, alloc, words, &mut link);
             (ended == Some(Exit::Usage)) & link.output().is_empty()

@@ -1,6 +1,6 @@
 //! Reads and writes that fail: what was written before them, and how the run ends.
 use crate::links::{
-    CURSOR, Faults, HSET, HSET_AGAIN, NOPE, PING, QUIT, is_run, link_of, run_words,
+    Faults, HSET, HSET_AGAIN, NOPE, NOT_BUILT, PING, QUIT, is_run, link_of, run_words,
 };
 use ft_server::Exit;
 use std::alloc::Global;
@@ -18,7 +18,7 @@ fn is_ended<R: Wait>(rt: &R, alloc: Global, read: u64, write: u64, len: usize, e
         write_max: 1_000,
     };
     let want = &BOTH[..len.min(BOTH.len())];
-    is_run(rt, alloc, &[HSET, CURSOR], &faults, want, exit)
+    is_run(rt, alloc, &[HSET, NOT_BUILT], &faults, want, exit)
 }
 
 #[test]
@@ -74,7 +74,7 @@ const REPLIES: &[u8] = b":1\r\n:0\r\n+PONG\r\n-ERR not built\r\n-ERR unknown com
 /// A usual session, in 22 pieces of up to 7 bytes. Its replies take 14 writes of up to 5 bytes.
 fn session(alloc: Global) -> Vec<u8> {
     let mut bytes = Vec::new(alloc);
-    for text in [HSET, HSET_AGAIN, PING, CURSOR, NOPE, QUIT] {
+    for text in [HSET, HSET_AGAIN, PING, NOT_BUILT, NOPE, QUIT] {
         let _ = bytes.extend_from_slice(text);
     }
     bytes

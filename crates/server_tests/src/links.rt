@@ -17,7 +17,7 @@ pub const HSET: &[u8] = b"*4\r\n$4\r\nHSET\r\n$2\r\nd1\r\n$1\r\nt\r\n$11\r\nHell
 pub const HSET_AGAIN: &[u8] = b"*4\r\n$4\r\nhSet\r\n$2\r\nd1\r\n$1\r\nt\r\n$1\r\nx\r\n";
 
 /// A command that is known, and not built.
-pub const CURSOR: &[u8] = b"*2\r\n$9\r\nFT.CURSOR\r\n$1\r\ni\r\n";
+pub const NOT_BUILT: &[u8] = b"*2\r\n$8\r\nFT.DEBUG\r\n$2\r\nix\r\n";
 
 pub const QUIT: &[u8] = b"*1\r\n$4\r\nqUIt\r\n";
 

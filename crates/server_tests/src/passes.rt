@@ -1,5 +1,5 @@
-//! Callers of one server: what one writes another finds, also where the first could not read its reply, and also from
-//! another thread.
+//! Callers of one server: what one writes or opens another finds, also where the first could not read its reply, and also
+//! from another thread.
 ghost use Rattle.std.specs.Prelude.{◌≡◌, ◌≤◌, vec_capacity};
 ghost use Rattle.ft_server.specs.Passes.{IsOf};
 
@@ -93,12 +93,13 @@ fn new_caller(alloc: Global) -> Option<Caller> {
     })
 }
 
-/// Executes a line of words with one `|` between each two, and compares its reply.
-fn ask<R: Wait>(
+/// Executes a line of words with one `|` between each two at a moment in milliseconds, and compares its reply.
+fn ask_at<R: Wait>(
     rt: &R,
     server: &Server,
     pass: Pass,
     caller: &mut Caller,
+    moment: u64,
     line: &[u8],
     want: &[u8],
 ) -> Pass
@@ -111,11 +112,26 @@ fn ask<R: Wait>(
         return pass;
     }
     let words = Words::new(line, caller.spans.as_slice());
-    let pass = call(rt, server, pass, 5, words, &mut caller.reply);
+    let pass = call(rt, server, pass, moment, words, &mut caller.reply);
     if caller.reply.as_slice() != want {
         caller.others = caller.others.saturating_add(1);
     }
     pass
+}
+
+/// Does so at a moment at which nothing is idle.
+fn ask<R: Wait>(
+    rt: &R,
+    server: &Server,
+    pass: Pass,
+    caller: &mut Caller,
+    line: &[u8],
+    want: &[u8],
+) -> Pass
+    requires { IsOf server.now pass }
+    ensures { IsOf server.now result }
+{
+    ask_at(rt, server, pass, caller, 5, line, want)
 }
 
 /// Sets a field to one value and another in turns, and reads each back.
@@ -178,4 +194,110 @@ fn two_threads_find_their_own_values(rt: HostRuntime) -> Result<(), Fail> {
     );
     assert!(rt; first && second);
     Ok(())
+}
+
+/// The lines of the events 1 to 5, the last of which opens a cursor, and the reply to each.
+const OPENS: [[&[u8]; 2]; 5] = [
+    [b"FT.CREATE|ix|SCHEMA|t|TEXT", b"+OK\r\n"],
+    [b"HSET|d1|t|a", b":1\r\n"],
+    [b"HSET|d2|t|b", b":1\r\n"],
+    [b"HSET|d3|t|c", b":1\r\n"],
+    [
+        b"FT.AGGREGATE|ix|*|LOAD|1|t|WITHCURSOR|COUNT|1|MAXIDLE|100",
+        b"*2\r\n*2\r\n:1\r\n*2\r\n$1\r\nt\r\n$1\r\na\r\n:5\r\n",
+    ],
+];
+
+const READ: &[u8] = b"FT.CURSOR|READ|ix|5";
+
+const DELETE: &[u8] = b"FT.CURSOR|DEL|ix|5";
+
+const SECOND: &[u8] = b"*2\r\n*2\r\n:1\r\n*2\r\n$1\r\nt\r\n$1\r\nb\r\n:5\r\n";
+
+const GONE: &[u8] = b"-Cursor not found\r\n";
+
+/// Opens a cursor of three documents at the moment 1000.
+fn open<R: Wait>(rt: &R, server: &Server, pass: Pass, caller: &mut Caller) -> Pass
+    requires { IsOf server.now pass }
+    ensures { IsOf server.now result }
+{
+    let mut pass = pass;
+    for [line, want] in OPENS {
+        pass = ask_at(rt, server, pass, caller, 1_000, line, want);
+    }
+    pass
+}
+
+/// Whether one caller reads the cursor that another opened, until it is idle for longer than 100 milliseconds.
+fn is_read_by_another<R: Wait>(
+    rt: &R,
+    server: &Server,
+    one: Pass,
+    two: Pass,
+    caller: &mut Caller,
+) -> bool
+    requires one { IsOf server.now one }
+    requires two { IsOf server.now two }
+{
+    let one = open(rt, server, one, caller);
+    let two = ask_at(rt, server, two, caller, 1_100, READ, SECOND);
+    drop(ask_at(rt, server, one, caller, 1_201, READ, GONE));
+    drop(ask_at(rt, server, two, caller, 1_100, READ, GONE));
+    caller.others == 0
+}
+
+/// Whether one caller deletes the cursor that another opened, for both.
+fn is_deleted_by_another<R: Wait>(
+    rt: &R,
+    server: &Server,
+    one: Pass,
+    two: Pass,
+    caller: &mut Caller,
+) -> bool
+    requires one { IsOf server.now one }
+    requires two { IsOf server.now two }
+{
+    let one = open(rt, server, one, caller);
+    let two = ask_at(rt, server, two, caller, 1_100, DELETE, b"+OK\r\n");
+    drop(ask_at(rt, server, one, caller, 1_100, READ, GONE));
+    drop(ask_at(rt, server, two, caller, 1_100, DELETE, GONE));
+    caller.others == 0
+}
+
+/// Whether a cursor is gone for two callers, because one deletes it or because it is idle.
+fn is_gone_for_both<R: Wait>(
+    rt: &R,
+    server: &Server,
+    one: Pass,
+    two: Pass,
+    caller: &mut Caller,
+    is_deleted: bool,
+) -> bool
+    requires one { IsOf server.now one }
+    requires two { IsOf server.now two }
+{
+    if is_deleted {
+        return is_deleted_by_another(rt, server, one, two, caller);
+    }
+    is_read_by_another(rt, server, one, two, caller)
+}
+
+/// The same of a server of its own.
+fn is_gone_for_all<R: Wait>(rt: &R, alloc: Global, is_deleted: bool) -> bool {
+    let Some(mut caller) = new_caller(alloc) else {
+        return false;
+    };
+    match server_of(alloc) {
+        Some((server, mut one)) => {
+            let two = server.split(&mut one);
+            is_gone_for_both(rt, &server, one, two, &mut caller, is_deleted)
+        }
+        None => false,
+    }
+}
+
+#[test]
+fn a_cursor_is_of_all_callers(rt: HostRuntime) {
+    assert!(rt; is_gone_for_all(&rt, rt.alloc(), false));
+    assert!(rt; is_gone_for_all(&rt, rt.alloc(), true));
 }

@@ -3,7 +3,7 @@ use Rattle.cmd_parse.specs.Read.{Plain}
 use Rattle.cmd_parse.specs.declared.command.Verb.TheVariants.{Hincrby}
 use Rattle.ft_base.specs.Number.{int_of}
 use Rattle.ft_base.specs.Words.{first, second}
-use Rattle.indexed_store.specs.Holding.{state_at}
+use Rattle.indexed_store.specs.Holding.{state_of}
 use Rattle.indexed_store.proofs.PreparingLaws.{prepares-read}
 use Rattle.hash_commands.proofs.BehindLaws.{stays-behind}
 use Rattle.hash_commands.proofs.PlainLaws.{increment-fits, not-number, overflows, same-field, sum-is, too-wide, value-fits}
@@ -15,14 +15,14 @@ returns-in_default-number_of-clause-prepares c =
     let value = sym (same-field c.args.held.now.space c.word-key.result.now (first c.args.args.now) c.word-field.result.now (second c.args.args.now) c.word-key.ensures c.word-field.ensures) ∙ (sym c.number_of.ensures.number ∙ c.in_default-number_of.is) in
     let increment = sym (ap int_of c.word.ensures) ∙ (sym c.read_int.ensures.exact ∙ c.in-Some.is) in
     prepares-read (Plain Hincrby c.args.args.now) c.args.held.now c.number_of.new.self _ c.number_of.ensures.stays
-    (λ latest. not-number c.args.args.now c.args.held.now.next (state_at latest c.args.held.now) _ c.in-Some.by value increment c.set_fault.ensures.bytes)
+    (not-number c.args.args.now c.args.held.now.next (state_of c.args.held.now) _ c.in-Some.by value increment c.set_fault.ensures.bytes)
 
 pub returns-in_default-checked_add-clause-prepares : goal.returns-in_default-checked_add-clause-prepares
 returns-in_default-checked_add-clause-prepares c =
     let value = sym (same-field c.args.held.now.space c.word-key.result.now (first c.args.args.now) c.word-field.result.now (second c.args.args.now) c.word-key.ensures c.word-field.ensures) ∙ (sym c.number_of.ensures.number ∙ c.in-Some-number_of.is) in
     let increment = sym (ap int_of c.word.ensures) ∙ (sym c.read_int.ensures.exact ∙ c.in-Some.is) in
     prepares-read (Plain Hincrby c.args.args.now) c.args.held.now c.number_of.new.self _ c.number_of.ensures.stays
-    (λ latest. overflows c.args.args.now c.args.held.now.next (state_at latest c.args.held.now) _ c.in-Some-number_of.old c.in-Some.by value increment
+    (overflows c.args.args.now c.args.held.now.next (state_of c.args.held.now) _ c.in-Some-number_of.old c.in-Some.by value increment
     (too-wide c.in-Some-number_of.old c.in-Some.by (value-fits _ c.in-Some-number_of.old value) (increment-fits _ c.in-Some.by increment) c.in_default-checked_add.ensures) c.set_fault-in_default-checked_add.ensures.bytes)
 
 pub returns-in-Ok-clause-prepares : goal.returns-in-Ok-clause-prepares

@@ -1,7 +1,7 @@
 use Rattle.std.proofs.Common.{refl, rules}
 use Rattle.cmd_parse.specs.Read.{Plain}
 use Rattle.cmd_parse.specs.declared.command.Verb.TheVariants.{Del}
-use Rattle.indexed_store.specs.Holding.{state_at}
+use Rattle.indexed_store.specs.Holding.{state_of}
 use Rattle.hash_commands.proofs.BehindLaws.{reads-nothing, stays-read}
 use Rattle.hash_commands.proofs.PreparedLaws.{prepares-same, prepares-wanting}
 use Rattle.hash_commands.proofs.RemovalLaws.{del-prepares, deleted-nothing}
@@ -15,7 +15,7 @@ returns-in_default-clause-prepares c =
 pub returns-then-count-eq0-clause-prepares : goal.returns-then-count-eq0-clause-prepares
 returns-then-count-eq0-clause-prepares c =
     prepares-same (Plain Del c.args.args.now) c.args.held.now _ _ c.count_found.ensures.same
-    (λ latest. deleted-nothing c.args.args.now c.args.held.now.next c.in-Ok.count (state_at latest c.args.held.now) _ c.args.held.now.space refl c.if-count-eq0.true (c.in-Ok.ensures.none c.if-count-eq0.true) c.set_number.ensures.bytes)
+    (deleted-nothing c.args.args.now c.args.held.now.next c.in-Ok.count (state_of c.args.held.now) _ c.args.held.now.space refl c.if-count-eq0.true (c.in-Ok.ensures.none c.if-count-eq0.true) c.set_number.ensures.bytes)
 
 pub returns-clause-prepares : goal.returns-clause-prepares
 returns-clause-prepares c =

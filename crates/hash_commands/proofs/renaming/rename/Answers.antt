@@ -4,7 +4,7 @@ use Rattle.cmd_parse.specs.Read.{Plain}
 use Rattle.cmd_parse.specs.declared.command.Verb.TheVariants.{Rename}
 use Rattle.ft_base.specs.Space.{doc_of}
 use Rattle.ft_base.specs.Words.{first}
-use Rattle.indexed_store.specs.Holding.{state_at}
+use Rattle.indexed_store.specs.Holding.{state_of}
 use Rattle.hash_commands.proofs.PlainLaws.{renamed-none, renamed-same, same-words}
 use Rattle.hash_commands.proofs.PreparedLaws.{prepares-same, prepares-wanting, rename-prepares}
 use Rattle.reply_buffer.proofs.Spellings.{ok_written}
@@ -15,14 +15,14 @@ returns-then-not-has-clause-prepares c =
     let docs = c.args.held.now.space in
     let absent : is_some (doc_of docs (first c.args.args.now)) ≡ false = ap (λ (key : List ℕ). is_some (doc_of docs key)) (sym c.word-from.ensures) ∙ (sym c.has.ensures ∙ c.if-not-has.true) in
     prepares-same (Plain Rename c.args.args.now) c.args.held.now c.args.held.now _ refl
-    (λ latest. renamed-none c.args.args.now c.args.held.now.next (state_at latest c.args.held.now) _ absent c.set_fault.ensures.bytes)
+    (renamed-none c.args.args.now c.args.held.now.next (state_of c.args.held.now) _ absent c.set_fault.ensures.bytes)
 
 pub returns-then-eq-clause-prepares : goal.returns-then-eq-clause-prepares
 returns-then-eq-clause-prepares c =
     let docs = c.args.held.now.space in
     let there : is_some (doc_of docs (first c.args.args.now)) ≡ true = ap (λ (key : List ℕ). is_some (doc_of docs key)) (sym c.word-from.ensures) ∙ (sym c.has.ensures ∙ c.if-not-has.false) in
     prepares-same (Plain Rename c.args.args.now) c.args.held.now c.args.held.now _ refl
-    (λ latest. renamed-same c.args.args.now c.args.held.now.next (state_at latest c.args.held.now) _ there
+    (renamed-same c.args.args.now c.args.held.now.next (state_of c.args.held.now) _ there
     (same-words c.word-from.result.now c.word-to.result.now _ _ c.eq.result true c.word-from.ensures c.word-to.ensures c.eq.ensures c.if-eq.true) (ok_written [] _ refl c.set_short.ensures.bytes))
 
 pub returns-in-Ok-clause-prepares : goal.returns-in-Ok-clause-prepares

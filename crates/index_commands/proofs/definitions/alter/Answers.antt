@@ -1,26 +1,25 @@
-use Rattle.std.proofs.Common.{subst, arith, [], refl}
+use Rattle.std.proofs.Common.{subst, [], refl}
 use Rattle.ft_base.specs.declared.definition.IndexDef.{IndexDef}
 use Rattle.ft_schema.specs.Gives.{IsFaultOf}
 use Rattle.ft_schema.specs.Schema.{extended}
-use Rattle.index_commands.proofs.IndexCommandLaws.{alter-fault, alter-prepares, alter-unknown, extended-few, named-none, named-some, prepares-wanting}
-use Rattle.indexed_store.proofs.PreparingLaws.{prepares-nothing}
+use Rattle.index_commands.proofs.IndexCommandLaws.{alter-fault, alter-prepares, alter-unknown, extended-few, named-none, named-some, prepares-stays, prepares-wanting, stays-same}
 use Rattle.indexed_store.specs.DefinitionsOf.{defined, definitions_of}
-use Rattle.indexed_store.specs.Holding.{state_at}
+use Rattle.indexed_store.specs.Holding.{state_of}
 use Rattle.reply_buffer.proofs.Spellings.{ok_written}
 use Rattle.index_commands.proofs.definitions.alter.Goals as goal
 
 pub returns-in_default-clause-prepares : goal.returns-in_default-clause-prepares
 returns-in_default-clause-prepares c =
     let held = c.args.held.now in
-    prepares-nothing _ held held _ refl refl (omega arith)
-    (λ latest. alter-unknown c.args.name.now c.args.fields.now held.next (state_at latest held) _ (named-none held.indexes (definitions_of held.indexes) c.args.name.now refl c.in_default.ensures) c.set_fault.ensures.bytes)
+    prepares-stays _ held held _ (stays-same held) refl
+    (alter-unknown c.args.name.now c.args.fields.now held.next (state_of held) _ (named-none held.indexes (definitions_of held.indexes) c.args.name.now refl c.in_default.ensures) c.set_fault.ensures.bytes)
 
 pub returns-in-Err-clause-prepares : goal.returns-in-Err-clause-prepares
 returns-in-Err-clause-prepares c =
     let held = c.args.held.now in
     let index = c.in-Some.index.now in
-    prepares-nothing _ held held _ refl refl (omega arith)
-    (λ latest. alter-fault c.args.name.now c.args.fields.now held.next (state_at latest held) _ (defined index) c.in-Err.fault (named-some held.indexes (definitions_of held.indexes) c.args.name.now index refl c.in-Some.ensures)
+    prepares-stays _ held held _ (stays-same held) refl
+    (alter-fault c.args.name.now c.args.fields.now held.next (state_of held) _ (defined index) c.in-Err.fault (named-some held.indexes (definitions_of held.indexes) c.args.name.now index refl c.in-Some.ensures)
     (subst (λ (d : IndexDef). IsFaultOf c.in-Err.fault (extended d c.args.fields.now)) c.def.ensures.def c.in-Err.ensures.err) c.set_schema_refusal.ensures.bytes)
 
 pub index_over-requires-clause-fields : goal.index_over-requires-clause-fields

@@ -1,12 +1,12 @@
 use Rattle.std.proofs.Common.{◌∙◌, ap, sym}
 use Rattle.index_commands.proofs.IndexCommandLaws.{ids-above}
 use Rattle.indexed_store.specs.DefinitionsOf.{definitions_of}
-use Rattle.indexed_store.specs.Holding.{Holding, state_at}
+use Rattle.indexed_store.specs.Holding.{Holding, state_of}
 use Rattle.index_commands.proofs.index_reads.answer_tag_vals.Goals as goal
 
 pub answer_tags_in-requires-clause-ids : goal.answer_tags_in-requires-clause-ids
 answer_tags_in-requires-clause-ids c = ids-above 0 c.held.inside.store.space c.held.invariant.step.documents.rise
 
 pub returns-clause-does : goal.returns-clause-does
-returns-clause-does c latest =
-    c.answer_tags_in.ensures.does c.args.held.now.next (state_at latest c.args.held.now) (sym (ap (λ (h : Holding). h.space) c.held.view_is)) (ap definitions_of (sym (ap (λ (h : Holding). h.indexes) c.held.view_is) ∙ sym c.as_slice.ensures.value))
+returns-clause-does c =
+    c.answer_tags_in.ensures.does c.args.held.now.next (state_of c.args.held.now) (sym (ap (λ (h : Holding). h.space) c.held.view_is)) (ap definitions_of (sym (ap (λ (h : Holding). h.indexes) c.held.view_is) ∙ sym c.as_slice.ensures.value))

@@ -10,10 +10,10 @@ info_reply-requires-clause-docs c =
 
 pub returns-clause-tells : goal.returns-clause-tells
 returns-clause-tells c =
-    told-of c.args.index.now c.def.result.now c.lists.result.now c.info_reply.result c.docs.result c.in-Some.records c.failures.result c.def.ensures.def c.lists.ensures c.docs.ensures c.failures.ensures.count c.in-Some.ensures.least
+    told-of c.args.index.now c.def.result.now c.lists.result.now c.info_reply.result c.docs.result c.in-Some.records c.failures.result c.args.cursors c.def.ensures.def c.lists.ensures c.docs.ensures c.failures.ensures.count c.in-Some.ensures.least
     c.info_reply.ensures.reply
 
 pub returns-clause-exact : goal.returns-clause-exact
 returns-clause-exact c =
-    entries-of c.args.index.now c.def.result.now c.lists.result.now c.info_reply.result (record { docs = c.docs.result; records = c.in-Some.records; failures = c.failures.result; cursors = 0 }) c.def.ensures.def c.lists.ensures
+    entries-of c.args.index.now c.def.result.now c.lists.result.now c.info_reply.result (record { docs = c.docs.result; records = c.in-Some.records; failures = c.failures.result; cursors = c.args.cursors }) c.def.ensures.def c.lists.ensures
     c.in-Some.ensures.some c.info_reply.ensures.reply

@@ -1,9 +1,10 @@
 use Rattle.std.proofs.Common.{inl, inr, refl, sym}
 use Rattle.cmd_parse.specs.Seen.{search_of}
 use Rattle.ft_machine.specs.Indexes.{unknown_index}
+use Rattle.ft_machine.specs.Searching.{search_reply}
 use Rattle.ft_machine.specs.Step.{last_number}
 use Rattle.index_commands.proofs.AnsweringLaws.{queries-fault_of, queries-found, queries-none}
-use Rattle.index_commands.proofs.SearchLaws.{is-search, search_query}
+use Rattle.index_commands.proofs.SearchLaws.{gives-shown, is-search, search_query}
 use Rattle.indexed_store.proofs.NamedLaws.{named-has}
 use Rattle.indexed_store.specs.Standing.{IndexStands, markers_at}
 use Rattle.query_grammar.specs.Refusals.{query_refusal}
@@ -25,8 +26,10 @@ returns-in_default-clause-does c number state all same =
 pub returns-in-Ok-clause-does : goal.returns-in-Ok-clause-does
 returns-in-Ok-clause-does c number state all same =
     let what = search_of c.args.search.now in
-    queries-found (search_query what) number state (is-search what number state) c.args.indexes.now same c.in-Some.index.now c.def.result.now _ c.in-Ok.query c.args.store.now.space
-    (sym c.in-Some.ensures) c.def.ensures.def all c.in-Ok.ensures.exact c.answer_parsed.ensures.found
+    let def = c.in-Some.index.now.def in
+    queries-found (search_query what) number state (is-search what number state) c.args.indexes.now same c.in-Some.index.now c.def.result.now _ c.in-Ok.query
+    (search_reply what c.args.store.now.space def c.in-Ok.query) (sym c.in-Some.ensures) c.def.ensures.def c.in-Ok.ensures.exact
+    (gives-shown what number state c.args.store.now.space def c.in-Ok.query all) c.answer_parsed.ensures.found
 
 pub returns-in-Err-clause-does : goal.returns-in-Err-clause-does
 returns-in-Err-clause-does c number state all same =

@@ -1,11 +1,13 @@
 use Rattle.std.proofs.Common.{◌∙◌, ap, refl, sym, arith, List}
 use Rattle.ft_base.specs.declared.doc.Doc.{Doc}
-use Rattle.ft_machine.specs.Definitions.{Defined, index_of, without_members}
+use Rattle.ft_index.specs.Index.{Index}
+use Rattle.ft_machine.specs.Definitions.{Defined, index_of, without_index, without_members}
 use Rattle.indexed_store.specs.DefinitionsOf.{definitions_of}
-use Rattle.std.specs.Prelude.{◌≡◌, ◌+◌, length}
+use Rattle.std.specs.Prelude.{◌≡◌, ◌+◌, None, length}
 use Rattle.ft_machine.specs.Step.{next_number}
-use Rattle.indexed_store.specs.Changing.{changed}
-use Rattle.indexed_store.specs.States.{state_of}
+use Rattle.cursor_book.specs.declared.cursor.Cursor.{Cursor}
+use Rattle.indexed_store.specs.Changing.{changed, without_cursors_of}
+use Rattle.indexed_store.specs.States.{state_with}
 use Rattle.indexed_store.specs.declared.change.Change.{Change}
 use Rattle.indexed_store.specs.declared.change.Change.TheVariants.{Alter, Move, Write}
 use Rattle.indexed_store.proofs.ChangingLaws.{altered-apart, altered-stands, created-step, lent-step, made-before, whole-step}
@@ -68,7 +70,13 @@ pub returns-in-DropMembers-clause-kept : goal.returns-in-DropMembers-clause-kept
 returns-in-DropMembers-clause-kept c = c.drop_members.ensures.kept (next_number c.args.number) c.requires.kept
 
 pub returns-in-DropMembers-clause-state : goal.returns-in-DropMembers-clause-state
-returns-in-DropMembers-clause-state c latest =
-    (ap (λ (docs : List Doc). record { space = docs; definitions = definitions_of c.drop_members.new.indexes.items; latest = latest }) (c.drop_members.ensures.space (next_number c.args.number) c.requires.kept)
-    ∙ ap (λ (ds : List Defined). record { space = without_members (index_of (definitions_of c.args.indexes.now.items) c.in-DropMembers.name.now) c.args.store.now.space; definitions = ds; latest = latest }) c.drop_members.ensures.definitions)
-    ∙ ap (λ (change : Change). changed change c.args.store.now.ready (state_of c.args.store.now c.args.indexes.now.items latest)) (sym c.in-DropMembers.is)
+returns-in-DropMembers-clause-state c =
+    let old = state_with c.args.store.now c.args.indexes.now.items c.args.cursors.now c.args.latest in
+    let index = index_of old.definitions c.in-DropMembers.name.now in
+    let cursors : c.drop_cursors-in-DropMembers.new.cursors ≡ without_cursors_of index old.cursors =
+    c.drop_cursors-in-DropMembers.ensures ∙ ap (λ (is : List Index). without_cursors_of (index_of (definitions_of is) c.in-DropMembers.name.now) old.cursors) c.as_slice-in-DropMembers.ensures.value in
+    ap (λ (docs : List Doc). record { space = docs; definitions = definitions_of c.drop_members.new.indexes.items; cursors = c.drop_cursors-in-DropMembers.new.cursors; latest = c.args.latest })
+    (c.drop_members.ensures.space (next_number c.args.number) c.requires.kept)
+    ∙ (ap (λ (ds : List Defined). record { space = without_members index old.space; definitions = ds; cursors = c.drop_cursors-in-DropMembers.new.cursors; latest = c.args.latest }) c.drop_members.ensures.definitions
+    ∙ (ap (λ (cursors : List Cursor). record { space = without_members index old.space; definitions = without_index old.definitions c.in-DropMembers.name.now; cursors = cursors; latest = c.args.latest }) cursors
+    ∙ ap (λ (change : Change). changed change c.args.store.now.ready None old) (sym c.in-DropMembers.is)))

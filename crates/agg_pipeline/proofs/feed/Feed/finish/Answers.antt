@@ -21,3 +21,11 @@ returns-in-Groups c =
     finished def load steps docs c.args.self holds made.items
     (λ rows are. told rows (subst (IsMade c.args.self.def.now c.args.self.later.now rows) c.in-Groups.is are)))
     c.finish_groups.ensures
+
+pub returns-in-First : goal.returns-in-First
+returns-in-First c =
+    IfOk-map c.finish_first.result _ _
+    (λ made told def load steps docs holds.
+    finished def load steps docs c.args.self holds made.items
+    (λ rows are. told rows (subst (IsMade c.args.self.def.now c.args.self.later.now rows) c.in-First.is are)))
+    c.finish_first.ensures

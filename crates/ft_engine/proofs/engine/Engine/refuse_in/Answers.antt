@@ -4,6 +4,7 @@ use Rattle.ft_base.specs.Reply.{spelling}
 use Rattle.ft_base.specs.declared.reply.Reply.TheVariants.{Fault}
 use Rattle.ft_machine.proofs.Stepping.{refused-at}
 use Rattle.ft_machine.specs.Machine.{at_moment}
+use Rattle.indexed_store.specs.Holding.{state_of}
 use Rattle.ft_engine.proofs.EngineLaws.{indexed}
 use Rattle.ft_engine.specs.Stands.{IsIndexed, Stands}
 use Rattle.ft_engine.proofs.engine.Engine.refuse_in.Goals as goal
@@ -13,11 +14,11 @@ returns-then-self-ge-LAST_NUMBER-clause-answer c = inr (omega (arith, ap (λ (e 
 
 pub returns-then-self-ge-LAST_NUMBER-clause-indexed : goal.returns-then-self-ge-LAST_NUMBER-clause-indexed
 returns-then-self-ge-LAST_NUMBER-clause-indexed c =
-    subst IsIndexed c.self.view_is (indexed c.self.inside.held c.self.inside.latest c.self.inside.next c.self.inside.pending c.stand.ensures.keys c.stand.ensures.stand c.self.invariant.earlier)
+    subst IsIndexed c.self.view_is (indexed c.self.inside.held c.self.inside.next c.self.inside.pending c.stand.ensures.keys c.stand.ensures.stand c.self.invariant.earlier)
 
 pub returns-clause-answer : goal.returns-clause-answer
 returns-clause-answer c =
     let next = ap (λ (e : Stands). e.next) c.self.view_is in
     refused-at c.args.words c.args.self.now.next c.args.now c.args.fault.now c.args.self.now.state c.end.new.self.state c.set_refusal.new.self.bytes (omega (arith, next, c.if-self-ge-LAST_NUMBER.false)) c.requires.fault
     (c.set_refusal.ensures.bytes ∙ ap (λ (w : List ℕ). spelling (Fault (refusal w c.args.fault.now))) c.word.ensures)
-    (ap (λ (e : Stands). e.state) c.end.ensures.ended ∙ ap (λ (e : Stands). at_moment c.args.now e.state) c.self.view_is)
+    (ap (λ (e : Stands). e.state) c.end.ensures.ended ∙ (ap state_of c.begin.ensures ∙ ap (λ (e : Stands). at_moment c.args.now e.state) c.self.view_is))

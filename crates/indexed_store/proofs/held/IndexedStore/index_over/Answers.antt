@@ -1,15 +1,26 @@
 use Rattle.std.specs.Prelude.{◌+◌}
-use Rattle.std.proofs.Common.{subst}
+use Rattle.std.proofs.Common.{arith, subst}
 use Rattle.indexed_store.proofs.ApartLaws.{new-apart}
+use Rattle.indexed_store.proofs.CursorsLaws.{book-until}
+use Rattle.indexed_store.proofs.StepLaws.{in_step-read}
 use Rattle.indexed_store.specs.Holding.{Holding, holding_of}
 use Rattle.indexed_store.specs.Preparing.{IsMade}
 use Rattle.indexed_store.proofs.held.IndexedStore.index_over.Goals as goal
 
 pub returns-clause-made : goal.returns-clause-made
 returns-clause-made c =
-    subst (λ (h : Holding). IsMade c.args.def c.args.failures c.in_ok-index.index h (holding_of c.index_over.new.store c.self.inside.indexes.items (c.self.inside.next + 1))) c.self.view_is (record {
+    subst (λ (h : Holding). IsMade c.args.def c.args.failures c.in_ok-index.index h (holding_of c.index_over.new.store c.self.inside.indexes.items c.self.inside.cursors c.self.inside.opens c.self.inside.latest (c.self.inside.next + 1))) c.self.view_is (record {
       same = c.in_ok-index.ensures.def;
       failures = c.in_ok-index.ensures.failures;
       stands = c.in_ok-index.ensures.stands;
       apart = new-apart c.self.inside.store.space c.self.inside.next c.self.inside.indexes.items c.in_ok-index.index c.self.invariant.step.stand c.in_ok-index.ensures.given;
     })
+
+pub invariant_of-self-2 : goal.invariant_of-self-2
+invariant_of-self-2 c = record {
+  step = in_step-read c.self.inside.store c.index_over.new.store c.self.inside.indexes.items c.self.inside.next c.index_over.ensures.space c.index_over.ensures.last c.self.invariant.step;
+  kept = book-until c.self.inside.opens c.self.inside.cursors c.self.inside.next (c.self.inside.next + 1) (omega arith) c.self.invariant.kept;
+  few = c.self.invariant.few;
+  room = c.self.invariant.room;
+  ids = c.self.invariant.ids;
+}

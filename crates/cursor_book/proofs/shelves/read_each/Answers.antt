@@ -1,0 +1,7 @@
+use Rattle.cursor_book.specs.Shelved.{read_in}
+use Rattle.agg_pipeline.proofs.MappedLaws.{mapped-next}
+use Rattle.cursor_book.proofs.shelves.read_each.Goals as goal
+
+pub loop-shelf-preserved : goal.loop-shelf-preserved
+loop-shelf-preserved c =
+    mapped-next (read_in c.args.serial c.args.id c.args.now c.args.taken) c.args.shelves.now c.loop-shelf.shelves c.loop-shelf.shelf-index c.read_in.new.shelf c.shelf-item.result c.loop-shelf-test.true c.loop-shelf.invariant c.read_in.ensures

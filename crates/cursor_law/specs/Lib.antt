@@ -1,0 +1,5 @@
+pub mod Given
+pub mod Law
+pub mod Opens
+pub mod Steps
+pub mod StreamCursor

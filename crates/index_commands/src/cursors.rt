@@ -1,0 +1,147 @@
+//! FT.CURSOR READ and DEL.
+ghost use Rattle.std.specs.Prelude.{◌≡◌, ◌<◌, ◌≤◌, ◌^◌, ℕ, None, false};
+ghost use Rattle.std.specs.List.{All};
+ghost use Rattle.cmd_parse.specs.Asked.{CursorDel, CursorRead};
+ghost use Rattle.ft_base.specs.declared.doc.Doc.{Doc};
+ghost use Rattle.ft_index.specs.Index.{Indexes, IsIndex};
+ghost use Rattle.ft_machine.specs.Machine.{State};
+ghost use Rattle.ft_machine.specs.Step.{Does, last_number};
+ghost use Rattle.ft_meaning.specs.Meaning.{ValuesFit};
+ghost use Rattle.index_commands.specs.Parts.{IsNext};
+ghost use Rattle.indexed_store.specs.Changing.{changed, is_write};
+ghost use Rattle.indexed_store.specs.DefinitionsOf.{definitions_of};
+ghost use Rattle.indexed_store.specs.Preparing.{Prepares};
+ghost use Rattle.indexed_store.specs.Standing.{InStep};
+
+use crate::part::tell_part;
+use cursor_book::{Cursor, CursorBook};
+use ft_index::FtIndex;
+use hash_store::HashStore;
+use indexed_store::{Change, CursorPlace, IndexedStore, index_named};
+use reply_buffer::ReplyBuffer;
+use std::alloc::Global;
+
+/// Prepares FT.CURSOR READ, and writes the reply: so many rows, or as many as the opening said, and the cursor's id.
+pub fn read_cursor<'a>(
+    held: &mut IndexedStore,
+    index: &[u8],
+    id: u64,
+    count: Option<u32>,
+    reply: &mut ReplyBuffer,
+) -> Change<'a>
+    requires number { held.old.next < last_number }
+    requires none { held.old.opens ≡ None }
+    requires id { id < 2 ^ 63 }
+    ensures prepares { Prepares (CursorRead index.now id count) held.old held.new reply.new.bytes result }
+    ensures quiet { is_write result ≡ false }
+    ensures room { reply.old.room ≤ reply.new.room }
+{
+    read_in(
+        &mut held.store,
+        held.indexes.as_slice(),
+        &held.cursors,
+        held.alloc,
+        index,
+        id,
+        count,
+        reply,
+    )
+}
+
+/// The same over the documents, the indexes and the cursors by themselves.
+fn read_in<'a>(
+    store: &mut HashStore,
+    indexes: &[FtIndex],
+    cursors: &CursorBook,
+    alloc: Global,
+    name: &[u8],
+    id: u64,
+    count: Option<u32>,
+    reply: &mut ReplyBuffer,
+) -> Change<'a>
+    requires step { InStep store.old indexes.now last_number }
+    requires id { id < 2 ^ 63 }
+    ensures does { (number : ℕ) (state : State) → state.space ≡ store.old.space → state.definitions ≡ definitions_of indexes.now
+        → state.cursors ≡ cursors.now
+        → Does (CursorRead name.now id count) number state reply.new.bytes (changed result None None state) }
+    ensures quiet { is_write result ≡ false }
+    ensures space { store.new.space ≡ store.old.space }
+    ensures ready { store.new.ready ≡ store.old.ready }
+    ensures last { store.new.last ≡ store.old.last }
+    ensures rises { store.old.reads ≤ store.new.reads }
+    ensures room { reply.old.room ≤ reply.new.room }
+{
+    let Some(index) = index_named(indexes, name) else {
+        reply.set_fault(b"Unknown index name");
+        return Change::Nothing;
+    };
+    match cursors.find(index.def().serial, id) {
+        Some(cursor) => read_next(store, index, alloc, cursor, count, reply),
+        None => {
+            reply.set_fault(b"Cursor not found");
+            Change::Nothing
+        }
+    }
+}
+
+/// Reads a cursor of an index.
+fn read_next<'a>(
+    store: &mut HashStore,
+    index: &FtIndex,
+    alloc: Global,
+    cursor: &Cursor,
+    count: Option<u32>,
+    reply: &mut ReplyBuffer,
+) -> Change<'a>
+    requires id { cursor.now.id < 2 ^ 63 }
+    requires stands { Indexes index.now store.old.space }
+    requires sound { IsIndex index.now }
+    requires few { index.now.table.last < 2 ^ 62 }
+    requires values { All (λ (doc : Doc). ValuesFit doc.hash) store.old.space }
+    ensures next { IsNext index.now.def store.old.space count cursor.now result reply.new.bytes }
+    ensures space { store.new.space ≡ store.old.space }
+    ensures ready { store.new.ready ≡ store.old.ready }
+    ensures last { store.new.last ≡ store.old.last }
+    ensures rises { store.old.reads ≤ store.new.reads }
+    ensures room { reply.old.room ≤ reply.new.room }
+{
+    let count = count.unwrap_or(cursor.count);
+    let Some(told) = tell_part(store, index, alloc, &cursor.body, count, cursor.id, reply) else {
+        return Change::Nothing;
+    };
+    let place = CursorPlace {
+        serial: cursor.serial,
+        id: cursor.id,
+    };
+    if told.ends {
+        return Change::CloseCursor(place);
+    }
+    Change::ReadCursor(place, told.taken)
+}
+
+/// Prepares FT.CURSOR DEL, and writes the reply. It takes no memory.
+pub fn delete_cursor<'a>(
+    held: &mut IndexedStore,
+    index: &[u8],
+    id: u64,
+    reply: &mut ReplyBuffer,
+) -> Change<'a>
+    requires none { held.old.opens ≡ None }
+    ensures prepares { Prepares (CursorDel index.now id) held.old held.new reply.new.bytes result }
+    ensures quiet { is_write result ≡ false }
+    ensures same { held.new ≡ held.old }
+    ensures room { reply.old.room ≤ reply.new.room }
+{
+    let Some(index) = held.index_named(index) else {
+        reply.set_fault(b"Unknown index name");
+        return Change::Nothing;
+    };
+    let serial = index.def().serial;
+    let there = held.cursor(serial, id).is_some();
+    if !there {
+        reply.set_fault(b"Cursor not found");
+        return Change::Nothing;
+    }
+    reply.set_short(b"+OK\r\n");
+    Change::CloseCursor(CursorPlace { serial, id })
+}

@@ -1,0 +1,373 @@
+//! FT.AGGREGATE with WITHCURSOR: the first rows, and a cursor for the others.
+ghost use Rattle.std.specs.Prelude.{◌≡◌, ◌<◌, ◌≤◌, ◌^◌, None, Some, false, length, map, nat_le, true, IfOk};
+ghost use Rattle.std.specs.List.{All, list_all};
+ghost use Rattle.agg_pipeline.specs.Stream.{is_of_rows};
+ghost use Rattle.cmd_parse.specs.Aggregating.{aggregate_of};
+ghost use Rattle.cmd_parse.specs.Asked.{Aggregate};
+ghost use Rattle.cursor_book.specs.Cursors.{body_left};
+ghost use Rattle.cursor_book.specs.declared.cursor.Body.TheVariants as body;
+ghost use Rattle.ft_base.specs.declared.doc.Doc.{Doc};
+ghost use Rattle.ft_base.specs.declared.limits.TheConstants.{MAX_WORD_BYTES};
+ghost use Rattle.ft_index.specs.Index.{Indexes, IsIndex};
+ghost use Rattle.ft_machine.specs.Aggregating.{aggregate_rows};
+ghost use Rattle.ft_machine.specs.Machine.{State};
+ghost use Rattle.ft_machine.specs.Opening.{body_of, cells_alone, most_cursors};
+ghost use Rattle.ft_machine.specs.Parts.{Part};
+ghost use Rattle.ft_machine.specs.Step.{last_number};
+ghost use Rattle.ft_meaning.specs.Holds.{found_of};
+ghost use Rattle.ft_meaning.specs.Meaning.{ValuesFit};
+ghost use Rattle.index_commands.specs.Parts.{DoesFirst, IsFirst, IsKept, first_left};
+ghost use Rattle.indexed_store.specs.Changing.{is_write};
+ghost use Rattle.indexed_store.specs.DefinitionsOf.{definitions_of};
+ghost use Rattle.indexed_store.specs.Preparing.{Prepares};
+ghost use Rattle.indexed_store.specs.Standing.{InStep};
+
+use crate::part::{PartTold, tell_part};
+use crate::search::ids_found;
+use agg_pipeline::{StreamSteps, are_of_rows};
+use cmd_parse::{AggregateSpec, CursorSpec};
+use cursor_book::{Body, Cursor, RowsLeft, Taken};
+use ft_base::{NoMemory, Query, Row, Steps};
+use ft_index::FtIndex;
+use hash_store::HashStore;
+use indexed_store::{Change, IndexedStore, index_named};
+use query_parse::parse;
+use reply_buffer::ReplyBuffer;
+use search_exec::found_rows;
+use std::alloc::Global;
+use std::marker::Brand;
+use std::sync::ledger::{Blank, Ledger};
+
+/// The most cursors of an index.
+const MOST_CURSORS: usize = 128;
+
+/// What is left behind the first read, and the serial of the index.
+#[derive(Drop)]
+pub struct First {
+    pub serial: u64,
+    pub body: Body,
+}
+
+/// Prepares a cursor, and writes its first rows. A cursor that these end is never kept.
+pub fn open_cursor<'a>(
+    held: &mut IndexedStore,
+    asked: AggregateSpec<'_>,
+    cursor: CursorSpec,
+    reply: &mut ReplyBuffer,
+) -> Change<'a>
+    requires number { held.old.next < last_number }
+    requires query { length asked.query.now ≤ MAX_WORD_BYTES }
+    requires none { held.old.opens ≡ None }
+    requires cursor { asked.cursor ≡ Some cursor }
+    ensures prepares { Prepares (Aggregate (aggregate_of asked.entry)) held.old held.new reply.new.bytes result }
+    ensures quiet { is_write result ≡ false }
+    ensures room { reply.old.room ≤ reply.new.room }
+{
+    let number = held.next;
+    let first = read_first(
+        &mut held.store,
+        held.indexes.as_slice(),
+        held.alloc,
+        asked,
+        cursor,
+        number,
+        reply,
+    );
+    match first {
+        Some(first) => keep(held, first, cursor, reply),
+        None => Change::Nothing,
+    }
+}
+
+/// Lets a cursor wait, unless its index has too many.
+fn keep<'a>(
+    held: &mut IndexedStore,
+    first: First,
+    cursor: CursorSpec,
+    reply: &mut ReplyBuffer,
+) -> Change<'a>
+    requires number { held.old.next < last_number }
+    requires none { held.old.opens ≡ None }
+    ensures kept { IsKept first cursor held.old held.new reply.old.bytes reply.new.bytes result }
+    ensures room { reply.old.room ≤ reply.new.room }
+{
+    if is_full(held.cursor_count(first.serial)) {
+        drop(first);
+        reply.set_fault(b"Too many cursors");
+        return Change::Nothing;
+    }
+    let cursor = Cursor {
+        id: held.next,
+        serial: first.serial,
+        last_use: held.latest,
+        max_idle: cursor.max_idle,
+        count: cursor.count,
+        body: first.body,
+    };
+    match held.prepare_cursor(cursor) {
+        Ok(()) => Change::OpenCursor,
+        Err(_) => {
+            reply.set_no_memory();
+            Change::Nothing
+        }
+    }
+}
+
+/// Whether an index that has so many cursors has no room for one more.
+fn is_full(count: usize) -> bool
+    ensures { result ≡ nat_le most_cursors count }
+{
+    count >= MOST_CURSORS
+}
+
+/// The first read in the event of a number: it writes the reply, and answers what is left, if the cursor does not end.
+fn read_first(
+    store: &mut HashStore,
+    indexes: &[FtIndex],
+    alloc: Global,
+    asked: AggregateSpec<'_>,
+    cursor: CursorSpec,
+    number: u64,
+    reply: &mut ReplyBuffer,
+) -> Option<First>
+    requires number { number < last_number }
+    requires query { length asked.query.now ≤ MAX_WORD_BYTES }
+    requires cursor { asked.cursor ≡ Some cursor }
+    requires step { InStep store.old indexes.now last_number }
+    ensures does { (state : State) → state.space ≡ store.old.space → state.definitions ≡ definitions_of indexes.now
+        → DoesFirst (aggregate_of asked.entry) cursor number state result reply.new.bytes }
+    ensures space { store.new.space ≡ store.old.space }
+    ensures ready { store.new.ready ≡ store.old.ready }
+    ensures last { store.new.last ≡ store.old.last }
+    ensures rises { store.old.reads ≤ store.new.reads }
+    ensures room { reply.old.room ≤ reply.new.room }
+{
+    let Some(index) = index_named(indexes, asked.index) else {
+        drop(asked);
+        reply.set_fault(b"Unknown index name");
+        return None;
+    };
+    match parse(alloc, asked.query, index.def(), &asked.params) {
+        Ok(query) => read_new(
+            store,
+            index,
+            alloc,
+            query,
+            asked,
+            cursor.count,
+            number,
+            reply,
+        ),
+        Err(fault) => {
+            drop(asked);
+            reply.set_query_refusal(fault);
+            None
+        }
+    }
+}
+
+/// The same of a query, in its index.
+fn read_new(
+    store: &mut HashStore,
+    index: &FtIndex,
+    alloc: Global,
+    query: Query,
+    asked: AggregateSpec<'_>,
+    count: u32,
+    number: u64,
+    reply: &mut ReplyBuffer,
+) -> Option<First>
+    requires number { number < last_number }
+    requires stands { Indexes index.now store.old.space }
+    requires sound { IsIndex index.now }
+    requires few { index.now.table.last < 2 ^ 62 }
+    requires values { All (λ (doc : Doc). ValuesFit doc.hash) store.old.space }
+    ensures first { IsFirst index.now.def (body_of (aggregate_of asked.entry) index.now.def query store.old.space) store.old.space
+        count number result reply.new.bytes }
+    ensures space { store.new.space ≡ store.old.space }
+    ensures ready { store.new.ready ≡ store.old.ready }
+    ensures last { store.new.last ≡ store.old.last }
+    ensures rises { store.old.reads ≤ store.new.reads }
+    ensures room { reply.old.room ≤ reply.new.room }
+{
+    match new_body(store, index, alloc, query, asked) {
+        Ok(body) => read_of(store, index, alloc, body, count, number, reply),
+        Err(_) => {
+            reply.set_no_memory();
+            None
+        }
+    }
+}
+
+/// The first read of a body.
+fn read_of(
+    store: &mut HashStore,
+    index: &FtIndex,
+    alloc: Global,
+    body: Body,
+    count: u32,
+    number: u64,
+    reply: &mut ReplyBuffer,
+) -> Option<First>
+    requires number { number < last_number }
+    requires stands { Indexes index.now store.old.space }
+    requires sound { IsIndex index.now }
+    requires few { index.now.table.last < 2 ^ 62 }
+    requires values { All (λ (doc : Doc). ValuesFit doc.hash) store.old.space }
+    ensures first { IsFirst index.now.def body store.old.space count number result reply.new.bytes }
+    ensures space { store.new.space ≡ store.old.space }
+    ensures ready { store.new.ready ≡ store.old.ready }
+    ensures last { store.new.last ≡ store.old.last }
+    ensures rises { store.old.reads ≤ store.new.reads }
+    ensures room { reply.old.room ≤ reply.new.room }
+{
+    match tell_part(store, index, alloc, &body, count, number, reply) {
+        Some(told) => left_behind(index.def().serial, body, told),
+        None => {
+            drop(body);
+            None
+        }
+    }
+}
+
+/// What a first read leaves, if it does not end the cursor.
+fn left_behind(serial: u64, body: Body, told: PartTold) -> Option<First>
+    ensures { (part : Part) → told.taken ≡ part.taken → told.ends ≡ part.ends → result ≡ first_left serial body part }
+{
+    if told.ends {
+        drop(body);
+        return None;
+    }
+    Some(First {
+        serial,
+        body: body_left(body, told.taken),
+    })
+}
+
+/// What is left of a body behind a read.
+fn body_left(body: Body, taken: Taken) -> Body
+    ensures { result ≡ body_left taken body }
+{
+    let mut body = body;
+    body.take(taken);
+    body
+}
+
+/// What a new cursor is read from: documents one by one, or rows that are made at once.
+fn new_body(
+    store: &mut HashStore,
+    index: &FtIndex,
+    alloc: Global,
+    query: Query,
+    asked: AggregateSpec<'_>,
+) -> Result<Body, NoMemory>
+    requires stands { Indexes index.now store.old.space }
+    requires sound { IsIndex index.now }
+    requires few { index.now.table.last < 2 ^ 62 }
+    requires values { All (λ (doc : Doc). ValuesFit doc.hash) store.old.space }
+    ensures body { IfOk result (λ made. made ≡ body_of (aggregate_of asked.entry) index.now.def query store.old.space) }
+    ensures space { store.new.space ≡ store.old.space }
+    ensures ready { store.new.ready ≡ store.old.ready }
+    ensures last { store.new.last ≡ store.old.last }
+    ensures rises { store.old.reads ≤ store.new.reads }
+{
+    if are_of_rows(asked.steps.as_slice()) {
+        return Ok(stream_body(alloc, query, asked));
+    }
+    let body = rows_body(store, index, alloc, &query, &asked);
+    drop(query);
+    drop(asked);
+    body
+}
+
+/// A stream that begins with the first document.
+fn stream_body(alloc: Global, query: Query, asked: AggregateSpec<'_>) -> Body
+    requires { list_all is_of_rows asked.steps ≡ true }
+    ensures { result ≡ body.Stream query (asked.entry.load, asked.entry.steps) 0 }
+{
+    let steps = StreamSteps::new(alloc, asked.load, asked.steps).unwrap();
+    Body::Stream {
+        query,
+        steps,
+        after: 0,
+    }
+}
+
+/// The rows that all steps make of the documents found, for a cursor to keep.
+fn rows_body(
+    store: &mut HashStore,
+    index: &FtIndex,
+    alloc: Global,
+    query: &Query,
+    asked: &AggregateSpec<'_>,
+) -> Result<Body, NoMemory>
+    requires stands { Indexes index.now store.old.space }
+    requires sound { IsIndex index.now }
+    requires few { index.now.table.last < 2 ^ 62 }
+    requires values { All (λ (doc : Doc). ValuesFit doc.hash) store.old.space }
+    ensures body { IfOk result (λ made. made ≡ body.Rows (map cells_alone
+        (aggregate_rows asked.now.load asked.now.steps index.now.def (found_of query.now index.now.def store.old.space)))) }
+    ensures space { store.new.space ≡ store.old.space }
+    ensures ready { store.new.ready ≡ store.old.ready }
+    ensures last { store.new.last ≡ store.old.last }
+    ensures rises { store.old.reads ≤ store.new.reads }
+{
+    let mut rows = all_rows::<Brand>(store, index, alloc, query, asked, Blank::new(1))?;
+    keep_cells(rows.as_mut_slice());
+    Ok(Body::Rows(RowsLeft::new(rows)))
+}
+
+/// The rows that all steps make of the documents found.
+fn all_rows<L: Ledger>(
+    store: &mut HashStore,
+    index: &FtIndex,
+    alloc: Global,
+    query: &Query,
+    asked: &AggregateSpec<'_>,
+    blank: Blank,
+) -> Result<Vec<Row>, NoMemory>
+    requires name { blank.name ≡ L.name }
+    requires parts { blank.parts ≡ L.parts }
+    requires some { 0 < L.parts }
+    requires stands { Indexes index.now store.old.space }
+    requires sound { IsIndex index.now }
+    requires few { index.now.table.last < 2 ^ 62 }
+    requires values { All (λ (doc : Doc). ValuesFit doc.hash) store.old.space }
+    ensures rows { IfOk result (λ rows. rows.items
+        ≡ aggregate_rows asked.now.load asked.now.steps index.now.def (found_of query.now index.now.def store.old.space)) }
+    ensures space { store.new.space ≡ store.old.space }
+    ensures ready { store.new.ready ≡ store.old.ready }
+    ensures last { store.new.last ≡ store.old.last }
+    ensures rises { store.old.reads ≤ store.new.reads }
+{
+    let mut counter = Steps::<L>::new(blank);
+    let mut iter = ids_found(store, index, alloc, query, 0, &mut counter)?;
+    let rows = found_rows(
+        alloc,
+        index.def(),
+        index,
+        store,
+        &mut iter,
+        &asked.load,
+        asked.steps.as_slice(),
+        &mut counter,
+    );
+    drop(iter);
+    drop(counter);
+    rows
+}
+
+/// Lets the documents of rows go: a row that waits to be read is kept for its cells alone.
+fn keep_cells(rows: &mut [Row])
+    ensures { rows.new ≡ map cells_alone rows.old }
+{
+    for row in rows.iter_mut() {
+        keep_row(row);
+    }
+}
+
+fn keep_row(row: &mut Row)
+    ensures { row.new ≡ cells_alone row.old }
+{
+    row.doc = None;
+}
