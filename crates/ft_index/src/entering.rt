@@ -12,7 +12,7 @@ use doc_table::DocTable;
 use ft_base::{Doc, IndexDef, NoMemory};
 use inverted_list::Markers;
 
-/// Puts a document's entries into the lists, under an id that is not live. Where memory is wanting
+/// Puts a document's entries into the lists, under an id that is not live. Out of memory,
 /// some of them may have come.
 pub fn enter(
     def: &IndexDef,

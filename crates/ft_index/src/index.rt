@@ -143,12 +143,12 @@ impl FtIndex {
     }
 
     /// Tries a document, and puts the entries of a member into the lists, under an id that is not
-    /// live. Where memory is wanting some of them may have come, which are dead.
+    /// live. Out of memory, some of them may have come, which are dead.
     pub fn prepare(&mut self, doc: &Doc, markers: &mut Markers) -> Result<Ready, NoMemory>
         requires id { self.old.table.last < doc.now.id }
         requires values { ValuesFit doc.now.hash }
         requires markers { AreBefore markers.old self.old.lists }
-        // Nothing of it is seen yet, whether memory was wanting or not.
+        // Nothing of it is seen yet, out of memory or not.
         ensures unseen { (docs : List Doc) → Indexes self.old docs → Indexes self.new docs }
         ensures live { self.new.table.live ≡ self.old.table.live }
         ensures def { self.new.def ≡ self.old.def }
@@ -161,7 +161,7 @@ impl FtIndex {
             → Indexes (committed self.new) (docs ++ doc.now ∷ [])) }
         ensures last { self.new.table.last ≤ doc.now.id }
         ensures sound { IsIndex self.new }
-        // Where it is no member, nothing else changes; where memory is wanting, nothing waits.
+        // Where it is no member, nothing else changes; out of memory nothing waits.
         ensures others { IfOk result (λ ready. ready.fit ≢ Member
             → self.new ≡ record self.old { waits = Some ready }) }
         ensures none { OnErr result (self.new.waits ≡ None) }

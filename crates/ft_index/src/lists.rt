@@ -114,14 +114,14 @@ impl IndexLists {
     }
 
     /// Puts a document's entries into the lists: one in the list of each of its words, of each of its
-    /// tags, and in a range for each of its numbers. Where memory is wanting some may have come.
+    /// tags, and in a range for each of its numbers. Out of memory, some may have come.
     pub fn add(&mut self, def: &IndexDef, doc: &Doc, markers: &mut Markers) -> Result<(), NoMemory>
         requires fields { length def.now.fields ≤ 1_024 }
         requires values { ValuesFit doc.now.hash }
         requires later { (last : ℕ) × (last < doc.now.id) × AreUpTo last self.old }
         requires differ { MarkersDiffer self.old }
         requires before { AreBefore markers.old self.old }
-        // Nothing of it is seen while its id is not live, whether memory was wanting or not.
+        // Nothing of it is seen while its id is not live, out of memory or not.
         ensures unseen { (live : List (ℕ × List ℕ)) (docs : List Doc) → has_id live doc.now.id ≡ false
             → Has def.now live self.old docs → Has def.now live self.new docs }
         // Once the id is live, the lists stand for the document too.

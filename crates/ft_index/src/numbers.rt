@@ -81,7 +81,7 @@ fn entries_in_slot(slot: &Option<Ranges>) -> Option<u64>
     }
 }
 
-/// Puts an entry for each of the document's numbers into a range. Where memory is wanting some have
+/// Puts an entry for each of the document's numbers into a range. Out of memory, some have
 /// theirs.
 pub fn add_numbers(
     ranges: &mut [Option<Ranges>],

@@ -19,7 +19,7 @@ use posting_block::TagHit;
 use std::alloc::Global;
 use term_dict::TagLists;
 
-/// Puts an entry for the document into the list of each of its tags. Where memory is wanting some have
+/// Puts an entry for the document into the list of each of its tags. Out of memory, some have
 /// theirs.
 pub fn add_tags(
     lists: &mut TagLists,

@@ -27,7 +27,7 @@ const PLACES: u64 = 1 << 32;
 /// Words, each with its codes in rising order.
 type WordCodes = IndexMap<Vec<u8>, ListOfPlaces>;
 
-/// Puts an entry for the document into the list of each of its words. Where memory is wanting some
+/// Puts an entry for the document into the list of each of its words. Out of memory, some
 /// have theirs.
 pub fn add_words(
     terms: &mut Terms,
@@ -131,7 +131,7 @@ fn first_code(alloc: Global, word: &[u8], code: u64) -> Result<(Vec<u8>, ListOfP
     Ok((Vec::from_slice(alloc, word)?, places))
 }
 
-/// Adds an entry of this id to the list of each word. Where memory is wanting some have theirs.
+/// Adds an entry of this id to the list of each word. Out of memory, some have theirs.
 fn add_all(
     terms: &mut Terms,
     found: WordCodes,

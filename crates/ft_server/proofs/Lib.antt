@@ -1,4 +1,5 @@
 mod CallerLaws
+pub mod Crossing
 mod EndingLaws
 mod FormLaws
 mod NumberLaws

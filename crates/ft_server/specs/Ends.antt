@@ -25,7 +25,7 @@ pub record IsFaulty (input : List ℕ) (fault : FaultAt) : Type 0 where
   pub no_quit : quits (stream_of input).commands ≡ false
   pub fault_is : fault_of input ≡ Some fault
 
--- why memory may be wanting: at the start; for a request of at least 64 KiB; or for a command of more than 1,024 words
+-- why memory may run out: at the start; for a request of at least 64 KiB; or for a command of more than 1,024 words
 abbrev pub MayLack : List ℕ → List Command → Type 0
 MayLack input others =
     (input ≡ [])
@@ -52,7 +52,7 @@ module _ (A : List Said → Option (List ℕ) → Option (List ℕ) → Type 0) 
       ⊎ ((fault : FaultAt) × (front : List ℕ) × IsFaulty input fault × IsCut front (fault_text fault.kind) × Served A input [] front before after)))
   -- as many bytes were read as may be
   Ends end.ByteLimit before after = (input : List ℕ) × (length input ≡ 2 ^ 40) × IsOpen input × Served A input [] [] before after
-  -- memory is wanting
+  -- memory runs out
   Ends end.NoMemory before after = (input : List ℕ) × (others : List Command) × MayLack input others × Served A input others [] before after
 
 -- how the program ends where its connection ends so

@@ -1,4 +1,4 @@
--- Commands that are prepared, and those for which memory was wanting.
+-- Commands that are prepared, and those for which memory ran out.
 use Rattle.std.proofs.Common.{◌≡◌, ◌-◌, Bor, ℕ, List, length, drop, refl, sym, ap, ◌∙◌, subst, inl, inr}
 use Rattle.std.specs.Prelude.{◌+ℤ◌, ℤ, pos, codes, Bool, true, false, Option, Some, is_some}
 use Rattle.std.specs.Fmt.{signed_decimal}
@@ -31,7 +31,7 @@ use Rattle.indexed_store.specs.Writing.{written}
 use Rattle.indexed_store.specs.declared.change.Change.{Change}
 use Rattle.indexed_store.specs.declared.change.Change.TheVariants.{Nothing, Move, Write}
 
--- a command for which memory was wanting
+-- a command for which memory ran out
 pub prepares-wanting : (asks : Asked) (old new : Holding) (said : List ℕ) → MayWant asks → Stays old new → said ≡ spelling out_of_memory → Prepares asks old new said Nothing
 prepares-wanting asks old new said may stays is = record {
   does = wants asks old.next (state_of old) said may is;

@@ -15,7 +15,7 @@ use Rattle.ft_machine.specs.Step.{Does, Told}
 use Rattle.ft_machine.proofs.Stepping.{told, wants}
 use Rattle.hash_commands.proofs.PlainLaws.{of_verb, stays-plain}
 
--- a message that is written back, or for which memory was wanting
+-- a message that is written back, or for which memory ran out
 pub message-plain : (verb known : Verb) (args : List (List ℕ)) (number : ℕ) (state : State) (written : List ℕ) (message : List ℕ) → verb ≡ known → PlainMayWant known args → plain known args number state (answered (Bulk (first args)) state) → message ≡ first args
     → (written ≡ spelling (Bulk message)) ⊎ (written ≡ spelling out_of_memory) → Does (Plain verb args) number state written state
 message-plain verb known args number state written message is may given same (inl said) =
@@ -23,7 +23,7 @@ message-plain verb known args number state written message is may given same (in
 message-plain verb known args number state written message is may given same (inr want) =
     of_verb verb known args number state state written is (wants (Plain known args) number state written may want)
 
--- a reply that was made, or for which memory was wanting
+-- a reply that was made, or for which memory ran out
 pub told-plain : {E : Type 0} (verb known : Verb) (args : List (List ℕ)) (number : ℕ) (state : State) (written : List ℕ) (made : Result Reply E) (reply wanted : Reply) → verb ≡ known → PlainMayWant known args → plain known args number state (answered wanted state)
     → reply ≡ wanted → IfOk made (λ r. r ≡ reply) → Told made written → Does (Plain verb args) number state written state
 told-plain {E} verb known args number state written made reply wanted is may given same each said =

@@ -1,5 +1,9 @@
 pub mod LeastLaws
 pub mod EntryLaws
+pub mod BlockLaws
+pub mod ReadAheadLaws
+pub mod ReadingLaws
+pub mod AheadLaws
 pub mod LeafLaws
 pub mod CodeLaws
 pub mod LoopLaws

@@ -18,7 +18,7 @@ use Rattle.id_iters.specs.declared.iter.Iter.TheVariants as variant
 use Rattle.id_iters.specs.declared.iter.Iter.TheViews as views
 use Rattle.std.specs.Box.{with_value}
 use Rattle.id_iters.proofs.Layers.{about_inner, about_and, about_or, about_not, ready_and, ready_or, ready_not, ready_leaf, ready_phrase, ready_all, ready_optional, ready_empty, ready_rolled}
-use Rattle.id_iters.proofs.PlaceLaws.{leaf_waits}
+use Rattle.id_iters.proofs.PlaceLaws.{leaf_waits, word_waits}
 
 along : {A B : Type 0} → A ≡ B → A → B
 along e x = subst (λ (T : Type 0). T) e x
@@ -82,7 +82,7 @@ module _ (held : Held) where
       subst (λ (p : PhraseIter). LeavesReady held p.words from) (sym same) (along (ready_phrase held phrase from) ((subst (λ (i : Iter). Ready held i from) is r).later from (omega arith)))
 
   pub phrase_ready : (phrase : PhraseIter) (from : ℕ) → LeavesReady held phrase.words from → Ready held (variant.Phrase phrase) from
-  phrase_ready phrase from r = record { later = λ f g. along (sym (ready_phrase held phrase f)) (λ k d l. leaf_waits held _ from f (r k d l) g) }
+  phrase_ready phrase from r = record { later = λ f g. along (sym (ready_phrase held phrase f)) (λ k d l. word_waits held _ from f (r k d l) g) }
 
   pub and_parts : (parts : List Iter) (from : ℕ) → Ready held (variant.And parts) from → All (λ p. Ready held p from) parts
   and_parts parts from r = λ k d h. record { later = λ f g. All-from_recursion (λ p. ReadyAt held p f) parts (along (ready_and held parts f) (r.later f g)) k d h }

@@ -1,21 +1,24 @@
 //! The ids of one list.
-ghost use Rattle.std.specs.Prelude.{◌≡◌, ◌<◌, ◌≤◌, ◌+◌, ◌&&◌, IfOk, IfSome};
-ghost use Rattle.std.specs.Option.{option_copied};
-ghost use Rattle.id_iters.specs.Entries.{codes_at, has_entry};
-ghost use Rattle.id_iters.specs.Held.{AreLists, entries_of};
-ghost use Rattle.id_iters.specs.Least.{IsLeast};
+ghost use Rattle.std.specs.Prelude.{◌≡◌, ◌<◌, ◌≤◌, ◌+◌, ◌&&◌, ℕ, [], IfOk, IfSome};
+ghost use Rattle.id_iters.specs.Entries.{codes_at};
+ghost use Rattle.id_iters.specs.Held.{Held, AreLists};
+ghost use Rattle.id_iters.specs.Least.{IsLeast, NoneBetween};
 ghost use Rattle.id_iters.specs.Leaves.{has_word, leaf_has, word_entries};
-ghost use Rattle.id_iters.specs.Places.{IsSoundIn, LeafReady, StandAt, StandsBehind};
+ghost use Rattle.id_iters.specs.Places.{FitsList, LeafReady, StandAt, WordReady};
 
-use crate::entry::{EveryHit, HitTest, Interval, seek_entry};
+use crate::blocks::read_in;
+use crate::hit_test::{EveryHit, Interval};
 use crate::list_name::ListName;
 use crate::lists::Lists;
+use crate::read_ahead::ReadAhead;
 use ft_base::{Fields, NoMemory, Steps};
-use inverted_list::{List, Place};
-use posting_block::{ListOfPlaces, Payload, TextHit};
+use inverted_list::Place;
+use posting_block::{ListOfPlaces, TextHit};
+use std::alloc::Global;
 use std::sync::ledger::Ledger;
 
-/// The ids of a list that count: by `fields` in the list of a word, from `low` to `high` in that of a range.
+/// The ids of a list that count: by `fields` in the list of a word, from `low` to `high` in that of a range. The ids `ahead`
+/// are those up to the place that were read and not given out.
 #[derive(Drop)]
 pub struct Leaf {
     pub list: ListName,
@@ -23,10 +26,44 @@ pub struct Leaf {
     pub fields: Fields,
     pub low: i64,
     pub high: i64,
+    pub ahead: ReadAhead,
 }
 
 impl Leaf {
+    /// A leaf that was not asked. It takes no memory.
+    pub fn new(
+        alloc: Global,
+        list: ListName,
+        place: Place,
+        fields: Fields,
+        low: i64,
+        high: i64,
+    ) -> Leaf
+        ensures leaf { result ≡ record {
+          list = list;
+          place = place;
+          fields = fields;
+          low = low;
+          high = high;
+          ahead = [];
+        } }
+        ensures ready { (held : Held) (from : ℕ)
+            → FitsList held list place → place.last < from → LeafReady held result from }
+        ensures word_ready { (held : Held) (from : ℕ)
+            → FitsList held list place → place.last < from → WordReady held result from }
+    {
+        Leaf {
+            list,
+            place,
+            fields,
+            low,
+            high,
+            ahead: ReadAhead::new(alloc),
+        }
+    }
+
     /// The least live id from `from` on that the leaf has. After `NoMemory` the leaf may only be dropped.
+    #[inline(always)]
     pub fn seek<T: Lists, L: Ledger>(
         &mut self,
         lists: &T,
@@ -37,34 +74,62 @@ impl Leaf {
         requires ready { LeafReady (T.held lists.now) self.old from }
         ensures least { IfOk result (λ r. IsLeast
             (λ id. (T.held lists.now).live id && leaf_has (T.held lists.now) self.old id) from r) }
-        ensures same { self.new ≡ record self.old { place = self.new.place } }
+        ensures same { self.new ≡ record self.old { place = self.new.place; ahead = self.new.ahead } }
+        ensures ready { IfOk result (λ r. IfSome r (λ id.
+            LeafReady (T.held lists.now) self.new (id + 1))) }
+        ensures counts { steps.old ≤ steps.new }
+    {
+        if let Some(id) = self.ahead.next_live(lists, from) {
+            return Ok(Some(id));
+        }
+        self.read_on(lists, from, steps)
+    }
+
+    // The same, where no id is left up to the place. The list is looked up by its name.
+    #[inline(never)]
+    fn read_on<T: Lists, L: Ledger>(
+        &mut self,
+        lists: &T,
+        from: u64,
+        steps: &mut Steps<L>,
+    ) -> Result<Option<u64>, NoMemory>
+        requires lists { AreLists (T.held lists.now) }
+        requires sound { FitsList (T.held lists.now) self.old.list self.old.place }
+        requires used { NoneBetween (λ id. (T.held lists.now).live id
+            && leaf_has (T.held lists.now) self.old id) from (self.old.place.last + 1) }
+        ensures least { IfOk result (λ r. IsLeast
+            (λ id. (T.held lists.now).live id && leaf_has (T.held lists.now) self.old id) from r) }
+        ensures same { self.new ≡ record self.old { place = self.new.place; ahead = self.new.ahead } }
         ensures ready { IfOk result (λ r. IfSome r (λ id.
             LeafReady (T.held lists.now) self.new (id + 1))) }
         ensures counts { steps.old ≤ steps.new }
     {
         match &self.list {
-            ListName::Word { text } => seek_in(
+            ListName::Word { text } => read_in(
                 lists.text(text.as_slice()),
                 &self.fields,
                 &mut self.place,
+                &mut self.ahead,
                 lists,
                 from,
                 steps,
             ),
-            ListName::Tag { field, text } => seek_in(
+            ListName::Tag { field, text } => read_in(
                 lists.tag(*field, text.as_slice()),
                 &EveryHit,
                 &mut self.place,
+                &mut self.ahead,
                 lists,
                 from,
                 steps,
             ),
             ListName::Range { field, low } => {
                 let interval = self.interval();
-                seek_in(
+                read_in(
                     lists.range(*field, *low),
                     &interval,
                     &mut self.place,
+                    &mut self.ahead,
                     lists,
                     from,
                     steps,
@@ -85,6 +150,7 @@ impl Leaf {
     }
 
     /// The least live id from `from` on that has the leaf's word, in any field.
+    #[inline(always)]
     pub(crate) fn seek_word<T: Lists, L: Ledger>(
         &mut self,
         lists: &T,
@@ -92,26 +158,53 @@ impl Leaf {
         steps: &mut Steps<L>,
     ) -> Result<Option<u64>, NoMemory>
         requires lists { AreLists (T.held lists.now) }
-        requires ready { LeafReady (T.held lists.now) self.old from }
+        requires ready { WordReady (T.held lists.now) self.old from }
         ensures least { IfOk result (λ r. IsLeast
             (λ id. (T.held lists.now).live id
             && has_word (T.held lists.now) self.old.list id) from r) }
-        ensures same { self.new ≡ record self.old { place = self.new.place } }
-        ensures behind { IfOk result (λ r. IfSome r (λ id.
+        ensures same { self.new ≡ record self.old { place = self.new.place; ahead = self.new.ahead } }
+        ensures at { IfOk result (λ r. IfSome r (λ id.
             StandAt (T.held lists.now) self.new id)) }
         ensures counts { steps.old ≤ steps.new }
     {
-        seek_in(
+        if let Some(id) = self.ahead.next_live(lists, from) {
+            return Ok(Some(id));
+        }
+        self.read_word(lists, from, steps)
+    }
+
+    // The same, where no id is left up to the place.
+    #[inline(never)]
+    fn read_word<T: Lists, L: Ledger>(
+        &mut self,
+        lists: &T,
+        from: u64,
+        steps: &mut Steps<L>,
+    ) -> Result<Option<u64>, NoMemory>
+        requires lists { AreLists (T.held lists.now) }
+        requires sound { FitsList (T.held lists.now) self.old.list self.old.place }
+        requires used { NoneBetween (λ id. (T.held lists.now).live id
+            && has_word (T.held lists.now) self.old.list id) from (self.old.place.last + 1) }
+        ensures least { IfOk result (λ r. IsLeast
+            (λ id. (T.held lists.now).live id
+            && has_word (T.held lists.now) self.old.list id) from r) }
+        ensures same { self.new ≡ record self.old { place = self.new.place; ahead = self.new.ahead } }
+        ensures at { IfOk result (λ r. IfSome r (λ id.
+            StandAt (T.held lists.now) self.new id)) }
+        ensures counts { steps.old ≤ steps.new }
+    {
+        read_in(
             self.list.word_list(lists),
             &EveryHit,
             &mut self.place,
+            &mut self.ahead,
             lists,
             from,
             steps,
         )
     }
 
-    /// The codes of the leaf's word in the document behind which the place stands.
+    /// The codes of the leaf's word in a document that has it.
     pub(crate) fn codes<T: Lists>(&self, lists: &T, id: u64) -> Result<ListOfPlaces, NoMemory>
         requires { StandAt (T.held lists.now) self.now id }
         ensures { IfOk result (λ codes. codes
@@ -120,34 +213,7 @@ impl Leaf {
         let Some(list) = self.list.word_list(lists) else {
             unreachable!()
         };
-        let TextHit { places } = list.hit(&self.place)?;
+        let TextHit { places } = list.hit(id)?;
         Ok(places)
-    }
-}
-
-// The least live id from `from` on whose hit is wanted in the list, where there is one.
-fn seek_in<P: Payload, H: HitTest<P>, T: Lists, L: Ledger>(
-    list: Option<&List<P>>,
-    test: &H,
-    place: &mut Place,
-    lists: &T,
-    from: u64,
-    steps: &mut Steps<L>,
-) -> Result<Option<u64>, NoMemory>
-    requires lists { AreLists (T.held lists.now) }
-    requires sound { IsSoundIn (option_copied list) place.old }
-    requires ahead { place.old.last < from }
-    ensures least { IfOk result (λ r. IsLeast
-        (λ id. (T.held lists.now).live id
-        && has_entry (H.wants test.now) (entries_of (option_copied list.entry)) id) from r) }
-    ensures behind { IfOk result (λ r. IfSome r (λ id.
-        StandsBehind (option_copied list.entry) place.new id)) }
-    ensures sound { IfOk result (λ r. IfSome r (λ _. IsSoundIn (option_copied list.entry) place.new)) }
-    ensures last { IfOk result (λ r. IfSome r (λ id. place.new.last ≡ id)) }
-    ensures counts { steps.old ≤ steps.new }
-{
-    match list {
-        Some(list) => seek_entry(list, test, place, lists, from, steps),
-        None => Ok(None),
     }
 }

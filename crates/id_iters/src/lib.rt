@@ -5,8 +5,9 @@
 //! Read `specs/Sets.antt` first, which says what ids an iterator has, then `iter.rt`.
 #![tactic(auto)]
 
-mod entry;
+mod blocks;
 mod hint;
+mod hit_test;
 mod iter;
 mod leaf;
 mod list_name;
@@ -14,6 +15,8 @@ mod lists;
 mod maker;
 mod phrase;
 mod places;
+mod read_ahead;
+mod reading;
 
 /// Lists and places in them, kept for a reader that comes again.
 pub use hint::{Hint, Hints};
@@ -27,3 +30,5 @@ pub use list_name::ListName;
 pub use lists::Lists;
 /// The ids where words stand together.
 pub use phrase::PhraseIter;
+/// Ids that a reader has read ahead.
+pub use read_ahead::ReadAhead;

@@ -97,7 +97,6 @@ fn open_in<P: Payload, L: Ledger>(
         None => Place {
             marker: Marker { event: 0, nth: 0 },
             block: 0,
-            at: 0,
             last: after,
         },
     }
@@ -118,10 +117,9 @@ fn is_first(place: Place, after: u64) -> bool
     ensures { IsTrue result ↔ (place ≡ record {
       marker = record { event = 0; nth = 0 };
       block = 0;
-      at = 0;
       last = after;
     }) }
 {
     let marker = Marker { event: 0, nth: 0 };
-    place.marker == marker && place.block == 0 && place.at == 0 && place.last == after
+    place.marker == marker && place.block == 0 && place.last == after
 }

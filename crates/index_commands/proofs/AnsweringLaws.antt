@@ -40,7 +40,7 @@ pub record Queried : Type 0 where
   pub query : List ℕ
   pub outcome : ℕ → State → IndexDef → Query → Outcome
 
--- it gives what the query does, and memory may be wanting
+-- it gives what the query does, and memory may run out
 pub record IsQuery (what : Queried) (number : ℕ) (state : State) : Type 0 where
   pub gives : (outcome : Outcome) → queried (index_of state.definitions what.name) what.params what.query (what.outcome number state) state outcome → given what.asks number state outcome
   pub may : MayWant what.asks

@@ -78,7 +78,7 @@ prepares-stays asks old new written stays same does = record {
   still = λ nothing. inr same;
 }
 
--- where memory was wanting for an index, no change is prepared
+-- where memory ran out for an index, no change is prepared
 pub prepares-wanting : (asks : Asked) (old new : Holding) (written : List ℕ) → MayWant asks → Stays old new → new.indexes ≡ old.indexes → written ≡ spelling out_of_memory → Prepares asks old new written Nothing
 prepares-wanting asks old new written may stays same said = prepares-stays asks old new written stays same (wants asks old.next (state_of old) written may said)
 

@@ -45,7 +45,7 @@ informs-none indexes state number args written same none said =
     gives (Plain Info args) number state (answered (Fault unknown_index) state) written state
     (subst (λ (i : Option Defined). informed i state (answered (Fault unknown_index) state)) (sym (named indexes state (first args) None same none)) refl) said refl
 
--- there is, and what was told of it was answered, or memory was wanting
+-- there is, and what was told of it was answered, or memory ran out
 pub informs-index : {E : Type 0} (indexes : List Index) (index : Index) (state : State) (number : ℕ) (args : List (List ℕ)) (written : List ℕ) (made : Result Reply E) → state.definitions ≡ definitions_of indexes
     → find (is_named (first args)) indexes ≡ Some index → IfOk made (λ reply. Tells (defined index) state.space state.cursors reply) → Told made written → Does (Plain Info args) number state written state
 informs-index indexes index state number args written made same there tells said =

@@ -31,7 +31,7 @@ pub record IsRead (part : Part) (read : PartRead) : Type 0 where
   pub taken : read.taken ≡ part.taken
   pub ends : read.ends ≡ part.ends
 
--- A part is told, with what it takes of the cursor; or memory was wanting.
+-- A part is told, with what it takes of the cursor; or memory ran out.
 abbrev pub IsTold : Part → ℕ → Option PartTold → List ℕ → Type 0
 IsTold part id None written = written ≡ spelling out_of_memory
 IsTold part id (Some told) written = (told.taken ≡ part.taken) × (told.ends ≡ part.ends) × (written ≡ spelling (part_reply id part))
@@ -42,7 +42,7 @@ IsTold part id (Some told) written = (told.taken ≡ part.taken) × (told.ends �
 abbrev pub first_left : ℕ → Body → Part → Option First
 first_left serial body part = if part.ends then None else Some (record { serial = serial; body = body_left part.taken body })
 
--- The first read of a body is told, and what is left is given; or memory was wanting.
+-- The first read of a body is told, and what is left is given; or memory ran out.
 abbrev pub IsFirst : IndexDef → Body → List Doc → ℕ → ℕ → Option First → List ℕ → Type 0
 IsFirst def body docs count number first written =
     let part = part_of def docs count body in
@@ -60,7 +60,7 @@ abbrev pub DoesFirst : Aggregating → CursorSpec → ℕ → State → Option F
 DoesFirst what spec number state None written = Does (Aggregate what) number state written state
 DoesFirst what spec number state (Some first) written = GoesOn what spec number state first written
 
--- a cursor waits, and the reply stays; or its index has too many, or memory was wanting
+-- a cursor waits, and the reply stays; or its index has too many, or memory ran out
 abbrev pub KeptBy : Bool → Option Cursor → Cursor → List ℕ → List ℕ → Change → Type 0
 KeptBy true opens cursor before written change = (written ≡ spelling (Fault (codes "Too many cursors"))) × (change ≡ Nothing)
 KeptBy false opens cursor before written change =
@@ -81,7 +81,7 @@ change_left cursor part =
     if part.ends then CloseCursor (record { serial = cursor.serial; id = cursor.id })
     else ReadCursor (record { serial = cursor.serial; id = cursor.id }) part.taken
 
--- The next read of a cursor is told, and what becomes of the cursor is given; or memory was wanting.
+-- The next read of a cursor is told, and what becomes of the cursor is given; or memory ran out.
 abbrev pub IsNext : IndexDef → List Doc → Option ℕ → Cursor → Change → List ℕ → Type 0
 IsNext def docs count cursor change written =
     let part = part_of def docs (unwrap_or count cursor.count) cursor.body in

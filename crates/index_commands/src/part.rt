@@ -164,7 +164,7 @@ pub struct PartTold {
     pub ends: bool,
 }
 
-/// Reads so many rows of a cursor's body, and writes them with the cursor's id. None where memory is wanting.
+/// Reads so many rows of a cursor's body, and writes them with the cursor's id. None where memory runs out.
 pub fn tell_part(
     store: &mut HashStore,
     index: &FtIndex,

@@ -106,7 +106,7 @@ impl IndexedStore {
         self.next = number;
     }
 
-    /// Lets a key's new hash wait in this event. Where memory is wanting, nothing is seen of it.
+    /// Lets a key's new hash wait in this event. Out of memory, nothing is seen of it.
     pub fn prepare_hash(&mut self, key: &[u8], hash: HashRec) -> Result<ReadyPut, NoMemory>
         requires number { self.old.next < last_number }
         requires filled { 0 < length hash }
@@ -156,7 +156,7 @@ impl IndexedStore {
         self.indexes.len()
     }
 
-    /// How many documents the keys have, each counted once. Memory is wanting for very many keys alone.
+    /// How many documents the keys have, each counted once. Memory runs out for very many keys alone.
     pub fn count_found(&mut self, keys: &Words<'_>) -> Result<usize, NoMemory>
         ensures count { IfOk result (λ count.
             count + length (without_keys self.old.space keys.now) ≡ length self.old.space) }
@@ -168,7 +168,7 @@ impl IndexedStore {
         count_found(&self.store, &mut self.ids, keys)
     }
 
-    /// Lets a cursor of this event wait until it is opened. Where memory is wanting, nothing is seen of it.
+    /// Lets a cursor of this event wait until it is opened. Out of memory, nothing is seen of it.
     pub fn prepare_cursor(&mut self, cursor: Cursor) -> Result<(), NoMemory>
         requires number { self.old.next < last_number }
         requires id { cursor.id ≡ self.old.next }

@@ -11,7 +11,7 @@ use ft_base::{Doc, NoMemory};
 use ft_index::FtIndex;
 use inverted_list::Markers;
 
-/// Puts a document's entries into each index, where nothing sees them yet. Where memory is wanting,
+/// Puts a document's entries into each index, where nothing sees them yet. Where memory runs out,
 /// some indexes may have them.
 pub fn prepare_all(
     indexes: &mut [FtIndex],

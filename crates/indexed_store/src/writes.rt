@@ -15,7 +15,7 @@ use hash_store::{HashStore, ReadyPut};
 use inverted_list::Markers;
 use std::alloc::Global;
 
-/// Lets a document wait in the store and in each index. Where memory is wanting, nothing is seen of
+/// Lets a document wait in the store and in each index. Out of memory, nothing is seen of
 /// it.
 fn prepare_write(
     store: &mut HashStore,

@@ -1,6 +1,7 @@
 -- What a contract sees of a posting list: its marker, and its entries in order of ids.
-use Rattle.std.specs.Prelude.{ℕ, ◌<◌, List, [], ◌∷◌, ◌++◌, Option, nat_eq}
+use Rattle.std.specs.Prelude.{ℕ, List, [], ◌∷◌, ◌++◌, Option, nat_eq}
 use Rattle.std.specs.Map.{lookup}
+pub use Rattle.posting_block.specs.Rising.{RisesAbove, last_id}
 use Rattle.inverted_list.specs.declared.marker.Marker.{Marker}
 use Rattle.inverted_list.specs.declared.marker.Markers.{Markers}
 
@@ -8,16 +9,6 @@ use Rattle.inverted_list.specs.declared.marker.Markers.{Markers}
 pub record Listing (P : Type 0) : Type 0 where
   pub marker : Marker
   pub entries : List (ℕ × P)
-
--- the ids rise strictly, and the first is above `low`
-abbrev pub RisesAbove : {P : Type 0} → ℕ → List (ℕ × P) → Type 0
-RisesAbove low [] = Unit {0}
-RisesAbove low (e ∷ es) = (low < e.0) × RisesAbove e.0 es
-
--- the id of the last entry, or `low` where there is none
-abbrev pub last_id : {P : Type 0} → ℕ → List (ℕ × P) → ℕ
-last_id low [] = low
-last_id low (e ∷ es) = last_id e.0 es
 
 -- the list with one more entry, behind the others
 abbrev pub with_entry : {P : Type 0} → Listing P → ℕ → P → Listing P

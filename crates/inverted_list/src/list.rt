@@ -1,32 +1,42 @@
-//! A posting list: ids that rise, each with its hit.
-ghost use Rattle.std.specs.Prelude.{◌≡◌, ◌<◌, ◌≤◌, ◌+◌, ◌-◌, ◌*◌, ◌^◌, ◌==◌, [], ◌∷◌, ◌++◌, IfOk, IfSome, IsSome, OnOk, OnErr, Some, length, unwrap_or};
+//! A posting list: ids that rise, each with its hit, in blocks of a hundred.
+//!
+//! Each hundred entries are sealed in a block that is shared and no longer changes; the rest is in the tail, to which the
+//! next entry goes. A reader passes over blocks by their last ids, and decodes only the one that it stops in.
+ghost use Rattle.std.specs.Prelude.{◌≡◌, ◌<◌, ◌≤◌, ◌+◌, ◌-◌, ◌*◌, ◌/◌, ◌^◌, [], IfOk, IfSome, IsSome, OnOk, OnErr, Some, length, unwrap_or};
+ghost use Rattle.std.specs.Option.{option_copied};
+ghost use Rattle.inverted_list.specs.Blocks.{Sound, listing};
 ghost use Rattle.inverted_list.specs.Listing.{Listing, RisesAbove, last_id, with_entry, hit_of};
-ghost use Rattle.inverted_list.specs.Places.{IsSound, Fits, KeepsPlaces, between, least, reach};
+ghost use Rattle.inverted_list.specs.Places.{IsSound, Fits, KeepsPlaces, between, least, reach, block_from, behind};
 
+use crate::block_search::{block_behind, blocks_below, blocks_from, blocks_in};
+use crate::growth::{put_last, share};
 use crate::marker::Marker;
+use crate::picture::{Picture, empty};
 use crate::place::Place;
-use crate::search::{reach_from, reach_in};
+use crate::reading::{block_at, decode_all, entry_from, walk};
 use ft_base::{NoMemory, Span, Steps};
-use posting_block::Payload;
+use posting_block::{Block, Payload};
 use std::alloc::Global;
 use std::marker::Model;
+use std::mem::replace;
 use std::sync::ledger::Ledger;
 
 /// The entries of one word, one tag or one range: ids that rise, each with its hit.
 #[derive(Drop)]
 pub struct List<P: Payload> {
-    marker: Marker,
-    entries: Vec<(u64, P)>,
+    alloc: Global,
+    parts: Picture<P>,
 }
 
 impl<P: Payload> Model for List<P> {
-    ghost use Rattle.inverted_list.specs.Listing.{Listing, RisesAbove};
+    ghost use Rattle.inverted_list.specs.Listing.{Listing};
+    ghost use Rattle.inverted_list.specs.Blocks.{Sound, listing};
 
     ghost Value = { Listing P };
 
-    ghost view = { λ l. record { marker = l.marker; entries = l.entries.items } };
+    ghost view = { λ l. listing l.parts };
 
-    ghost invariant = { λ l. RisesAbove 0 l.entries.items };
+    ghost invariant = { λ l. Sound l.parts };
 }
 
 impl<P: Payload> List<P> {
@@ -35,8 +45,8 @@ impl<P: Payload> List<P> {
         ensures { result ≡ record { marker = marker; entries = [] } }
     {
         List {
-            marker,
-            entries: Vec::new(alloc),
+            alloc,
+            parts: empty::<P>(alloc, marker),
         }
     }
 
@@ -45,29 +55,29 @@ impl<P: Payload> List<P> {
         ensures len { result ≡ length self.now.entries }
         ensures rises { RisesAbove 0 self.now.entries }
     {
-        self.entries.len() as u64
+        self.parts.sealed.len() as u64 * 100 + self.parts.tail.len() as u64
     }
 
     /// The name of the list's present form.
     pub fn marker(&self) -> Marker
         ensures { result ≡ self.now.marker }
     {
-        self.marker
+        self.parts.marker
     }
 
-    /// Adds an entry behind the others, with a copy of the hit.
+    /// Adds an entry behind the others, written straight into its block.
     pub fn append(&mut self, id: u64, hit: &P) -> Result<(), NoMemory>
         requires { last_id 0 self.old.entries < id }
         ensures ok { OnOk result (self.new ≡ with_entry self.old id hit.now) }
         ensures err { OnErr result (self.new ≡ self.old) }
         ensures places { KeepsPlaces id self.old self.new }
     {
-        self.entries.push((id, hit.copy()?))?;
+        put_last::<P>(self.alloc, &mut self.parts, id, hit)?;
         Ok(())
     }
 
     /// The place behind the last entry with an id of at most `after`. A hint of this list at the
-    /// same id is answered as it is, and takes no step. A step is an entry that is looked at.
+    /// same id is answered as it is, and takes no step. A step is a block whose last id is looked at.
     pub fn open_at<L: Ledger>(&self, hint: Option<Place>, after: u64, steps: &mut Steps<L>) -> Place
         requires { IfSome hint (λ h. IsSound h self.now) }
         ensures marker { result.marker ≡ self.now.marker }
@@ -79,38 +89,55 @@ impl<P: Payload> List<P> {
         ensures cost { 2 ^ (steps.new - steps.old) ≤ 2 * length self.now.entries + 1 }
     {
         if let Some(place) = hint {
-            if place.marker == self.marker && place.last == after {
+            if place.marker == self.parts.marker && place.last == after {
                 return place;
             }
         }
-        let entries = self.entries.as_slice();
+        let blocks = self.parts.sealed.as_slice();
         let all = Span {
             from: 0,
-            to: entries.len(),
+            to: blocks.len(),
         };
         Place {
-            marker: self.marker,
-            block: 0,
-            at: reach_in(entries, all, after, steps),
+            marker: self.parts.marker,
+            block: blocks_in::<P, L>(blocks, all, after, steps),
             last: after,
         }
     }
 
-    /// How many entries are known to have ids of at most the place's `last`.
-    fn known(&self, place: &Place) -> usize
-        requires { IsSound place.now self.now }
-        ensures most { result ≤ reach place.now.last self.now.entries }
-        ensures here { place.now.marker ≡ self.now.marker → result ≡ reach place.now.last self.now.entries }
+    /// The block of the first entry with an id from `from` on, lent. The place then stands behind that block. A step is a
+    /// block whose last id is looked at: at most one where the next block is it, and few where few blocks are passed over.
+    pub fn next_block<L: Ledger>(
+        &self,
+        place: &mut Place,
+        from: u64,
+        steps: &mut Steps<L>,
+    ) -> Option<&Block<P>>
+        requires sound { IsSound place.old self.now }
+        requires ahead { place.old.last < from }
+        ensures found { option_copied result ≡ block_from from self.now.entries }
+        ensures rises { RisesAbove 0 self.now.entries }
+        ensures marker { place.new.marker ≡ self.now.marker }
+        ensures sound { IsSound place.new self.now }
+        ensures last { place.new.last ≡ behind from (block_from from self.now.entries) }
+
+        // What it costs to pass over entries: from a place of this list, and from any place.
+        ensures counts { steps.old ≤ steps.new }
+        ensures cost { place.old.marker ≡ self.now.marker
+            → 2 ^ (steps.new - steps.old) ≤ 2 * (between place.old.last from self.now.entries + 1) ^ 2 }
+        ensures anew { 2 ^ (steps.new - steps.old) ≤ 2 * (between 0 from self.now.entries + 1) ^ 2 }
     {
-        if place.marker == self.marker {
-            place.at
-        } else {
-            0
-        }
+        let number = self.number_from(place, from, steps);
+        let Some(block) = self.block_of(number, from) else {
+            *place = self.behind(number, from - 1);
+            return None;
+        };
+        *place = self.behind(number, block.last());
+        Some(block)
     }
 
-    /// The least id of an entry from `from` on. The place then stands behind that entry. A step is
-    /// an entry that is looked at: one where no entry is passed over, and few where few are.
+    /// The least id of an entry from `from` on. The place then stands behind that entry. A step is a block whose last id is
+    /// looked at, or an entry that is decoded: at most a block of these.
     pub fn seek<L: Ledger>(&self, place: &mut Place, from: u64, steps: &mut Steps<L>) -> Option<u64>
         requires sound { IsSound place.old self.now }
         requires ahead { place.old.last < from }
@@ -120,42 +147,129 @@ impl<P: Payload> List<P> {
         ensures last { place.new.last ≡ unwrap_or result (from - 1) }
         ensures entry { IfSome result (λ id. IsSome (hit_of id self.now)) }
 
-        // What it costs to pass over entries: from a place of this list, and from any place.
         ensures counts { steps.old ≤ steps.new }
         ensures cost { place.old.marker ≡ self.now.marker
-            → 2 ^ (steps.new - steps.old) ≤ 2 * (between place.old.last from self.now.entries + 1) ^ 2 }
-        ensures anew { 2 ^ (steps.new - steps.old) ≤ 2 * (between 0 from self.now.entries + 1) ^ 2 }
+            → 2 ^ (steps.new - steps.old - 100) ≤ 2 * (between place.old.last from self.now.entries + 1) ^ 2 }
+        ensures anew { 2 ^ (steps.new - steps.old - 100) ≤ 2 * (between 0 from self.now.entries + 1) ^ 2 }
     {
-        let entries = self.entries.as_slice();
-        let at = reach_from(entries, self.known(place), from - 1, steps);
-        let marker = self.marker;
-        if at == entries.len() {
-            *place = Place {
-                marker,
-                block: 0,
-                at,
-                last: from - 1,
-            };
+        let number = self.number_from(place, from, steps);
+        let Some(block) = self.block_of(number, from) else {
+            *place = self.behind(number, from - 1);
             return None;
-        }
-        let id = entries[at].0;
-        *place = Place {
-            marker,
-            block: 0,
-            at: at + 1,
-            last: id,
         };
+        let id = walk::<P, L>(block, from, steps);
+        *place = self.behind(number, id);
         Some(id)
     }
 
-    /// A copy of the hit of the entry with the id `last`, behind which the place stands.
-    pub fn hit(&self, place: &Place) -> Result<P, NoMemory>
-        requires marker { place.now.marker ≡ self.now.marker }
-        requires sound { IsSound place.now self.now }
-        requires entry { IsSome (hit_of place.now.last self.now) }
-        ensures { IfOk result (λ hit. hit_of place.now.last self.now ≡ Some hit) }
+    /// The hit of the entry with an id.
+    pub fn hit(&self, id: u64) -> Result<P, NoMemory>
+        requires { IsSome (hit_of id self.now) }
+        ensures { IfOk result (λ hit. hit_of id self.now ≡ Some hit) }
     {
-        let entries = self.entries.as_slice();
-        entries[place.at - 1].1.copy()
+        let block = self.own_block(id);
+        let found = entry_from::<P>(block, id);
+        block.hit(self.alloc, &found)
+    }
+
+    /// All entries, decoded.
+    pub fn entries(&self) -> Result<Vec<(u64, P)>, NoMemory>
+        ensures { IfOk result (λ entries. entries.items ≡ self.now.entries) }
+    {
+        decode_all::<P>(self.alloc, self.parts.sealed.as_slice(), &self.parts.tail)
+    }
+
+    /// The list as it is now: its sealed blocks are shared, and its tail is copied.
+    pub fn picture(&self) -> Result<Picture<P>, NoMemory>
+        ensures picture { IfOk result (λ picture. listing picture ≡ self.now) }
+        ensures sound { IfOk result (λ picture. Sound picture) }
+    {
+        share::<P>(self.alloc, &self.parts)
+    }
+
+    /// Hands the blocks out, and leaves an empty list with the same marker.
+    pub fn take_parts(&mut self) -> Picture<P>
+        ensures parts { listing result ≡ self.old }
+        ensures sound { Sound result }
+        ensures left { self.new ≡ record { marker = self.old.marker; entries = [] } }
+    {
+        let rest = empty::<P>(self.alloc, self.parts.marker);
+        replace(&mut self.parts, rest)
+    }
+
+    /// Puts blocks in place of all that the list held.
+    pub fn put_parts(&mut self, parts: Picture<P>)
+        requires { Sound parts }
+        ensures { self.new ≡ listing parts }
+    {
+        self.parts = parts;
+    }
+
+    // The number of a block up to which all entries are known to have ids of at most the place's `last`.
+    fn known(&self, place: &Place) -> usize
+        requires { IsSound place.now self.now }
+        ensures most { result ≤ reach place.now.last self.now.entries / 100 }
+        ensures here { place.now.marker ≡ self.now.marker → result ≡ reach place.now.last self.now.entries / 100 }
+    {
+        if place.marker == self.parts.marker {
+            place.block
+        } else {
+            0
+        }
+    }
+
+    // The number of the block in which the first entry with an id from `from` on lies or would lie.
+    fn number_from<L: Ledger>(&self, place: &Place, from: u64, steps: &mut Steps<L>) -> usize
+        requires sound { IsSound place.now self.now }
+        requires ahead { place.now.last < from }
+        ensures number { result ≡ reach (from - 1) self.now.entries / 100 }
+        ensures counts { steps.old ≤ steps.new }
+        ensures cost { place.now.marker ≡ self.now.marker
+            → 2 ^ (steps.new - steps.old) ≤ 2 * (between place.now.last from self.now.entries + 1) ^ 2 }
+        ensures anew { 2 ^ (steps.new - steps.old) ≤ 2 * (between 0 from self.now.entries + 1) ^ 2 }
+    {
+        let known = self.known(place);
+        blocks_from::<P, L>(self.parts.sealed.as_slice(), known, from - 1, steps)
+    }
+
+    // The block of that number, if an entry with an id from `from` on lies there.
+    fn block_of(&self, number: usize, from: u64) -> Option<&Block<P>>
+        requires some { 0 < from }
+        requires number { number ≡ reach (from - 1) self.now.entries / 100 }
+        ensures found { option_copied result ≡ block_from from self.now.entries }
+        ensures rises { RisesAbove 0 self.now.entries }
+    {
+        let block = block_at::<P>(self.parts.sealed.as_slice(), &self.parts.tail, number);
+        if block.last() < from {
+            None
+        } else {
+            Some(block)
+        }
+    }
+
+    // The block that has the entry with an id.
+    fn own_block(&self, id: u64) -> &Block<P>
+        requires { IsSome (hit_of id self.now) }
+        ensures found { block_from id self.now.entries ≡ Some result.now }
+        ensures rises { RisesAbove 0 self.now.entries }
+    {
+        let blocks = self.parts.sealed.as_slice();
+        let number = blocks_below::<P>(blocks, id);
+        block_at::<P>(blocks, &self.parts.tail, number)
+    }
+
+    // The place behind an id that lies in the block of a number, or is its last one.
+    fn behind(&self, number: usize, last: u64) -> Place
+        requires low { number ≤ reach last self.now.entries / 100 }
+        requires high { reach last self.now.entries / 100 ≤ number + 1 }
+        ensures marker { result.marker ≡ self.now.marker }
+        ensures sound { IsSound result self.now }
+        ensures last { result.last ≡ last }
+    {
+        Place {
+            marker: self.parts.marker,
+            block: block_behind::<P>(self.parts.sealed.as_slice(), number, last),
+            last,
+        }
     }
 }

@@ -2,7 +2,7 @@
 use ft_base::{Bytes, NoMemory, put_int};
 use std::alloc::Global;
 
-/// The text of an answer. A part for which memory is wanting is left out, and `finish` tells it, so that
+/// The text of an answer. A part for which memory runs out is left out, and `finish` tells it, so that
 /// what writes an answer needs no look at each part.
 #[derive(Drop)]
 pub struct Answer {
@@ -19,7 +19,7 @@ impl Answer {
         }
     }
 
-    /// The text, where no memory was wanting.
+    /// The text, where memory did not run out.
     pub fn finish(self) -> Result<Vec<u8>, NoMemory> {
         if self.wanting {
             return Err(NoMemory);
@@ -27,7 +27,7 @@ impl Answer {
         Ok(self.text)
     }
 
-    /// Keeps in mind whether memory was wanting.
+    /// Keeps in mind whether memory ran out.
     pub fn note(&mut self, done: Result<(), NoMemory>) {
         if done.is_err() {
             self.wanting = true;

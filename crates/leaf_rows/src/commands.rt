@@ -39,7 +39,15 @@ fn put_read(alloc: Global, words: Words<'_>, out: &mut Answer) -> Result<(), NoM
     if words.len() == 0 || MAX_WORDS < words.len() {
         return Ok(());
     }
-    match read_command(alloc, words, SERIAL) {
+    put_answer(alloc, read_command(alloc, words, SERIAL), out)
+}
+
+fn put_answer(
+    alloc: Global,
+    asked: Result<Command<'_>, CmdFault>,
+    out: &mut Answer,
+) -> Result<(), NoMemory> {
+    match asked {
         Ok(command) => put_command(alloc, &command, out),
         Err(fault) => {
             put_fault(fault, out);

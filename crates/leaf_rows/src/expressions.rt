@@ -16,9 +16,9 @@ pub fn answer(alloc: Global, call: &[u8], words: &[Vec<u8>]) -> Result<Option<Ve
     let [text, pairs @ ..] = words else {
         return Ok(None);
     };
-    match call {
-        b"expression" => expression(alloc, text.as_slice()),
-        b"value" => worth(alloc, text.as_slice(), pairs),
+    match std::str::from_utf8(call).unwrap_or("") {
+        "expression" => expression(alloc, text.as_slice()),
+        "value" => worth(alloc, text.as_slice(), pairs),
         _ => Ok(None),
     }
 }
@@ -113,8 +113,7 @@ pub fn put_tree(tree: &Expr, out: &mut Vec<u8>) -> Result<(), NoMemory> {
         Expr::Not(arg) => put_part(b"(not ", arg.get(), out),
         Expr::Neg(arg) => put_part(b"(neg ", arg.get(), out),
         Expr::Binary { op, left, right } => {
-            out.extend_from_slice(sign_of(*op))?;
-            put_tree(left.get(), out)?;
+            put_first(sign_of(*op), left.get(), out)?;
             put_part(b" ", right.get(), out)
         }
     }
@@ -123,9 +122,15 @@ pub fn put_tree(tree: &Expr, out: &mut Vec<u8>) -> Result<(), NoMemory> {
 // The last part of what a parenthesis opened.
 #[cycle(tree)]
 fn put_part(before: &[u8], part: &Expr, out: &mut Vec<u8>) -> Result<(), NoMemory> {
-    out.extend_from_slice(before)?;
-    put_tree(part, out)?;
+    put_first(before, part, out)?;
     Ok(out.push(b')')?)
+}
+
+// A part behind what opens a parenthesis, or stands between two parts.
+#[cycle(tree)]
+fn put_first(before: &[u8], part: &Expr, out: &mut Vec<u8>) -> Result<(), NoMemory> {
+    out.extend_from_slice(before)?;
+    put_tree(part, out)
 }
 
 fn put_prop(name: &[u8], out: &mut Vec<u8>) -> Result<(), NoMemory> {

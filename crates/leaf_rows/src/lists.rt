@@ -1,5 +1,6 @@
-//! Calls of what lists are made of: hits, posting lists, tables of documents, dictionaries, ranges and plans.
+//! Calls of what lists are made of: blocks, posting lists, tables of documents, dictionaries, ranges and plans.
 
+mod blocks;
 mod names;
 mod numbers;
 mod plans;
@@ -25,7 +26,8 @@ pub fn answer(alloc: Global, call: &[u8], words: &[Vec<u8>]) -> Result<Option<Ve
 // Writes the answer of a call, and tells whether a file has it.
 fn put(alloc: Global, call: &str, words: &[Vec<u8>], out: &mut Answer) -> Result<bool, NoMemory> {
     Ok(
-        postings::put(alloc, call, words, out)?
+        blocks::put(alloc, call, words, out)?
+            || postings::put(alloc, call, words, out)?
             || tables::put(alloc, call, words, out)?
             || names::put(alloc, call, words, out)?
             || tags::put(alloc, call, words, out)?

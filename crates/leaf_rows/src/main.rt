@@ -26,7 +26,7 @@ mod wanted;
 
 use answer::Answer;
 use ft_base::NoMemory;
-use row_text::read_row;
+use row_text::{Row, read_row};
 use std::alloc::Global;
 use std::io;
 use std::io::{BufRead, BufReader};
@@ -53,15 +53,31 @@ fn judge_all(rt: &HostRuntime, tally: &mut Tally) -> io::Result<()> {
     Ok(())
 }
 
-/// Runs the row of a line, and prints it with what came where that is not what the row wants.
+/// Runs the row of a line, if it holds one.
 fn judge(rt: &HostRuntime, line: &str, tally: &mut Tally) -> io::Result<()> {
-    let Some(row) = read_row(rt.alloc(), line.as_bytes())? else {
-        return Ok(());
-    };
+    match read_row(rt.alloc(), line.as_bytes())? {
+        Some(row) => judge_row(rt, line, &row, tally),
+        None => Ok(()),
+    }
+}
+
+/// Runs a row, and prints it with what came where that is not what the row wants.
+fn judge_row(rt: &HostRuntime, line: &str, row: &Row, tally: &mut Tally) -> io::Result<()> {
     let came = answer_to(rt.alloc(), row.words.as_slice())?;
     let came = came.as_slice().trim_ascii();
+    compare(rt, line, came, row.want.as_slice(), tally)
+}
+
+/// Counts a row, and prints it with what came where that is not what is wanted.
+fn compare(
+    rt: &HostRuntime,
+    line: &str,
+    came: &[u8],
+    want: &[u8],
+    tally: &mut Tally,
+) -> io::Result<()> {
     tally.rows = tally.rows.saturating_add(1);
-    if came == row.want.as_slice() {
+    if came == want {
         return Ok(());
     }
     tally.differ = tally.differ.saturating_add(1);

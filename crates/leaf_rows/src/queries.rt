@@ -15,26 +15,32 @@ const FIELDS: &[u8] = b"field AS t TEXT field AS u TEXT field AS n NUMERIC field
 
 /// Writes the answer of a call, and tells whether it is of this file.
 pub fn put(alloc: Global, call: &str, words: &[Vec<u8>], out: &mut Answer) -> bool {
-    let asked = match call {
-        "parse" => parsed_with(alloc, words),
-        "parse_with_many" => parsed_with_many(alloc, words),
+    match call {
+        "parse" => put_parsed(alloc, word(words, 0), params_of(alloc, rest(words, 1)), out),
+        "parse_with_many" => put_parsed(alloc, word(words, 0), many_params(alloc), out),
         _ => return false,
-    };
-    match asked {
-        Ok(query) => put_query(&query, out),
-        Err(fault) => put_fault(fault, out),
     }
     true
 }
 
-fn parsed_with(alloc: Global, words: &[Vec<u8>]) -> Result<Query, QueryFault> {
-    let params = params_of(alloc, rest(words, 1))?;
-    query_of(alloc, OPTIONS, FIELDS, word(words, 0), &params)
+fn put_parsed(
+    alloc: Global,
+    text: &[u8],
+    params: Result<ListOf<Param>, NoMemory>,
+    out: &mut Answer,
+) {
+    match parsed_with(alloc, text, params) {
+        Ok(query) => put_query(&query, out),
+        Err(fault) => put_fault(fault, out),
+    }
 }
 
-fn parsed_with_many(alloc: Global, words: &[Vec<u8>]) -> Result<Query, QueryFault> {
-    let params = many_params(alloc)?;
-    query_of(alloc, OPTIONS, FIELDS, word(words, 0), &params)
+fn parsed_with(
+    alloc: Global,
+    text: &[u8],
+    params: Result<ListOf<Param>, NoMemory>,
+) -> Result<Query, QueryFault> {
+    query_of(alloc, OPTIONS, FIELDS, text, &params?)
 }
 
 /// The tree of a text over an index with these options and fields.

@@ -1,5 +1,4 @@
 pub mod ValueLaws
-pub mod EntryLaws
 pub mod SpreadLaws
 pub mod HalfLaws
 pub mod FilledLaws

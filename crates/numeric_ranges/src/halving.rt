@@ -5,10 +5,9 @@ ghost use Rattle.numeric_ranges.specs.Values.{are_mixed};
 ghost use Rattle.numeric_ranges.specs.Rows.{Knows, AreHalves, AreFilled};
 
 use crate::cut::cut_of;
-use crate::entries::entries_with;
 use crate::row::Row;
 use ft_base::NoMemory;
-use inverted_list::{Marker, Markers};
+use inverted_list::{List, Marker, Markers};
 use posting_block::NumHit;
 use std::alloc::Global;
 
@@ -30,7 +29,7 @@ pub(crate) fn halves_of(
     ensures rises { markers.old.next ≤ markers.new.next }
     ensures twice { markers.new.next ≤ markers.old.next + 2 }
 {
-    let entries = entries_with(alloc, &row.list, id, hit)?;
+    let entries = entries_with(&row.list, id, hit)?;
     let cut = cut_of(alloc, entries.as_slice())?;
     let first = next_marker(markers)?;
     let second = next_marker(markers)?;
@@ -39,7 +38,16 @@ pub(crate) fn halves_of(
     filled(left, right, entries.as_slice())
 }
 
-/// The marker that is given next. Where there is none, memory counts as wanting.
+/// The entries of a list, and one more behind them.
+fn entries_with(list: &List<NumHit>, id: u64, hit: &NumHit) -> Result<Vec<(u64, NumHit)>, NoMemory>
+    ensures { IfOk result (λ entries. entries.items ≡ list.now.entries ++ (id, hit.now) ∷ []) }
+{
+    let mut entries = list.entries()?;
+    entries.push((id, NumHit { value: hit.value }))?;
+    Ok(entries)
+}
+
+/// The marker that is given next. Where there is none, it counts as out of memory.
 pub(crate) fn next_marker(markers: &mut Markers) -> Result<Marker, NoMemory>
     ensures ok { IfOk result (λ marker. marker ≡ marker_of markers.old) }
     ensures next { OnOk result (markers.new.next ≡ markers.old.next + 1) }

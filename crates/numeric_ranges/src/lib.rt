@@ -6,7 +6,6 @@
 #![tactic(auto)]
 
 mod cut;
-mod entries;
 mod halving;
 mod ranges;
 mod row;

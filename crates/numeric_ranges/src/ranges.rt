@@ -41,7 +41,7 @@ impl Model for Ranges {
 
 impl Ranges {
     /// One range over all values, without entries and with the marker that is given next. Where
-    /// there is none, memory counts as wanting.
+    /// there is none, it counts as out of memory.
     pub fn new(alloc: Global, markers: &mut Markers) -> Result<Ranges, NoMemory>
         ensures ok { IfOk result (λ ranges. ranges ≡ (
           negsuc 9223372036854775807,
@@ -192,7 +192,7 @@ fn add_entry(
     ensures twice { markers.new.next ≤ markers.old.next + 2 }
 {
     let at = reach(rows.as_slice(), hit.value) - 1;
-    match rows[at].grown(alloc, id, hit)? {
+    match rows[at].grown(id, hit)? {
         Some(spread) => {
             let row = &mut rows[at];
             row.list.append(id, hit)?;

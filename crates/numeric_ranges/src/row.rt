@@ -1,10 +1,9 @@
 //! One range: where it begins, its list, and what is known of its values.
 ghost use Rattle.std.specs.Prelude.{◌≡◌, ◌<◌, [], ◌∷◌, ◌++◌, true, false, OnOk, OnErr, IfOk, IfSome, IfNone};
-ghost use Rattle.inverted_list.specs.Listing.{last_id, with_entry, RisesAbove};
+ghost use Rattle.inverted_list.specs.Listing.{last_id, with_entry};
 ghost use Rattle.numeric_ranges.specs.Rows.{Knows};
 ghost use Rattle.numeric_ranges.specs.Values.{splits};
 
-use crate::entries::entries_of;
 use crate::spread::Spread;
 use ft_base::NoMemory;
 use inverted_list::{List, Marker};
@@ -52,23 +51,21 @@ impl Row {
     }
 
     /// What is known of the values, which are read if nothing is.
-    fn known(&self, alloc: Global, below: u64) -> Result<Spread, NoMemory>
+    fn known(&self) -> Result<Spread, NoMemory>
         requires knows { Knows self.now.spread self.now.list.entries }
-        requires below { last_id 0 self.now.list.entries < below }
         ensures knows { IfOk result (λ spread. Knows spread self.now.list.entries) }
         ensures known { IfOk result (λ spread. ¬ (spread ≡ Spread.Unknown)) }
     {
         if let Spread::Unknown = self.spread {
-            let entries = entries_of(alloc, &self.list, below)?;
+            let entries = self.list.entries()?;
             return Ok(spread_of(entries.as_slice()));
         }
         Ok(self.spread)
     }
 
     /// What is known of the values with one more entry, or None where the range then splits.
-    pub fn grown(&self, alloc: Global, id: u64, hit: &NumHit) -> Result<Option<Spread>, NoMemory>
+    pub fn grown(&self, id: u64, hit: &NumHit) -> Result<Option<Spread>, NoMemory>
         requires knows { Knows self.now.spread self.now.list.entries }
-        requires below { last_id 0 self.now.list.entries < id }
         ensures some { IfOk result (λ grown. IfSome grown (λ spread.
             Knows spread (self.now.list.entries ++ (id, hit.now) ∷ []))) }
         ensures whole { IfOk result (λ grown. IfSome grown (λ _.
@@ -79,7 +76,7 @@ impl Row {
         if self.list.len() < LIMIT {
             return Ok(Some(self.spread.with(hit.value)));
         }
-        let grown = self.known(alloc, id)?.with(hit.value);
+        let grown = self.known()?.with(hit.value);
         match grown {
             Spread::Many => Ok(None),
             _ => Ok(Some(grown)),

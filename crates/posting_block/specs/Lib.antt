@@ -1,0 +1,11 @@
+pub mod Leb
+pub mod Zigzag
+pub mod Codes
+pub mod Rising
+pub mod Spelled
+pub mod Coded
+pub mod Places
+pub mod LebLaws
+pub mod ZigzagLaws
+pub mod NumLaws
+pub mod CodesLaws

@@ -1,5 +1,5 @@
 //! Where a word stands in a document, as a list of numbers of its own.
-ghost use Rattle.std.specs.Prelude.{◌≡◌, [], ◌∷◌, ◌++◌, IfOk, OnOk, OnErr, length};
+ghost use Rattle.std.specs.Prelude.{◌≡◌, [], ◌∷◌, ◌++◌, OnOk, OnErr, length};
 
 use std::alloc::{AllocError as NoMemory, Global};
 use std::marker::Model;
@@ -57,13 +57,5 @@ impl ListOfPlaces {
     {
         self.codes.push(code)?;
         Ok(())
-    }
-
-    /// The same places in memory of their own.
-    pub fn copy(&self) -> Result<ListOfPlaces, NoMemory>
-        ensures { IfOk result (λ copy. copy ≡ self.now) }
-    {
-        let codes = Vec::from_slice(*self.codes.allocator(), self.codes.as_slice())?;
-        Ok(ListOfPlaces { codes })
     }
 }

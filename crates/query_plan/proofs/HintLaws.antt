@@ -1,5 +1,5 @@
 -- At which places leaves stand, and which hints fit them.
-use Rattle.std.proofs.Common.{◌≡◌, ℕ, List, [], ◌∷◌, Option, Some, None, IsSome, slice_index_or, sym, ap, ◌∙◌, subst}
+use Rattle.std.proofs.Common.{◌≡◌, ◌/◌, ℕ, List, [], ◌∷◌, Option, Some, None, IsSome, slice_index_or, sym, ap, ◌∙◌, subst}
 use Rattle.std.specs.List.{All, AllByRecursion}
 use Rattle.std.proofs.lemmas.List.Elements.{All-contains, All-from_recursion, recursion_from_All}
 use Rattle.inverted_list.specs.Listing.{Listing}
@@ -24,9 +24,8 @@ alike_in (Some list) after a b sound opened also again =
     let others = also again.0 in
     let marker = opened.0 ∙ sym again.0 in
     let last = opened.1 ∙ sym again.1 in
-    let block = stands.0 ∙ sym others.0 in
-    let at = stands.1 ∙ ap (λ n. reach n list.entries) last ∙ sym others.1 in
-    λ i. record { marker = marker i; block = block i; at = at i; last = last i }
+    let block = stands ∙ ap (λ n. reach n list.entries / 100) last ∙ sym others in
+    λ i. record { marker = marker i; block = block i; last = last i }
 
 alike : (held : Held) (list : ListName) (after : ℕ) (a b : Place) → IsOpenAt held list after a → IsOpenAt held list after b → a ≡ b
 alike held (names.Word text) after a b one other = alike_in (held.words text) after a b one.sound one.opened other.sound other.opened

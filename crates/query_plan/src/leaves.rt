@@ -2,7 +2,7 @@
 ghost use Rattle.std.specs.Prelude.{◌≡◌, ◌≤◌, ◌+◌, [], map, IfOk, IsSome, OnOk};
 ghost use Rattle.id_iters.specs.Fitting.{IsOpenAt, leaves_of};
 ghost use Rattle.id_iters.specs.Leaves.{list_has};
-ghost use Rattle.id_iters.specs.Places.{LeafReady};
+ghost use Rattle.id_iters.specs.Places.{LeafReady, WordReady};
 ghost use Rattle.id_iters.specs.Ready.{Ready};
 ghost use Rattle.query_plan.specs.Known.{KnownFit, place_of};
 ghost use Rattle.query_plan.specs.Plans.{AllKnown, AllOpen, AllReady, PartsKnown, PartsOpen, ids_of, some_has};
@@ -43,9 +43,12 @@ pub fn leaf_of<T: Lists, L: Ledger>(
       fields = wanted.now.fields.now;
       low = wanted.now.low;
       high = wanted.now.high;
+      ahead = [];
     }) }
     ensures ready { IfOk result (λ leaf.
         LeafReady (T.held sources.now.lists.now) leaf (sources.now.after + 1)) }
+    ensures word_ready { IfOk result (λ leaf.
+        WordReady (T.held sources.now.lists.now) leaf (sources.now.after + 1)) }
     ensures placed { IfOk result (λ leaf.
         IsOpenAt (T.held sources.now.lists.now) leaf.list sources.now.after leaf.place) }
     ensures free { IfOk result (λ leaf.
@@ -55,13 +58,7 @@ pub fn leaf_of<T: Lists, L: Ledger>(
     let hint = place_of(sources.known, &list);
     let place = list.open_at(sources.lists, hint, sources.after, steps);
     let fields = copy_of(sources.alloc, wanted.fields)?;
-    Ok(Leaf {
-        list,
-        place,
-        fields,
-        low: wanted.low,
-        high: wanted.high,
-    })
+    Ok(Leaf::new(sources.alloc, list, place, fields, wanted.low, wanted.high))
 }
 
 /// The ids of a list.

@@ -6,7 +6,7 @@ ghost use Rattle.ft_meaning.specs.Meaning.{has_words};
 ghost use Rattle.id_iters.specs.Fitting.{IsOpenAt, leaves_of};
 ghost use Rattle.id_iters.specs.Held.{Held};
 ghost use Rattle.id_iters.specs.Leaves.{list_names};
-ghost use Rattle.id_iters.specs.Places.{LeafReady, LeavesReady};
+ghost use Rattle.id_iters.specs.Places.{LeavesReady, WordReady};
 ghost use Rattle.id_iters.specs.Ready.{Ready};
 ghost use Rattle.query_plan.specs.Known.{KnownFit, place_of};
 ghost use Rattle.query_plan.specs.Plans.{AllKnown, AllOpen, Gains, Tells, ids_of};
@@ -215,7 +215,7 @@ fn word_leaf<T: Lists, L: Ledger>(
     requires { KnownFit (T.held sources.now.lists.now) sources.now.after (place_of sources.now.known.now) }
     ensures name { IfOk result (λ leaf. leaf.list ≡ ListName.Word word.now) }
     ensures ready { IfOk result (λ leaf.
-        LeafReady (T.held sources.now.lists.now) leaf (sources.now.after + 1)) }
+        WordReady (T.held sources.now.lists.now) leaf (sources.now.after + 1)) }
     ensures placed { IfOk result (λ leaf.
         IsOpenAt (T.held sources.now.lists.now) leaf.list sources.now.after leaf.place) }
     ensures free { IfOk result (λ leaf.

@@ -1,5 +1,6 @@
 -- What a feed holds of the documents that an iterator finds, and how many of them were read.
 use Rattle.std.proofs.Common.{◌≡◌, ◌<◌, ◌^◌, ℕ, List, [], ◌∷◌, ◌++◌, length, arith}
+use Rattle.std.specs.Prelude.{Result, Ok, Err, IfOk, IsOk, OnOk}
 use Rattle.std.proofs.lemmas.List.{length_push}
 use Rattle.agg_pipeline.specs.Feeding.{Holds}
 use Rattle.agg_pipeline.specs.declared.feed.Feed.{Feed}
@@ -7,6 +8,8 @@ use Rattle.agg_pipeline.specs.declared.step.Load.{Load}
 use Rattle.agg_pipeline.specs.declared.step.Step.{Step}
 use Rattle.ft_base.specs.declared.definition.IndexDef.{IndexDef}
 use Rattle.ft_base.specs.declared.doc.Doc.{Doc}
+use Rattle.ft_base.specs.declared.row.Row.{Row}
+use Rattle.ft_machine.specs.Aggregating.{aggregate_rows}
 use Rattle.hash_store.specs.Store.{reads_after}
 
 -- A feed that held no document at first holds some, and each of these was read once.
@@ -29,3 +32,12 @@ fed-next first start old new reads more docs doc noted once fed = record {
   holds = λ def load steps none. noted def load steps docs (fed.holds def load steps none);
   count = omega (arith, once, fed.count, length_push docs doc);
 }
+
+-- what the steps make of a feed is what they make of its documents, where all of them were noted
+pub rows-noted : {V N E F : Type 0} (items : V → List Row) (made : Result V E) (noted : Result N F) (first feed : Feed) (def : IndexDef) (load : Load) (steps : List Step) (docs : List Doc) → IfOk made (λ rows. IsOk noted)
+    → IfOk made (λ rows. (def : IndexDef) (load : Load) (steps : List Step) (docs : List Doc) → Holds def load steps docs feed → items rows ≡ aggregate_rows load steps def docs)
+    → OnOk noted ((def : IndexDef) (load : Load) (steps : List Step) → Holds def load steps [] first → Holds def load steps docs feed) → Holds def load steps [] first
+    → IfOk made (λ rows. items rows ≡ aggregate_rows load steps def docs)
+rows-noted items (Ok rows) (Ok x) first feed def load steps docs all made noted none = made def load steps docs (noted def load steps none)
+rows-noted items (Ok rows) (Err f) first feed def load steps docs all made noted none = cc (all)
+rows-noted items (Err e) noted first feed def load steps docs all made holds none = tt

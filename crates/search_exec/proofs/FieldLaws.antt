@@ -1,6 +1,6 @@
 -- The first rows of all that are ranked are the rows of the first documents in the order of a key.
 use Rattle.std.proofs.Common.{◌≡◌, ℕ, ◌+◌, List, [], ◌∷◌, ◌++◌, length, map, take, drop, Ordering, Less, Equal, Greater, is_lt, refl, sym, ap, ◌∙◌, inl, inr, arith, append-nil}
-use Rattle.std.specs.Prelude.{IfOk, Result, pos}
+use Rattle.std.specs.Prelude.{Err, IfOk, IsOk, Ok, OnOk, Result, pos}
 use Rattle.std.specs.List.{drop-map, flat_map, take-map}
 use Rattle.std.specs.Ordering.{ordering_then}
 use Rattle.std.proofs.lemmas.Bool.{cases_Bool}
@@ -82,6 +82,14 @@ page-made made shape key docs total most rows first each count handed offered wi
     IfOk-weaker made _ _
     (λ reply same. same ∙ (ap (λ (n : ℕ). Array (Number (pos n) ∷ items rows)) number
     ∙ ap (λ (replies : List Reply). Array (Number (pos (length (order_by key docs))) ∷ replies)) shown)) each
+
+-- and a page is made only where all were offered
+pub page-offered : {E F : Type 0} (made : Result Reply E) (offered : Result ℕ F) (shape : Shape) (key : SortKey) (docs : List Doc) (most : ℕ) (rows : List (Ranked (List Reply))) → IfOk made (λ reply. IsOk offered)
+    → IfOk made (λ reply. IfOk offered (λ total. reply ≡ Array (Number (pos total) ∷ flat_map (λ (row : Ranked (List Reply)). row.item) (drop shape.offset rows))))
+    → IfOk offered (λ total. total ≡ length docs) → OnOk offered (rows ≡ first_ranked shape key most docs) → most ≡ shape.offset + shape.num → IfOk made (λ reply. reply ≡ page_by shape (order_by key docs))
+page-offered {E = E} (Ok reply) (Ok total) shape key docs most rows all each count rank window = page-made {E = E} (Ok reply) shape key docs total most rows rows each count refl rank window
+page-offered (Ok reply) (Err f) shape key docs most rows all each count rank window = cc (all)
+page-offered (Err e) offered shape key docs most rows all each count rank window = tt
 
 -- The rows of so many documents were offered.
 pub record AreOffered (shape : Shape) (key : SortKey) (most total : ℕ) (rows : List (Ranked (List Reply))) (docs : List Doc) : Type 0 where

@@ -1,5 +1,5 @@
 //! What an aggregate answers: the rows that its steps make of the documents that an iterator finds.
-ghost use Rattle.std.specs.Prelude.{◌≡◌, ◌≤◌, ◌∷◌, ◌++◌, [], List, Some, IfOk, IsSome, IsTrue, OnOk, length};
+ghost use Rattle.std.specs.Prelude.{◌≡◌, ◌≤◌, ◌∷◌, ◌++◌, [], List, Some, IfOk, IsOk, IsSome, IsTrue, OnOk, length};
 ghost use Rattle.agg_pipeline.specs.Feeding.{Holds};
 ghost use Rattle.agg_pipeline.specs.declared.step.Load.{Load};
 ghost use Rattle.agg_pipeline.specs.declared.step.Step.{Step as AStep};
@@ -13,6 +13,7 @@ ghost use Rattle.id_iters.specs.Ready.{Ready};
 ghost use Rattle.id_iters.specs.Sets.{in_set};
 ghost use Rattle.search_exec.specs.Ids.{AreKnown, doc_at, docs_in};
 
+use crate::facts::tell;
 use crate::replied_rows::rows_reply;
 use agg_pipeline::{Feed, Load, Step};
 use ft_base::{IndexDef, NoMemory, Reply, Row, Steps};
@@ -83,7 +84,17 @@ pub fn found_rows<T: Lists, L: Ledger>(
     ensures counts { counter.old ≤ counter.new }
 {
     let mut feed = Feed::new(alloc, def, load, steps);
-    note_all(&mut feed, lists, store, iter, counter)?;
+    let noted = note_all(&mut feed, lists, store, iter, counter);
+    finish(feed, noted)
+}
+
+/// What all the steps make of the documents that a feed holds, where all of them were noted.
+fn finish(feed: Feed<'_>, noted: Result<(), NoMemory>) -> Result<Vec<Row>, NoMemory>
+    ensures noted { IfOk result (λ rows. IsOk noted) }
+    ensures rows { IfOk result (λ rows. (def : IndexDef) (load : Load) (steps : List AStep) (docs : List Doc)
+        → Holds def load steps docs feed.entry → rows.items ≡ aggregate_rows load steps def docs) }
+{
+    noted?;
     feed.finish()
 }
 
@@ -111,9 +122,7 @@ fn note_all<T: Lists, L: Ledger>(
     ensures last { store.new.last ≡ store.old.last }
     ensures counts { counter.old ≤ counter.new }
 {
-    // These tell that the ids rise, so that each is that of one document, and that the count of reads has 64 bits.
-    let _count = store.len();
-    let _reads = store.reads();
+    tell(store);
     let mut from = 1;
     'asking: while let Some(id) = iter.seek(lists, from, counter)? {
         note_id(feed, store, id)?;

@@ -1,7 +1,8 @@
 //! A search that is sorted: each of its documents is read once, and of all only the first rows are held, up to the
 //! end of the window.
-ghost use Rattle.std.specs.Prelude.{◌≡◌, ◌<◌, ◌≤◌, ◌+◌, ◌^◌, ◌∷◌, ◌++◌, [], Some, pos, IfOk, IsSome, OnOk, drop, length, take};
+ghost use Rattle.std.specs.Prelude.{◌≡◌, ◌<◌, ◌≤◌, ◌+◌, ◌^◌, ◌∷◌, ◌++◌, [], Some, pos, IfOk, IsOk, IsSome, OnOk, drop, length, map, take};
 ghost use Rattle.std.specs.List.{flat_map};
+ghost use Rattle.std.specs.List.Sorted.{IsStrictlyIncreasing};
 ghost use Rattle.ft_base.specs.declared.doc.Doc.{Doc};
 ghost use Rattle.ft_base.specs.declared.reply.Reply.TheVariants.{Array, Number};
 ghost use Rattle.hash_store.specs.Store.{reads_after};
@@ -14,6 +15,8 @@ ghost use Rattle.search_exec.specs.Ranks.{first_ranked, ranked};
 ghost use Rattle.search_exec.specs.Shapes.{order_by, page_by, row_by, value_by};
 
 use crate::candidates::Candidates;
+use crate::facts::tell;
+use crate::replied_rows::counted;
 use crate::shape::{Shape, SortKey, push_row};
 use field_text::number;
 use ft_base::{Bytes, Doc, ListOf, NoMemory, Reply, Steps, Value};
@@ -51,17 +54,13 @@ pub fn page_by_field<T: Lists, L: Ledger>(
     ensures last { store.new.last ≡ store.old.last }
     ensures counts { steps.old ≤ steps.new }
 {
+    tell(store);
     let keys = ListOf::from_vec(vec![in alloc; key.by]?);
     let mut first = FirstRows::new(alloc, keys, shape.offset + shape.num);
-    match offer_all(
+    let total = offer_all(
         &mut first, alloc, lists, store, candidates, shape, key, steps,
-    ) {
-        Ok(total) => first_page(alloc, total, first, shape.offset),
-        Err(fault) => {
-            drop(first);
-            Err(fault)
-        }
-    }
+    );
+    first_page(alloc, total, first, shape.offset)
 }
 
 // Offers the rows of all documents, where none was offered before, and answers how many there are.
@@ -77,6 +76,8 @@ fn offer_all<T: Lists, L: Ledger>(
 ) -> Result<u64, NoMemory>
     requires none { first.old.rows ≡ [] }
     requires keys { first.old.by ≡ key.by ∷ [] }
+    requires rising { IsStrictlyIncreasing (map (λ doc. doc.id) store.old.space) }
+    requires bits { store.old.reads < 2 ^ 64 }
     requires lists { AreLists (T.held lists.now) }
     requires ready { MayAsk (T.held lists.now) candidates.old 1 }
     requires known { AreKnown (in_candidates (T.held lists.now) candidates.old) (T.named lists.now).keys store.old.space }
@@ -95,9 +96,6 @@ fn offer_all<T: Lists, L: Ledger>(
     ensures last { store.new.last ≡ store.old.last }
     ensures counts { steps.old ≤ steps.new }
 {
-    // These tell that the ids rise, so that each is that of one document, and that the count of reads has 64 bits.
-    let _count = store.len();
-    let _reads = store.reads();
     let mut total = 0;
     let mut from = 1;
     'asking: while let Some(id) = candidates.seek(lists, from, steps)? {
@@ -183,17 +181,19 @@ fn value_of(alloc: Global, key: SortKey<'_>, doc: &Doc) -> Result<Value, NoMemor
     Ok(Value::Text(Bytes::from_slice(alloc, text)?))
 }
 
-// The reply of so many documents, of whose first rows those from a place on are shown.
+// The reply of so many documents, where all were offered, of whose first rows those from a place on are shown.
 fn first_page(
     alloc: Global,
-    total: u64,
+    total: Result<u64, NoMemory>,
     first: FirstRows<ListOf<Reply>>,
     offset: usize,
 ) -> Result<Reply, NoMemory>
-    requires few { total < 2 ^ 63 }
-    ensures { IfOk result (λ reply. reply
-        ≡ Array (Number (pos total) ∷ flat_map (λ row. row.item) (drop offset first.rows))) }
+    requires few { IfOk total (λ total. total < 2 ^ 63) }
+    ensures offered { IfOk result (λ reply. IsOk total) }
+    ensures reply { IfOk result (λ reply. IfOk total (λ total. reply
+        ≡ Array (Number (pos total) ∷ flat_map (λ row. row.item) (drop offset first.rows)))) }
 {
+    let total = total?;
     let rows = first.into_rows()?;
     into_page(alloc, total, rows, offset)
 }
@@ -209,8 +209,7 @@ fn into_page(
     ensures { IfOk result (λ reply. reply
         ≡ Array (Number (pos total) ∷ flat_map (λ row. row.item) (drop offset rows.items))) }
 {
-    let mut replies = Vec::new(alloc);
-    replies.push(Reply::Number(total as i64))?;
+    let mut replies = counted(alloc, total, 1)?;
     'showing: for row in rows.into_iter().skip(offset) {
         replies.extend(row.item.into_vec())?;
     }

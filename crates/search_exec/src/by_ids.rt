@@ -10,6 +10,7 @@ ghost use Rattle.search_exec.specs.Pages.{Shows, reads_of};
 ghost use Rattle.search_exec.specs.Shapes.{page_by};
 
 use crate::candidates::Candidates;
+use crate::facts::tell;
 use crate::page::Page;
 use crate::shape::Shape;
 use ft_base::{NoMemory, Reply, Steps};
@@ -76,9 +77,7 @@ fn note_all<T: Lists, L: Ledger>(
     ensures last { store.new.last ≡ store.old.last }
     ensures counts { steps.old ≤ steps.new }
 {
-    // These tell that the ids rise, so that each is that of one document, and that the count of reads has 64 bits.
-    let _count = store.len();
-    let _reads = store.reads();
+    tell(store);
     let mut from = 1;
     'asking: while let Some(id) = candidates.seek(lists, from, steps)? {
         note_id(page, alloc, lists, store, shape, id)?;

@@ -12,6 +12,7 @@ mod aggregate;
 mod by_field;
 mod by_ids;
 mod candidates;
+mod facts;
 mod page;
 mod replied_rows;
 mod search;

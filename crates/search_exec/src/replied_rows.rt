@@ -1,10 +1,10 @@
 //! The rows of an aggregate as they are replied. Their names and texts go into the reply as they are, with no copy, unless
 //! the rows are lent.
-ghost use Rattle.std.specs.Prelude.{◌≡◌, ◌++◌, ◌∷◌, [], None, map, IfOk, IsTrue, OnOk};
+ghost use Rattle.std.specs.Prelude.{◌≡◌, ◌<◌, ◌^◌, ◌++◌, ◌∷◌, [], None, map, pos, IfOk, IsTrue, OnOk};
 ghost use Rattle.std.specs.Fmt.{signed_decimal};
 ghost use Rattle.std.specs.List.{flat_map};
 ghost use Rattle.ft_base.specs.Reply.{fits_wire};
-ghost use Rattle.ft_base.specs.declared.reply.Reply.TheVariants.{Array, Bulk};
+ghost use Rattle.ft_base.specs.declared.reply.Reply.TheVariants.{Array, Bulk, Number};
 ghost use Rattle.ft_machine.specs.Aggregating.{cell_replies, row_reply, rows_reply, value_reply};
 
 use ft_base::{Bytes, Cell, ListOf, NoMemory, Reply, Row, Value, put_int};
@@ -15,8 +15,7 @@ pub fn rows_reply(alloc: Global, rows: Vec<Row>) -> Result<Reply, NoMemory>
     ensures reply { IfOk result (λ reply. reply ≡ rows_reply rows.items) }
     ensures fits { IfOk result (λ reply. IsTrue (fits_wire reply)) }
 {
-    let mut replies = Vec::with_capacity(alloc, rows.len() + 1)?;
-    replies.push(Reply::Number(rows.len() as i64))?;
+    let mut replies = counted(alloc, rows.len() as u64, rows.len() + 1)?;
     'showing: for row in rows {
         push_row(alloc, &mut replies, row)?;
     }
@@ -29,12 +28,21 @@ pub fn lent_rows_reply(alloc: Global, rows: &[Row]) -> Result<Reply, NoMemory>
     ensures fits { IfOk result (λ reply. IsTrue (fits_wire reply)) }
 {
     let number = rows.len();
-    let mut replies = Vec::with_capacity(alloc, number + 1)?;
-    replies.push(Reply::Number(number as i64))?;
+    let mut replies = counted(alloc, number as u64, number + 1)?;
     'showing: for row in rows {
         push_copy(alloc, &mut replies, row)?;
     }
     Ok(Reply::Array(ListOf::from_vec(replies)))
+}
+
+/// A number, with room for so many replies in all.
+pub(crate) fn counted(alloc: Global, number: u64, room: usize) -> Result<Vec<Reply>, NoMemory>
+    requires { number < 2 ^ 63 }
+    ensures { IfOk result (λ replies. replies.items ≡ Number (pos number) ∷ []) }
+{
+    let mut replies = Vec::with_capacity(alloc, room)?;
+    replies.push(Reply::Number(number as i64))?;
+    Ok(replies)
 }
 
 /// Adds a copy of a row.
@@ -135,7 +143,7 @@ fn push_number(alloc: Global, replies: &mut Vec<Reply>, number: i64) -> Result<(
     push_reply(replies, Reply::Bulk(Bytes::from_vec(text)))
 }
 
-/// Adds a reply. Where memory is wanting it is dropped.
+/// Adds a reply. Out of memory, it is dropped.
 fn push_reply(replies: &mut Vec<Reply>, reply: Reply) -> Result<(), NoMemory>
     ensures { OnOk result (replies.new.items ≡ replies.old.items ++ reply ∷ []) }
 {

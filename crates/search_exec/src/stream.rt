@@ -11,6 +11,7 @@ ghost use Rattle.id_iters.specs.Ready.{Ready};
 ghost use Rattle.id_iters.specs.Sets.{about, in_set};
 ghost use Rattle.search_exec.specs.Ids.{AreKnown, doc_at, docs_in};
 
+use crate::facts::tell;
 use agg_pipeline::StreamSteps;
 use ft_base::{IndexDef, NoMemory, Row, Steps};
 use hash_store::HashStore;
@@ -57,9 +58,7 @@ pub fn read_stream<T: Lists, L: Ledger>(
     ensures last { store.new.last ≡ store.old.last }
     ensures counts { counter.old ≤ counter.new }
 {
-    // These tell that the ids rise, so that each is that of one document, and that the count of reads has 64 bits.
-    let _count = store.len();
-    let _reads = store.reads();
+    tell(store);
     let mut iter = iter;
     let mut rows = Vec::new(alloc);
     let read = take_docs(

@@ -2,7 +2,7 @@
 //! machine.
 //!
 //! They are against mistakes that the check would pass: a definition that says something else than a client or a reader
-//! of the server's documents expects, a call that always finds memory wanting, a condition that no caller can meet.
+//! of the server's documents expects, a call that always runs out of memory, a condition that no caller can meet.
 //! Read `session.rt` first, which has sessions with the engine, then `links.rt`, which has those with the server.
 #![tactic(auto)]
 

@@ -1,4 +1,4 @@
-//! The server over links in memory: bytes in, bytes out, and how the run ended. Where memory is wanting an answer is None,
+//! The server over links in memory: bytes in, bytes out, and how the run ended. Out of memory, an answer is None,
 //! or a text is left out, as the comparison then shows.
 ghost use Rattle.std.specs.Prelude.{IfSome};
 ghost use Rattle.ft_server.specs.Passes.{IsOf};

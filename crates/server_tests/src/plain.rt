@@ -1,5 +1,5 @@
 //! A plain machine: a list of documents and one of indexes, and what each turn's command is answered by them. It is of
-//! the documents of the server alone, and calls none of its code. Where memory is wanting something is left out, as the
+//! the documents of the server alone, and calls none of its code. Out of memory, something is left out, as the
 //! comparison then shows.
 ghost use Rattle.std.specs.Prelude.{◌<◌, ◌≤◌, length};
 

@@ -25,7 +25,7 @@ pub struct Session {
     ghost room: { 64 ≤ vec_capacity reply },
 }
 
-/// A session whose first event has this number; none where memory is wanting.
+/// A session whose first event has this number; none where memory runs out.
 pub fn begin_at(alloc: Global, first: u64) -> Option<Session>
     requires least { 1 ≤ first }
     requires most { first ≤ 2 ^ 62 }

@@ -127,7 +127,7 @@ pub fn write_line(line: &mut Vec<u8>, turn: &Turn) {
     put_rest(line, turn);
 }
 
-/// Appends a text. One for which memory is wanting is left out, as the comparison then shows.
+/// Appends a text. One for which memory runs out is left out, as the comparison then shows.
 pub fn put(out: &mut Vec<u8>, text: &[u8]) {
     let _ = out.extend_from_slice(text);
 }

@@ -110,7 +110,7 @@ module _ {P : Type 0} where
       → RisesAbove 0 (with_entry (list_or_fresh lists word markers) id hit).entries
   ids_added lists word markers id hit rise h = rises_with markers id hit (list_of lists word) (rise word) h
 
-  -- so they go on rising, whether the entry came or memory was wanting
+  -- so they go on rising, whether the entry came or memory ran out
   pub ids_after : {T E : Type 0} (r : Result T E) (word : List ℕ) (l : Listing P) (old new : List (Row P)) → IdsRise (lists_of old) → RisesAbove 0 l.entries
       → OnOk r (Sets word (Some l) (lists_of old) (lists_of new)) → OnErr r (new ≡ old) → IdsRise (lists_of new)
   ids_after (Ok x) word l old new rise here sets same = ids_set word l (lists_of old) (lists_of new) rise sets here

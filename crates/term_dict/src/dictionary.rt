@@ -74,7 +74,7 @@ impl<P: Payload> Dictionary<P> {
     }
 
     /// Adds an entry to a word's list, behind the others. A word without a list gets one, with the
-    /// marker that is given next; where there is none, memory counts as wanting.
+    /// marker that is given next; where there is none, it counts as out of memory.
     pub fn add(
         &mut self,
         word: &[u8],

@@ -69,7 +69,7 @@ impl TagLists {
     }
 
     /// Adds an entry to the list of a field's tag, behind the others. A tag without a list gets
-    /// one, with the marker that is given next; where there is none, memory counts as wanting.
+    /// one, with the marker that is given next; where there is none, it counts as out of memory.
     pub fn add(
         &mut self,
         field: u16,

@@ -1,6 +1,7 @@
 //! The lock: how a pass enters a turn and leaves it, and how passes are split and joined.
 ghost use Rattle.std.specs.Prelude.{◌≡◌, ◌+◌, ◌<◌, true, false, [], ◌++◌, IfOk};
 ghost use Rattle.turn_gate.specs.Log.{StartsWith, OthersSince, longer};
+ghost use Rattle.turn_gate.specs.Steps.{Entered};
 
 use crate::chronicle::{Chronicle, Told};
 use crate::pass::Pass;
@@ -8,7 +9,7 @@ use crate::plays::{Lock, Passes};
 use crate::steps::{compare_number, count_passes, give_back, join_seats, log_entries, try_turn};
 use crate::turn::Turn;
 use crate::view::View;
-use atomic_table::{Refused, Shared, Table};
+use atomic_table::{Refused, Seat, Shared, Table};
 use ft_base::NoMemory;
 use std::alloc::Global;
 use std::marker::{Brand, Model};
@@ -71,16 +72,9 @@ impl<S: Chronicle + Drop> Gate<S> {
     {
         let Pass { mut seat } = pass;
         let shared = &self.table.shared;
-        let mut tries = 0;
-        for _ in rt.forever() {
-            if try_turn::<S, Brand>(shared, &mut seat) == 0 {
-                let state = shared.exchange(&mut seat, 0, None).unwrap();
-                return Turn { seat, state };
-            }
-            back_off(rt, shared, tries);
-            tries = tries.saturating_add(1);
-        }
-        unreachable!()
+        begin_turn(rt, shared, &mut seat);
+        let state = shared.exchange(&mut seat, 0, None).unwrap();
+        Turn { seat, state }
     }
 
     /// Ends the turn, adds the entries that `told` stands for to the log, and wakes a caller that waits.
@@ -129,6 +123,28 @@ impl<S: Chronicle + Drop> Gate<S> {
         let Pass { seat: other } = other;
         join_seats(&self.table.shared, &mut pass.seat, other);
     }
+}
+
+/// Waits until a turn begins.
+fn begin_turn<S: Chronicle, R: Wait>(
+    rt: &R,
+    shared: &Shared<Option<S>, View<S::Entry>, u64, Lock>,
+    seat: &mut Seat<Option<S>, View<S::Entry>>,
+)
+    requires table { (seat.old.table_id ≡ shared.now.table_id) × (shared.now.table_id.words ≡ 2) }
+    requires pass { (seat.old.me.0.spent ≡ false) × (seat.old.me.1 ≡ []) }
+    ensures same { (seat.new.table_id ≡ seat.old.table_id) × (seat.new.id ≡ seat.old.id) }
+    ensures begun { Entered S.Entry.caller S.tells seat.old.id seat.old.me seat.new.me }
+{
+    let mut tries = 0;
+    for _ in rt.forever() {
+        if try_turn::<S, Brand>(shared, seat) == 0 {
+            return;
+        }
+        back_off(rt, shared, tries);
+        tries = tries.saturating_add(1);
+    }
+    unreachable!()
 }
 
 /// Lets other threads run after one of the first tries, and after a later one sleeps until a turn ends.

@@ -1,12 +1,13 @@
-//! Hits, their copies, and places in one posting list.
+//! Places of a word, and places in one posting list.
 ghost use Rattle.std.specs.Prelude.{◌≡◌, ◌<◌, IfSome};
 ghost use Rattle.inverted_list.specs.Places.{IsSound};
 
-use super::numbers::{int_at, number, number_at, put_found, put_marker, put_number};
+use super::numbers::{number, number_at, put_found, put_marker, put_number};
 use crate::answer::Answer;
+use crate::arguments::rest;
 use ft_base::{NoMemory, Steps};
 use inverted_list::{List, Marker, Markers, Place};
-use posting_block::{ListOfPlaces, NumHit, Payload, TagHit, TextHit};
+use posting_block::{ListOfPlaces, NumHit};
 use std::alloc::Global;
 use std::marker::Brand;
 use std::sync::ledger::{Blank, Ledger};
@@ -19,25 +20,24 @@ pub fn put(
     out: &mut Answer,
 ) -> Result<bool, NoMemory> {
     match call {
-        "copy_places" => put_copy(alloc, words, out)?,
+        "push_places" => put_pushed(alloc, words, out)?,
         "take_places" => put_taken(alloc, words, out)?,
-        "copy_number" => put_number_copy(int_at(words, 0), out)?,
         "walk" => put_walk(alloc, words, out)?,
+        "walk_evens" => put_walk_of_evens(alloc, words, out)?,
         "take_markers" => put_markers(number_at(words, 0), number_at(words, 1), out),
         _ => return Ok(false),
     }
     Ok(true)
 }
 
-// How many places there are, and those of a copy of the hit that has them.
-fn put_copy(alloc: Global, words: &[Vec<u8>], out: &mut Answer) -> Result<(), NoMemory> {
+// How many places there are, and their codes.
+fn put_pushed(alloc: Global, words: &[Vec<u8>], out: &mut Answer) -> Result<(), NoMemory> {
     let mut places = ListOfPlaces::new(alloc);
     for word in words {
         places.push(number(word.as_slice()))?;
     }
     out.put_count(places.len());
-    let copy = TextHit { places }.copy()?;
-    put_codes(copy.places.as_slice(), out);
+    put_codes(places.as_slice(), out);
     Ok(())
 }
 
@@ -57,55 +57,53 @@ fn put_codes(codes: &[u64], out: &mut Answer) {
     }
 }
 
-// The number of a copy of a number's hit. That of a tag says nothing, and is copied too.
-fn put_number_copy(value: i64, out: &mut Answer) -> Result<(), NoMemory> {
-    let _ = TagHit {}.copy()?;
-    let copy = NumHit { value }.copy()?;
-    out.put_int(copy.value);
-    Ok(())
+// In the list of some ids, each with its negative, the place behind one number, and what a seek from another finds.
+fn put_walk(alloc: Global, words: &[Vec<u8>], out: &mut Answer) -> Result<(), NoMemory> {
+    let mut ids = Vec::new(alloc);
+    for word in rest(words, 2) {
+        ids.push(number(word.as_slice()))?;
+    }
+    let list = list_of(alloc, ids.as_slice())?;
+    put_between(&list, number_at(words, 0), number_at(words, 1), out)
 }
 
-// In the list of three rising ids, each with its negative, the place behind one number, and what a seek from another
-// finds.
-fn put_walk(alloc: Global, words: &[Vec<u8>], out: &mut Answer) -> Result<(), NoMemory> {
-    let (one, two, three) = (
-        number_at(words, 0),
-        number_at(words, 1),
-        number_at(words, 2),
-    );
-    let (after, from) = (number_at(words, 3), number_at(words, 4));
-    if one == 0 || two <= one || three <= two || 1_000 <= three || from <= after {
+// The same in the list of so many even ids from 2 on.
+fn put_walk_of_evens(alloc: Global, words: &[Vec<u8>], out: &mut Answer) -> Result<(), NoMemory> {
+    let mut ids = Vec::new(alloc);
+    for i in 0..number_at(words, 2).min(1_000) {
+        ids.push(2 * i + 2)?;
+    }
+    let list = list_of(alloc, ids.as_slice())?;
+    put_between(&list, number_at(words, 0), number_at(words, 1), out)
+}
+
+fn put_between(
+    list: &List<NumHit>,
+    after: u64,
+    from: u64,
+    out: &mut Answer,
+) -> Result<(), NoMemory> {
+    if from <= after {
         return Ok(());
     }
-    let list = list_of(alloc, one, two, three)?;
-    put_places::<Brand>(&list, after, from, Blank::new(1), out)
+    put_places::<Brand>(list, after, from, Blank::new(1), out)
 }
 
-fn list_of(alloc: Global, one: u64, two: u64, three: u64) -> Result<List<NumHit>, NoMemory>
-    requires one { 0 < one }
-    requires two { one < two }
-    requires three { two < three }
-    requires small { three < 1_000 }
-{
+// The list of the ids that rise.
+fn list_of(alloc: Global, ids: &[u64]) -> Result<List<NumHit>, NoMemory> {
     let mut list = List::new(alloc, Marker { event: 1, nth: 0 });
-    list.append(
-        one,
-        &NumHit {
-            value: -(one as i64),
-        },
-    )?;
-    list.append(
-        two,
-        &NumHit {
-            value: -(two as i64),
-        },
-    )?;
-    list.append(
-        three,
-        &NumHit {
-            value: -(three as i64),
-        },
-    )?;
+    let mut last = 0;
+    'ids: for id in ids {
+        if last < *id && *id < 1_000_000 {
+            list.append(
+                *id,
+                &NumHit {
+                    value: -(*id as i64),
+                },
+            )?;
+            last = *id;
+        }
+    }
     Ok(list)
 }
 
@@ -129,9 +127,9 @@ fn put_places<L: Ledger>(
     let found = list.seek(&mut place, from, &mut steps);
     out.put(b",");
     put_found(found, out);
-    if found.is_some() {
+    if let Some(id) = found {
         out.put(b" with ");
-        out.put_int(list.hit(&place)?.value);
+        out.put_int(list.hit(id)?.value);
     }
     put_place(&place, out);
     Ok(())
@@ -144,7 +142,6 @@ fn other_place(list: &List<NumHit>, after: u64) -> Option<Place>
     let other = Place {
         marker: Marker { event: 8, nth: 8 },
         block: 8,
-        at: 8,
         last: after,
     };
     if other.marker == list.marker() {
@@ -156,8 +153,8 @@ fn other_place(list: &List<NumHit>, after: u64) -> Option<Place>
 fn put_place(place: &Place, out: &mut Answer) {
     out.put(b" in");
     put_marker(Some(place.marker), out);
-    out.put(b" at ");
-    out.put_count(place.at);
+    out.put(b" block ");
+    out.put_count(place.block);
     out.put(b" last ");
     put_number(place.last, out);
 }

@@ -1,16 +1,16 @@
 use Rattle.std.proofs.Common.{arith, ◌&&◌, ℕ, Option, IfSome, ap, subst}
 use Rattle.id_iters.specs.Least.{IsLeast}
 use Rattle.id_iters.specs.Leaves.{has_word}
-use Rattle.id_iters.specs.Places.{LeafReady, StandAt}
+use Rattle.id_iters.specs.Places.{StandAt, WordReady}
 use Rattle.id_iters.specs.declared.leaf.Leaf.{Leaf}
 use Rattle.id_iters.proofs.LoopLaws.{set_same, nothing, all_agree, leads, agrees}
-use Rattle.id_iters.proofs.PlaceLaws.{leaf_waits, leaf_rests}
+use Rattle.id_iters.proofs.PlaceLaws.{word_waits, word_rests}
 use Rattle.id_iters.proofs.phrase.meet.Goals as goal
 
 pub returns-in_default-2-clause-least : goal.returns-in_default-2-clause-least
 returns-in_default-2-clause-least g c =
     let held = g.T.Lists.held c.args.lists.now in
-    nothing (λ (leaf : Leaf). leaf.list) (has_word held) held.live (LeafReady held) (StandAt held)
+    nothing (λ (leaf : Leaf). leaf.list) (has_word held) held.live (WordReady held) (StandAt held)
     c.args.words.now c.words.words c.args.from c.words.id c.words.lead c.words.at c.get_mut.result.now c.words.invariant.agreed
     (omega (arith, c.words-test.true, c.len.ensures)) c.get_mut.ensures.value
     (subst (λ (o : Option ℕ). IsLeast (λ id. held.live id && has_word held c.get_mut.result.now.list id) c.words.id o) c.in_default-2.is c.in_ok-next.ensures.least)
@@ -24,11 +24,11 @@ pub words-preserved-then-id-next : goal.words-preserved-then-id-next
 words-preserved-then-id-next g c =
     let held = g.T.Lists.held c.args.lists.now in
     record {
-      agreed = leads (λ (leaf : Leaf). leaf.list) (has_word held) held.live (LeafReady held) (StandAt held) (leaf_waits held) (leaf_rests held)
+      agreed = leads (λ (leaf : Leaf). leaf.list) (has_word held) held.live (WordReady held) (StandAt held) (word_waits held) (word_rests held)
           c.args.words.now c.words.words c.args.from c.words.id c.words.lead c.words.at c.in-Some-2.next c.get_mut.result.now c.seek_word.new.self
           c.words.invariant.agreed (omega (arith, c.words-test.true, c.len.ensures)) c.get_mut.ensures.value (ap (λ (leaf : Leaf). leaf.list) c.in_ok-next.ensures.same)
           (subst (λ (o : Option ℕ). IsLeast (λ id. held.live id && has_word held c.get_mut.result.now.list id) c.words.id o) c.in-Some-2.is c.in_ok-next.ensures.least)
-          (subst (λ (o : Option ℕ). IfSome o (λ id. StandAt held c.seek_word.new.self id)) c.in-Some-2.is c.in_ok-next.ensures.behind)
+          (subst (λ (o : Option ℕ). IfSome o (λ id. StandAt held c.seek_word.new.self id)) c.in-Some-2.is c.in_ok-next.ensures.at)
           c.if-id-next.true;
       counts = omega (arith, c.words.invariant.counts, c.seek_word.ensures.counts);
     }
@@ -37,11 +37,11 @@ pub words-preserved : goal.words-preserved
 words-preserved g c =
     let held = g.T.Lists.held c.args.lists.now in
     record {
-      agreed = agrees (λ (leaf : Leaf). leaf.list) (has_word held) held.live (LeafReady held) (StandAt held)
+      agreed = agrees (λ (leaf : Leaf). leaf.list) (has_word held) held.live (WordReady held) (StandAt held)
           c.args.words.now c.words.words c.args.from c.words.id c.words.lead c.words.at c.in-Some-2.next c.get_mut.result.now c.seek_word.new.self
           c.words.invariant.agreed (omega (arith, c.words-test.true, c.len.ensures)) c.get_mut.ensures.value (ap (λ (leaf : Leaf). leaf.list) c.in_ok-next.ensures.same)
           (subst (λ (o : Option ℕ). IsLeast (λ id. held.live id && has_word held c.get_mut.result.now.list id) c.words.id o) c.in-Some-2.is c.in_ok-next.ensures.least)
-          (subst (λ (o : Option ℕ). IfSome o (λ id. StandAt held c.seek_word.new.self id)) c.in-Some-2.is c.in_ok-next.ensures.behind)
+          (subst (λ (o : Option ℕ). IfSome o (λ id. StandAt held c.seek_word.new.self id)) c.in-Some-2.is c.in_ok-next.ensures.at)
           c.if-id-next.false c.if-at-lead.false;
       counts = omega (arith, c.words.invariant.counts, c.seek_word.ensures.counts);
     }
@@ -49,5 +49,5 @@ words-preserved g c =
 pub returns-clause-least : goal.returns-clause-least
 returns-clause-least g c =
     let held = g.T.Lists.held c.args.lists.now in
-    all_agree (λ (leaf : Leaf). leaf.list) (has_word held) held.live (LeafReady held) (StandAt held)
+    all_agree (λ (leaf : Leaf). leaf.list) (has_word held) held.live (WordReady held) (StandAt held)
     c.args.words.now c.words.words c.args.from c.words.id c.words.lead c.words.at c.words.invariant.agreed (omega (arith, c.words-test.false, c.len.ensures))

@@ -12,13 +12,6 @@ use Rattle.numeric_ranges.specs.Rows.{Knows}
 use Rattle.numeric_ranges.proofs.AddLaws.{AddsWell, reached_at, row_same, above_at, ids_at, add_plain, add_split}
 use Rattle.numeric_ranges.proofs.ranges.add_entry.Goals as goal
 
-pub grown-requires-clause-below : goal.grown-requires-clause-below
-grown-requires-clause-below c =
-    let items = c.args.rows.now.items in
-    let fits : SFits w64 c.args.hit.now.value = search rules in
-    let place = reached_at items c.as_slice.result.now c.args.hit.now.value c.reach-at.result c.as_slice.ensures.value c.reach-at.ensures.reach c.reach-at.ensures.within fits c.requires.held in
-    above_at items (c.reach-at.result - 1) c.index.result.now c.args.id c.requires.above place.1 c.index.ensures
-
 pub append-requires : goal.append-requires
 append-requires c =
     let items = c.args.rows.now.items in

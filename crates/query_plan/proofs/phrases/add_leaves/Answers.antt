@@ -1,7 +1,7 @@
 use Rattle.std.proofs.Common.{rules, ◌+◌, [], ◌∷◌, List, ℕ, map, take, sym, ap, ◌∙◌}
 use Rattle.std.proofs.lemmas.List.{map-append}
 use Rattle.id_iters.specs.Fitting.{IsOpenAt}
-use Rattle.id_iters.specs.Places.{LeafReady}
+use Rattle.id_iters.specs.Places.{WordReady}
 use Rattle.id_iters.specs.declared.leaf.Leaf.{Leaf}
 use Rattle.id_iters.specs.declared.list_name.ListName.TheVariants as names
 use Rattle.query_plan.specs.Known.{place_of}
@@ -23,7 +23,7 @@ words-preserved g c =
           ∙ map-append (λ (word : List ℕ). names.Word word) (take c.words.word-index words) (c.word-item.result ∷ []));
       ready =
           each_more c.word_leaf.result c.words.leaves c.add_leaf.new.leaves c.in_ok-add_leaf.ensures
-          (λ (leaf : Leaf). LeafReady held leaf (c.args.sources.now.after + 1)) c.words.invariant.ready c.word_leaf.ensures.ready;
+          (λ (leaf : Leaf). WordReady held leaf (c.args.sources.now.after + 1)) c.words.invariant.ready c.word_leaf.ensures.ready;
       placed =
           all_more c.word_leaf.result c.words.leaves c.add_leaf.new.leaves c.in_ok-add_leaf.ensures
           (λ (leaf : Leaf). IsOpenAt held leaf.list c.args.sources.now.after leaf.place) c.words.invariant.placed c.word_leaf.ensures.placed;

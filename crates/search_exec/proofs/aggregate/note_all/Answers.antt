@@ -14,14 +14,14 @@ asking-init g c =
     let held = g.T.Lists.held c.args.lists.now in
     let iter = c.args.iter.now in
     let start = c.args.store.now.reads in
-    let bits : start < 2 ^ 64 = omega (arith, c.reads-reads.ensures, c.reads-reads.type_inv) in
+    let bits : start < 2 ^ 64 = c.tell.ensures.bits in
     record {
       asked = asked-none (IsFed c.args.feed.now start c.args.feed.now start) (in_set held iter) c.args.store.now.space
           (λ id has_it. c.requires.lists.above id (live-first held iter id has_it)) (fed-none c.args.feed.now start bits);
       same = refl {a = about held iter};
       ready_from = c.requires.ready;
       most = omega arith;
-      rise = c.len-count.ensures.rises;
+      rise = c.tell.ensures.rise;
       bits = bits;
       rises = omega arith;
       space = refl;

@@ -2,7 +2,7 @@ use denote.Param.Send.{sendable}
 use Rattle.std.proofs.Crossing.{crosses}
 use Rattle.std.proofs.alloc.Global.TheSendSync as global
 use Rattle.turn_gate.proofs.pass.Pass.TheSendSync as pass
-use Rattle.server_tests.proofs.Crossing.{logged_send, server_sync}
+use Rattle.ft_server.proofs.Crossing.{logged_send, server_sync}
 use Rattle.server_tests.proofs.passes.two_threads_find_their_own_values.Goals as goal
 
 pub join-first-requires-send-F : goal.join-first-requires-send-F

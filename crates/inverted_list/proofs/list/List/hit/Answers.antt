@@ -1,20 +1,24 @@
-use Rattle.std.proofs.Common.{get_or, Some, ◌∙◌, ap, ◌-◌}
 use Rattle.inverted_list.specs.Listing.{hit_of}
-use Rattle.inverted_list.proofs.FoundLaws.{some_behind, hit_behind, copy_of_hit}
+use Rattle.inverted_list.proofs.FoundLaws.{among, own_hit, positive, if_ok_hit}
 use Rattle.inverted_list.proofs.list.List.hit.Goals as goal
 
-pub overflow_sub-place : goal.overflow_sub-place
-overflow_sub-place g c =
-    let some = some_behind c.as_slice-entries.result.now c.self.inside.entries.items c.args.self.now
-    c.as_slice-entries.ensures.value (ap (λ l. l.entries) c.self.view_is) c.self.invariant
-    c.args.place.now.at c.args.place.now.last c.requires.entry (c.requires.sound c.requires.marker).1 in
-    some.0
+pub entry_from-found-requires-clause-some : goal.entry_from-found-requires-clause-some
+entry_from-found-requires-clause-some g c = positive c.args.id c.args.self.now.entries c.own_block-block.ensures.rises c.requires
+
+pub entry_from-found-requires-clause-there : goal.entry_from-found-requires-clause-there
+entry_from-found-requires-clause-there g c =
+    let there = among c.args.id c.args.self.now.entries c.own_block-block.result.now c.own_block-block.ensures.rises c.own_block-block.ensures.found in
+    there.there
+
+pub entry_from-found-requires-clause-rises : goal.entry_from-found-requires-clause-rises
+entry_from-found-requires-clause-rises g c =
+    let there = among c.args.id c.args.self.now.entries c.own_block-block.result.now c.own_block-block.ensures.rises c.own_block-block.ensures.found in
+    there.rises
 
 pub returns : goal.returns
 returns g c =
-    let at = (c.requires.sound c.requires.marker).1 in
-    let behind = hit_behind c.as_slice-entries.result.now c.self.inside.entries.items c.args.self.now
-    c.as_slice-entries.ensures.value (ap (λ l. l.entries) c.self.view_is) c.self.invariant
-    c.args.place.now.at c.args.place.now.last c.index-entries-place.result c.requires.entry at c.index-entries-place.is in
-    copy_of_hit c.copy.result (get_or c.as_slice-entries.result.now (c.args.place.now.at - 1) c.index-entries-place.result).1
-    (hit_of c.args.place.now.last c.args.self.now) c.copy.ensures (behind ∙ ap (λ x. Some x.1) c.index-entries-place.is)
+    let found = c.entry_from-found.ensures.entry in
+    let e = found.2 in
+    let hit = own_hit c.args.id c.args.self.now.entries c.own_block-block.ensures.rises c.requires c.own_block-block.result.now found.0 found.1 e c.entry_from-found.result.id
+    c.own_block-block.ensures.found c.entry_from-found.ensures.first found.3.id found.3.parts in
+    if_ok_hit c.hit.result (hit_of c.args.id c.args.self.now) e.1 hit (c.hit.ensures found.0 found.1 e found.3)

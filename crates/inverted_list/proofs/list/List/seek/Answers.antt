@@ -1,74 +1,60 @@
-use Rattle.std.proofs.Common.{arith, ap, sym, refl, subst, IsSome, Some, ◌∙◌, ◌<◌, length}
-use Rattle.inverted_list.specs.Listing.{hit_of}
-use Rattle.inverted_list.specs.Places.{reach}
-use Rattle.inverted_list.proofs.FoundLaws.{known_fits, found_none, found_here, stands_here, entry_here}
-use Rattle.inverted_list.proofs.LeapLaws.{cost_here, cost_anew}
+use Rattle.std.proofs.Common.{arith, ◌∙◌, sym}
+use Rattle.inverted_list.proofs.FoundLaws.{among, behind_found, least_in_block, least_nowhere, least_there, fewer_steps}
 use Rattle.inverted_list.proofs.list.List.seek.Goals as goal
 
-pub reach_from-at-requires-clause-from : goal.reach_from-at-requires-clause-from
-reach_from-at-requires-clause-from g c =
-    known_fits c.as_slice-entries.result.now c.self.inside.entries.items c.args.self.now
-    c.as_slice-entries.ensures.value (ap (λ l. l.entries) c.self.view_is) c.self.invariant
-    c.known.result c.args.place.now.last c.args.from c.requires.ahead c.known.ensures.most
+pub returns-in_default-clause-found : goal.returns-in_default-clause-found
+returns-in_default-clause-found g c =
+    sym (least_nowhere c.args.from c.args.self.now.entries (omega (arith, c.requires.ahead)) c.in_default.ensures.rises (sym c.in_default.ensures.found))
 
-pub returns-then-at-entries-clause-found : goal.returns-then-at-entries-clause-found
-returns-then-at-entries-clause-found g c =
-    sym (found_none c.as_slice-entries.result.now c.self.inside.entries.items c.args.self.now
-    c.as_slice-entries.ensures.value (ap (λ l. l.entries) c.self.view_is) c.self.invariant
-    c.args.from c.args.place.now.last c.reach_from-at.result c.requires.ahead c.reach_from-at.ensures.reach c.if-at-entries.true)
+pub returns-in_default-clause-cost : goal.returns-in_default-clause-cost
+returns-in_default-clause-cost g c = λ same.
+    fewer_steps _ _ _ (omega arith) (c.number_from-number.ensures.cost same)
+
+pub returns-in_default-clause-anew : goal.returns-in_default-clause-anew
+returns-in_default-clause-anew g c =
+    fewer_steps _ _ _ (omega arith) c.number_from-number.ensures.anew
+
+pub walk-id-requires-clause-there : goal.walk-id-requires-clause-there
+walk-id-requires-clause-there g c =
+    let there = among c.args.from c.args.self.now.entries c.in-Some.block.now c.in-Some.ensures.rises (sym c.in-Some.ensures.found) in
+    there.there
+
+pub walk-id-requires-clause-rises : goal.walk-id-requires-clause-rises
+walk-id-requires-clause-rises g c =
+    let there = among c.args.from c.args.self.now.entries c.in-Some.block.now c.in-Some.ensures.rises (sym c.in-Some.ensures.found) in
+    there.rises
+
+pub behind-requires-2-clause-low : goal.behind-requires-2-clause-low
+behind-requires-2-clause-low g c =
+    let w = behind_found c.args.from c.args.self.now.entries c.in-Some.block.now (omega (arith, c.requires.ahead)) c.in-Some.ensures.rises (sym c.in-Some.ensures.found)
+    c.walk-id.result c.walk-id.ensures.first in
+    omega (arith, w.0, c.number_from-number.ensures.number)
+
+pub behind-requires-2-clause-high : goal.behind-requires-2-clause-high
+behind-requires-2-clause-high g c =
+    let w = behind_found c.args.from c.args.self.now.entries c.in-Some.block.now (omega (arith, c.requires.ahead)) c.in-Some.ensures.rises (sym c.in-Some.ensures.found)
+    c.walk-id.result c.walk-id.ensures.first in
+    omega (arith, w.1, c.number_from-number.ensures.number)
 
 pub returns-clause-found : goal.returns-clause-found
 returns-clause-found g c =
-    let within : c.reach_from-at.result < length c.as_slice-entries.result.now =
-    omega (arith, c.reach_from-at.ensures.within, c.if-at-entries.false) in
-    let found = found_here c.as_slice-entries.result.now c.self.inside.entries.items c.args.self.now
-    c.as_slice-entries.ensures.value (ap (λ l. l.entries) c.self.view_is) c.self.invariant
-    c.args.from c.args.place.now.last c.reach_from-at.result c.index-entries-at.result
-    c.requires.ahead c.reach_from-at.ensures.reach within c.index-entries-at.is in
-    ap (λ x. Some x.0) (sym c.index-entries-at.is) ∙ sym found
-
-pub returns-clause-sound : goal.returns-clause-sound
-returns-clause-sound g c =
-    let within : c.reach_from-at.result < length c.as_slice-entries.result.now =
-    omega (arith, c.reach_from-at.ensures.within, c.if-at-entries.false) in
-    let stands = stands_here c.as_slice-entries.result.now c.self.inside.entries.items c.args.self.now
-    c.as_slice-entries.ensures.value (ap (λ l. l.entries) c.self.view_is) c.self.invariant
-    c.reach_from-at.result c.index-entries-at.result within c.index-entries-at.is in
-    λ _. (refl, stands ∙ ap (λ x. reach x.0 c.args.self.now.entries) c.index-entries-at.is)
+    sym (least_in_block c.args.from c.args.self.now.entries c.in-Some.block.now (omega (arith, c.requires.ahead)) c.in-Some.ensures.rises (sym c.in-Some.ensures.found)
+    ∙ c.walk-id.ensures.first)
 
 pub returns-clause-entry : goal.returns-clause-entry
 returns-clause-entry g c =
-    let within : c.reach_from-at.result < length c.as_slice-entries.result.now =
-    omega (arith, c.reach_from-at.ensures.within, c.if-at-entries.false) in
-    let there = entry_here c.as_slice-entries.result.now c.self.inside.entries.items c.args.self.now
-    c.as_slice-entries.ensures.value (ap (λ l. l.entries) c.self.view_is) c.self.invariant
-    c.reach_from-at.result c.index-entries-at.result within c.index-entries-at.is in
-    subst (λ x. IsSome (hit_of x.0 c.args.self.now)) c.index-entries-at.is there
-
-pub returns-then-at-entries-clause-cost : goal.returns-then-at-entries-clause-cost
-returns-then-at-entries-clause-cost g c =
-    λ same. cost_here c.as_slice-entries.result.now c.self.inside.entries.items c.args.self.now
-    c.as_slice-entries.ensures.value (ap (λ l. l.entries) c.self.view_is) c.self.invariant
-    c.known.result c.args.place.now.last c.args.from c.reach_from-at.result _
-    c.requires.ahead (c.known.ensures.here same) c.reach_from-at.ensures.reach c.reach_from-at.ensures.cost
-
-pub returns-then-at-entries-clause-anew : goal.returns-then-at-entries-clause-anew
-returns-then-at-entries-clause-anew g c =
-    cost_anew c.as_slice-entries.result.now c.self.inside.entries.items c.args.self.now
-    c.as_slice-entries.ensures.value (ap (λ l. l.entries) c.self.view_is) c.self.invariant
-    c.known.result c.args.place.now.last c.args.from c.reach_from-at.result _
-    c.requires.ahead c.reach_from-at.ensures.reach c.reach_from-at.ensures.cost
+    least_there c.args.from c.walk-id.result c.args.self.now.entries
+    (least_in_block c.args.from c.args.self.now.entries c.in-Some.block.now (omega (arith, c.requires.ahead)) c.in-Some.ensures.rises (sym c.in-Some.ensures.found)
+    ∙ c.walk-id.ensures.first)
 
 pub returns-clause-cost : goal.returns-clause-cost
-returns-clause-cost g c =
-    λ same. cost_here c.as_slice-entries.result.now c.self.inside.entries.items c.args.self.now
-    c.as_slice-entries.ensures.value (ap (λ l. l.entries) c.self.view_is) c.self.invariant
-    c.known.result c.args.place.now.last c.args.from c.reach_from-at.result _
-    c.requires.ahead (c.known.ensures.here same) c.reach_from-at.ensures.reach c.reach_from-at.ensures.cost
+returns-clause-cost g c = λ same.
+    let there = among c.args.from c.args.self.now.entries c.in-Some.block.now c.in-Some.ensures.rises (sym c.in-Some.ensures.found) in
+    let few = there.parted.few in
+    fewer_steps _ _ _ (omega (arith, c.walk-id.ensures.cost, few)) (c.number_from-number.ensures.cost same)
 
 pub returns-clause-anew : goal.returns-clause-anew
 returns-clause-anew g c =
-    cost_anew c.as_slice-entries.result.now c.self.inside.entries.items c.args.self.now
-    c.as_slice-entries.ensures.value (ap (λ l. l.entries) c.self.view_is) c.self.invariant
-    c.known.result c.args.place.now.last c.args.from c.reach_from-at.result _
-    c.requires.ahead c.reach_from-at.ensures.reach c.reach_from-at.ensures.cost
+    let there = among c.args.from c.args.self.now.entries c.in-Some.block.now c.in-Some.ensures.rises (sym c.in-Some.ensures.found) in
+    let few = there.parted.few in
+    fewer_steps _ _ _ (omega (arith, c.walk-id.ensures.cost, few)) c.number_from-number.ensures.anew

@@ -1,7 +1,7 @@
 use denote.Param.Send.{sendable}
 use Rattle.std.proofs.Crossing.{crosses}
 use Rattle.ft_server.below.turn_gate.proofs.pass.Pass.TheSendSync as pass
-use Rattle.rsearch.proofs.Crossing.{logged_send, server_send, server_sync}
+use Rattle.ft_server.proofs.Crossing.{logged_send, server_send, server_sync}
 use Rattle.rsearch.proofs.fn.main.closure.Goals as goal
 
 pub start_thread-requires-send-J : goal.start_thread-requires-send-J

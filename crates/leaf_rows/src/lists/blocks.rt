@@ -1,0 +1,92 @@
+//! Blocks of a posting list: their bytes, and their ids.
+use super::numbers::{int_at, number, number_at, put_found};
+use crate::answer::Answer;
+use crate::arguments::rest;
+use ft_base::NoMemory;
+use posting_block::{Block, ListOfPlaces, NumHit, Payload, TagHit, TextHit};
+use std::alloc::Global;
+
+/// Writes the answer of a call, and tells whether it is of this file.
+pub fn put(
+    alloc: Global,
+    call: &str,
+    words: &[Vec<u8>],
+    out: &mut Answer,
+) -> Result<bool, NoMemory> {
+    match call {
+        "spell_numbers" => put_numbers(alloc, words, out)?,
+        "spell_places" => put_places(alloc, words, out)?,
+        "spell_tags" => put_bytes(&tags_of(alloc, words)?, out),
+        "block_ids" => put_ids(&tags_of(alloc, words)?, out),
+        "fill_block" => put_filled(alloc, number_at(words, 0), out)?,
+        _ => return Ok(false),
+    }
+    Ok(true)
+}
+
+// Adds an entry where a block has room for it and ends below its id.
+fn push<P: Payload>(block: &mut Block<P>, id: u64, hit: &P) -> Result<(), NoMemory> {
+    if block.len() < 100 && block.last() < id {
+        block.push(id, hit)?;
+    }
+    Ok(())
+}
+
+fn put_bytes<P: Payload>(block: &Block<P>, out: &mut Answer) {
+    for byte in block.bytes() {
+        put_found(Some(u64::from(*byte)), out);
+    }
+}
+
+// The bytes of ids with a number each.
+fn put_numbers(alloc: Global, words: &[Vec<u8>], out: &mut Answer) -> Result<(), NoMemory> {
+    let mut block = Block::new(alloc);
+    for i in 0..words.len() / 2 {
+        let value = int_at(words, 2 * i + 1);
+        push(&mut block, number_at(words, 2 * i), &NumHit { value })?;
+    }
+    put_bytes(&block, out);
+    Ok(())
+}
+
+// The bytes of an id with the places of a word, by their codes.
+fn put_places(alloc: Global, words: &[Vec<u8>], out: &mut Answer) -> Result<(), NoMemory> {
+    let mut places = ListOfPlaces::new(alloc);
+    for word in rest(words, 1) {
+        places.push(number(word.as_slice()))?;
+    }
+    let mut block = Block::new(alloc);
+    push(&mut block, number_at(words, 0), &TextHit { places })?;
+    put_bytes(&block, out);
+    Ok(())
+}
+
+fn tags_of(alloc: Global, words: &[Vec<u8>]) -> Result<Block<TagHit>, NoMemory> {
+    let mut block = Block::new(alloc);
+    for word in words {
+        push(&mut block, number(word.as_slice()), &TagHit {})?;
+    }
+    Ok(block)
+}
+
+// How many ids a block has, and which they are.
+fn put_ids(block: &Block<TagHit>, out: &mut Answer) {
+    let mut ids = [0; 100];
+    let few = block.len();
+    let count = block.ids_into(&mut ids);
+    out.put_count(count);
+    for id in &ids[..few] {
+        put_found(Some(*id), out);
+    }
+}
+
+// How many entries a block has and its last id, where so many are added to it.
+fn put_filled(alloc: Global, count: u64, out: &mut Answer) -> Result<(), NoMemory> {
+    let mut block = Block::new(alloc);
+    for i in 0..count.min(1_000) {
+        push(&mut block, i + 1, &TagHit {})?;
+    }
+    out.put_count(block.len());
+    put_found(Some(block.last()), out);
+    Ok(())
+}

@@ -1,8 +1,0 @@
-use Rattle.std.proofs.Common.{◌≡◌, []}
-use Rattle.turn_gate.proofs.gate.Gate.enter.Given as goal
-
-abbrev pub invariant-loop : goal.invariant-loop
-invariant-loop g l = (l.seat.table_id ≡ l.initial.seat.table_id) × (l.seat.id ≡ l.initial.seat.id) × (l.seat.me ≡ l.initial.seat.me)
-
-abbrev pub ghosts-try_turn : goal.ghosts-try_turn
-ghosts-try_turn g a = record { caller = a.seat.now.id; added = [] }
