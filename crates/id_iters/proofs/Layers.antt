@@ -1,13 +1,14 @@
 -- One layer of what an iterator stands for.
-use Rattle.std.proofs.Common.{◌≡◌, ℕ, ◌+◌, true, false, not, List, [], ◌∷◌, map, refl, sym, ap, ◌∙◌, Box, Global}
+use Rattle.std.proofs.Common.{◌≡◌, ℕ, ◌+◌, true, false, not, List, [], ◌∷◌, map, max, refl, sym, ap, ◌∙◌, Box, Global}
 use Rattle.std.specs.List.{AllByRecursion, flat_map}
 use Rattle.std.proofs.lemmas.List.Folds.{flat_map-map}
 use Rattle.id_iters.specs.Fitting.{ahead_leaves, leaves_of, leaves_of_ahead, leaves_step}
 use Rattle.id_iters.specs.Held.{Held}
 use Rattle.id_iters.specs.Leaves.{leaf_has, phrase_ids}
 use Rattle.id_iters.specs.Places.{LeafReady, LeavesReady}
-use Rattle.id_iters.specs.Ready.{ready_step, keeps_step, ReadyAt, AheadAt, Keeps}
+use Rattle.id_iters.specs.Ready.{ready_step, keeps_step, some_living, ReadyAt, AheadAt, Keeps}
 use Rattle.id_iters.specs.Sets.{About, set_step, ahead_step, about, about_ahead, all_have, any_has, deepest, in_set}
+use Rattle.id_iters.specs.Stretch.{Tells, Stretch, limit_of}
 use Rattle.id_iters.specs.declared.iter.Iter.{Iter}
 use Rattle.id_iters.specs.declared.iter.Ahead.{Ahead}
 use Rattle.id_iters.specs.declared.leaf.Leaf.{Leaf}
@@ -22,6 +23,11 @@ all_map : {X Y : Type 0} (v : X → Y) (P : Y → Type 0) (xs : List X) → AllB
 all_map v P [] = refl
 all_map v P (x ∷ xs) = λ i. P (v x) × all_map v P xs i
 
+-- one map over another
+maps : {X Y Z : Type 0} (v : X → Y) (f : Y → Z) (xs : List X) → map (λ x. f (v x)) xs ≡ map f (map v xs)
+maps v f [] = refl
+maps v f (x ∷ xs) = λ i. f (v x) ∷ maps v f xs i
+
 module _ (held : Held) where
   pub about_leaf : (leaf : Leaf) → about held (variant.Leaf leaf) ≡ record { has = leaf_has held leaf; depth = 1 }
   about_leaf leaf = ap (about held) (sym (variant.rolls-Leaf leaf)) ∙ folds.fold-roll-Iter About About (set_step held) ahead_step (layer.Leaf leaf)
@@ -29,8 +35,8 @@ module _ (held : Held) where
   pub about_and : (parts : List Iter) → about held (variant.And parts) ≡ record { has = all_have (map (about held) parts); depth = 1 + deepest (map (about held) parts) }
   about_and parts = ap (about held) (sym (variant.rolls-And parts)) ∙ folds.fold-roll-Iter About About (set_step held) ahead_step (layer.And parts)
 
-  pub about_or : (parts : List Ahead) → about held (variant.Or parts) ≡ record { has = any_has (map (about_ahead held) parts); depth = 1 + deepest (map (about_ahead held) parts) }
-  about_or parts = ap (about held) (sym (variant.rolls-Or parts)) ∙ folds.fold-roll-Iter About About (set_step held) ahead_step (layer.Or parts)
+  pub about_or : (parts : List Ahead) (stretch : Stretch) → about held (variant.Or parts stretch) ≡ record { has = any_has (map (about_ahead held) parts); depth = 1 + deepest (map (about_ahead held) parts) }
+  about_or parts stretch = ap (about held) (sym (variant.rolls-Or parts stretch)) ∙ folds.fold-roll-Iter About About (set_step held) ahead_step (layer.Or parts stretch)
 
   pub about_not : (part : Box Ahead Global) → about held (variant.Not part) ≡ record { has = λ id. not ((about_ahead held part.value).has id); depth = 1 + (about_ahead held part.value).depth }
   about_not part = ap (about held) (sym (variant.rolls-Not part)) ∙ folds.fold-roll-Iter About About (set_step held) ahead_step (layer.Not part)
@@ -60,7 +66,9 @@ module _ (held : Held) where
       → step X Y v v' (λ x. k (v x)) (λ y. k' (v' y)) d ≡ step Iter Ahead (λ x. x) (λ y. y) k k' (folds.map-Iter X Y Iter Ahead v v' d)
   natural X Y v v' k k' (layer.Leaf leaf) = refl
   natural X Y v v' k k' (layer.And parts) = λ i from. all_map v (λ p. k p from) parts i
-  natural X Y v v' k k' (layer.Or parts) = λ i from. all_map v' (λ p. k' p from) parts i
+  natural X Y v v' k k' (layer.Or parts stretch) = λ i from.
+      all_map v' (λ p. k' p (max from (limit_of stretch))) parts i
+      × Tells (some_living held (maps v' (about_ahead held) parts i)) stretch from
   natural X Y v v' k k' (layer.Not part) = refl
   natural X Y v v' k k' (layer.Optional part) = refl
   natural X Y v v' k k' layer.All = refl
@@ -77,8 +85,9 @@ module _ (held : Held) where
   pub ready_and : (parts : List Iter) (from : ℕ) → ReadyAt held (variant.And parts) from ≡ AllByRecursion (λ p. ReadyAt held p from) parts
   ready_and parts from = ap (λ v. ReadyAt held v from) (sym (variant.rolls-And parts)) ∙ ready_layer (layer.And parts) from
 
-  pub ready_or : (parts : List Ahead) (from : ℕ) → ReadyAt held (variant.Or parts) from ≡ AllByRecursion (λ p. AheadAt held p from) parts
-  ready_or parts from = ap (λ v. ReadyAt held v from) (sym (variant.rolls-Or parts)) ∙ ready_layer (layer.Or parts) from
+  pub ready_or : (parts : List Ahead) (stretch : Stretch) (from : ℕ)
+      → ReadyAt held (variant.Or parts stretch) from ≡ (AllByRecursion (λ p. AheadAt held p (max from (limit_of stretch))) parts × Tells (some_living held (map (about_ahead held) parts)) stretch from)
+  ready_or parts stretch from = ap (λ v. ReadyAt held v from) (sym (variant.rolls-Or parts stretch)) ∙ ready_layer (layer.Or parts stretch) from
 
   pub ready_not : (part : Box Ahead Global) (from : ℕ) → ReadyAt held (variant.Not part) from ≡ AheadAt held part.value from
   ready_not part from = ap (λ v. ReadyAt held v from) (sym (variant.rolls-Not part)) ∙ ready_layer (layer.Not part) from
@@ -108,7 +117,7 @@ leaves_and parts =
     ap leaves_of (sym (variant.rolls-And parts)) ∙ folds.fold-roll-Iter (List Leaf) (List Leaf) leaves_step ahead_leaves (layer.And parts)
     ∙ flat_map-map (λ (leaves : List Leaf). leaves) leaves_of parts
 
-pub leaves_or : (parts : List Ahead) → leaves_of (variant.Or parts) ≡ flat_map leaves_of_ahead parts
-leaves_or parts =
-    ap leaves_of (sym (variant.rolls-Or parts)) ∙ folds.fold-roll-Iter (List Leaf) (List Leaf) leaves_step ahead_leaves (layer.Or parts)
+pub leaves_or : (parts : List Ahead) (stretch : Stretch) → leaves_of (variant.Or parts stretch) ≡ flat_map leaves_of_ahead parts
+leaves_or parts stretch =
+    ap leaves_of (sym (variant.rolls-Or parts stretch)) ∙ folds.fold-roll-Iter (List Leaf) (List Leaf) leaves_step ahead_leaves (layer.Or parts stretch)
     ∙ flat_map-map (λ (leaves : List Leaf). leaves) leaves_of_ahead parts

@@ -1,4 +1,5 @@
 pub mod LeastLaws
+pub mod BitLaws
 pub mod EntryLaws
 pub mod BlockLaws
 pub mod ReadAheadLaws
@@ -12,4 +13,5 @@ pub mod PhraseLaws
 pub mod Layers
 pub mod PartLaws
 pub mod SeekLaws
+pub mod UnionLaws
 pub mod ShelfLaws

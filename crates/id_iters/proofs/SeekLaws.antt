@@ -1,5 +1,5 @@
 -- When an iterator may be asked, layer by layer.
-use Rattle.std.proofs.Common.{◌≡◌, ℕ, ◌≤◌, ◌+◌, Bool, true, false, not, List, Option, Some, None, IfSome, Result, Ok, Err, IfOk, OnOk, map, refl, sym, ap, ◌∙◌, subst, Box, Global, arith, cond}
+use Rattle.std.proofs.Common.{◌≡◌, ℕ, ◌≤◌, ◌+◌, Bool, true, false, not, List, Option, Some, None, IfSome, Result, Ok, Err, IfOk, OnOk, map, max, get_or, refl, sym, ap, ◌∙◌, subst, Box, Global, arith, cond}
 use Rattle.std.specs.List.{All}
 use Rattle.std.proofs.lemmas.List.Elements.{recursion_from_All, All-from_recursion}
 use Rattle.std.proofs.lemmas.Bool.{leb-true, leb-false}
@@ -7,8 +7,9 @@ use lib.Dec.{leb}
 use Rattle.id_iters.specs.Held.{Held}
 use Rattle.id_iters.specs.Least.{IsLeast}
 use Rattle.id_iters.specs.Places.{LeafReady, LeavesReady}
-use Rattle.id_iters.specs.Ready.{ReadyAt, AheadAt, Ready, AheadReady, Keeps, kept_answer}
+use Rattle.id_iters.specs.Ready.{ReadyAt, AheadAt, Ready, AheadReady, UnionReady, Keeps, kept_answer}
 use Rattle.id_iters.specs.Sets.{About, about, about_ahead, in_set, living, deepest}
+use Rattle.id_iters.specs.Stretch.{Stretch, base_of, limit_of}
 use Rattle.id_iters.specs.declared.iter.Iter.{Iter}
 use Rattle.id_iters.specs.declared.iter.Ahead.{Ahead}
 use Rattle.id_iters.specs.declared.leaf.Leaf.{Leaf}
@@ -90,11 +91,34 @@ module _ (held : Held) where
   pub and_ready : (parts : List Iter) (from : ℕ) → All (λ p. Ready held p from) parts → Ready held (variant.And parts) from
   and_ready parts from all = record { later = λ f g. along (sym (ready_and held parts f)) (recursion_from_All (λ p. ReadyAt held p f) parts (λ k d h. (all k d h).later f g)) }
 
-  pub or_parts : (parts : List Ahead) (from : ℕ) → Ready held (variant.Or parts) from → All (λ p. AheadReady held p from) parts
-  or_parts parts from r = λ k d h. record { later = λ f g. All-from_recursion (λ p. AheadAt held p f) parts (along (ready_or held parts f) (r.later f g)) k d h }
+  -- what a union may be asked is told of its parts and its stretch
+  pub union_later : (parts : List Ahead) (stretch : Stretch) (from f : ℕ) → UnionReady held parts stretch from → from ≤ f → UnionReady held parts stretch f
+  union_later parts stretch from f r h = record {
+    parts_ready = λ k d l. ahead_later (get_or parts k d) _ _ (r.parts_ready k d l) (omega (arith, h));
+    tells = record { begins = omega (arith, r.tells.begins, h); right = λ id low high. r.tells.right id (omega (arith, h, low)) high };
+  }
 
-  pub or_ready : (parts : List Ahead) (from : ℕ) → All (λ p. AheadReady held p from) parts → Ready held (variant.Or parts) from
-  or_ready parts from all = record { later = λ f g. along (sym (ready_or held parts f)) (recursion_from_All (λ p. AheadAt held p f) parts (λ k d h. (all k d h).later f g)) }
+  pub or_union : (parts : List Ahead) (stretch : Stretch) (from : ℕ) → Ready held (variant.Or parts stretch) from → UnionReady held parts stretch from
+  or_union parts stretch from r = record {
+    parts_ready = λ k d h. record {
+      later = λ f g.
+          subst (λ n. AheadAt held (get_or parts k d) n) (far f g)
+          (All-from_recursion (λ p. AheadAt held p (max f (limit_of stretch))) parts (along (ready_or held parts stretch f) (r.later f (omega (arith, g)))).0 k d h);
+    };
+    tells = (along (ready_or held parts stretch from) (r.later from (omega arith))).1;
+  }
+    where
+      far : (f : ℕ) → max from (limit_of stretch) ≤ f → max f (limit_of stretch) ≡ f
+      far f g = omega (arith, g)
+
+  pub or_ready : (parts : List Ahead) (stretch : Stretch) (from : ℕ) → UnionReady held parts stretch from → Ready held (variant.Or parts stretch) from
+  or_ready parts stretch from u = record {
+    later = λ f g.
+        along (sym (ready_or held parts stretch f)) (
+          recursion_from_All (λ p. AheadAt held p (max f (limit_of stretch))) parts (λ k d h. (u.parts_ready k d h).later (max f (limit_of stretch)) (omega (arith, g))),
+          (union_later parts stretch from f u g).tells,
+        );
+  }
 
   pub not_part : (part : Box Ahead Global) (from : ℕ) → Ready held (variant.Not part) from → AheadReady held part.value from
   not_part part from r = record { later = λ f g. along (ready_not held part f) (r.later f g) }
@@ -130,9 +154,10 @@ module _ (held : Held) where
   and_parts_at self parts v from is same r =
       subst (λ (l : List Iter). All (λ p. Ready held p from) l) (sym same) (and_parts parts from (subst (λ (i : Iter). Ready held i from) is r))
 
-  pub or_parts_at : (self : Iter) (parts v : List Ahead) (from : ℕ) → self ≡ variant.Or parts → v ≡ parts → Ready held self from → All (λ p. AheadReady held p from) v
-  or_parts_at self parts v from is same r =
-      subst (λ (l : List Ahead). All (λ p. AheadReady held p from) l) (sym same) (or_parts parts from (subst (λ (i : Iter). Ready held i from) is r))
+  pub or_union_at : (self : Iter) (parts v : List Ahead) (stretch w : Stretch) (from : ℕ) → self ≡ variant.Or parts stretch → v ≡ parts → w ≡ stretch → Ready held self from → UnionReady held v w from
+  or_union_at self parts v stretch w from is same bits r =
+      subst (λ (l : List Ahead). UnionReady held l w from) (sym same)
+      (subst (λ (b : Stretch). UnionReady held parts b from) (sym bits) (or_union parts stretch from (subst (λ (i : Iter). Ready held i from) is r)))
 
   pub not_part_at : (self : Iter) (part v : Box Ahead Global) (now : Ahead) (from : ℕ) → self ≡ variant.Not part → v ≡ part → now ≡ v.value → Ready held self from → AheadReady held now from
   not_part_at self part v now from is same e r =
@@ -141,8 +166,8 @@ module _ (held : Held) where
   pub deep_and : (self : Iter) (parts v : List Iter) → self ≡ variant.And parts → v ≡ parts → (about held self).depth ≡ 1 + deepest (map (about held) v)
   deep_and self parts v is same = ap (λ (i : Iter). (about held i).depth) is ∙ (ap (λ (a : About). a.depth) (about_and held parts) ∙ ap (λ (l : List Iter). 1 + deepest (map (about held) l)) (sym same))
 
-  pub deep_or : (self : Iter) (parts v : List Ahead) → self ≡ variant.Or parts → v ≡ parts → (about held self).depth ≡ 1 + deepest (map (about_ahead held) v)
-  deep_or self parts v is same = ap (λ (i : Iter). (about held i).depth) is ∙ (ap (λ (a : About). a.depth) (about_or held parts) ∙ ap (λ (l : List Ahead). 1 + deepest (map (about_ahead held) l)) (sym same))
+  pub deep_or : (self : Iter) (parts v : List Ahead) (stretch : Stretch) → self ≡ variant.Or parts stretch → v ≡ parts → (about held self).depth ≡ 1 + deepest (map (about_ahead held) v)
+  deep_or self parts v stretch is same = ap (λ (i : Iter). (about held i).depth) is ∙ (ap (λ (a : About). a.depth) (about_or held parts stretch) ∙ ap (λ (l : List Ahead). 1 + deepest (map (about_ahead held) l)) (sym same))
 
   pub deep_not : (self : Iter) (part v : Box Ahead Global) (now : Ahead) → self ≡ variant.Not part → v ≡ part → now ≡ v.value → (about held self).depth ≡ 1 + (about_ahead held now).depth
   deep_not self part v now is same e =
@@ -183,3 +208,10 @@ module _ (held : Held) where
 
   pub empty_ready : (from : ℕ) → Ready held variant.Empty from
   empty_ready from = record { later = λ f g. along (sym (ready_empty held f)) tt }
+
+  -- a union that has read nothing ahead
+  pub fresh_union : (parts : List Ahead) (stretch : Stretch) (from : ℕ) → base_of stretch ≡ 0 → limit_of stretch ≡ 0 → All (λ p. AheadReady held p from) parts → UnionReady held parts stretch from
+  fresh_union parts stretch from base limit all = record {
+    parts_ready = λ k d h. ahead_later held (get_or parts k d) from _ (all k d h) (omega arith);
+    tells = record { begins = omega (arith, base); right = λ id low high. absurd (omega (arith, limit, high)) };
+  }

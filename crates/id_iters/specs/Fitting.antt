@@ -16,7 +16,7 @@ use Rattle.id_iters.specs.declared.list_name.ListName.{ListName}
 abbrev pub leaves_step : layer.Iter-F (List Leaf) (List Leaf) → List Leaf
 leaves_step (layer.Leaf leaf) = leaf ∷ []
 leaves_step (layer.And parts) = flat_map (λ (leaves : List Leaf). leaves) parts
-leaves_step (layer.Or parts) = flat_map (λ (leaves : List Leaf). leaves) parts
+leaves_step (layer.Or parts stretch) = flat_map (λ (leaves : List Leaf). leaves) parts
 leaves_step (layer.Not part) = part.value
 leaves_step (layer.Optional part) = part.value
 leaves_step layer.All = []

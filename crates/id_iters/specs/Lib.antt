@@ -9,3 +9,4 @@ pub mod Places
 pub mod Ready
 pub mod Sample
 pub mod Sets
+pub mod Stretch

@@ -39,7 +39,7 @@ module _ (held : Held) where
   abbrev pub set_step : layer.Iter-F About About → About
   set_step (layer.Leaf leaf) = record { has = leaf_has held leaf; depth = 1 }
   set_step (layer.And parts) = record { has = all_have parts; depth = 1 + deepest parts }
-  set_step (layer.Or parts) = record { has = any_has parts; depth = 1 + deepest parts }
+  set_step (layer.Or parts stretch) = record { has = any_has parts; depth = 1 + deepest parts }
   set_step (layer.Not part) = record { has = λ id. not (part.value.has id); depth = 1 + part.value.depth }
   set_step (layer.Optional part) = record { has = λ id. true; depth = 1 + part.value.depth }
   set_step layer.All = record { has = λ id. true; depth = 1 }

@@ -1,12 +1,14 @@
 //! Iterators of document ids: sets of ids that are asked for their least live id from a number on.
-ghost use Rattle.std.specs.Prelude.{◌≡◌, ◌≤◌, ◌+◌, ◌&&◌, not, ℕ, map, IfOk, IfSome, OnOk};
+ghost use Rattle.std.specs.Prelude.{◌≡◌, ◌<◌, ◌≤◌, ◌+◌, ◌&&◌, ◌||◌, not, false, ℕ, map, max, IfOk, IfSome, OnOk};
 ghost use Rattle.std.specs.List.{All};
 ghost use Rattle.id_iters.specs.Fitting.{leaves_of, leaves_of_ahead};
 ghost use Rattle.id_iters.specs.Held.{Held, AreLists};
 ghost use Rattle.id_iters.specs.Least.{IsLeast, lesser_of};
-ghost use Rattle.id_iters.specs.Ready.{kept_answer, Ready, AheadReady};
+ghost use Rattle.id_iters.specs.Ready.{kept_answer, Ready, AheadReady, UnionReady};
 ghost use Rattle.id_iters.specs.Sets.{about, about_ahead, all_have, any_has, in_set, living};
+ghost use Rattle.id_iters.specs.Stretch.{base_of, is_in, limit_of};
 
+use crate::bits::Bits;
 use crate::leaf::Leaf;
 use crate::lists::Lists;
 use crate::phrase::PhraseIter;
@@ -21,8 +23,8 @@ pub enum Iter {
     Leaf(Leaf),
     /// The ids that every part has; without a part all.
     And(ListOf<Iter>),
-    /// The ids that some part has.
-    Or(ListOf<Ahead>),
+    /// The ids that some part has, and those of them that were read ahead.
+    Or { parts: ListOf<Ahead>, stretch: Bits },
     /// The ids that the part has not.
     Not(Box<Ahead>),
     /// All ids; the part is not asked.
@@ -121,7 +123,7 @@ impl Iter {
         match self {
             Iter::Leaf(leaf) => leaf.seek(lists, from, steps),
             Iter::And(parts) => seek_all(parts, lists, from, steps),
-            Iter::Or(parts) => seek_any(parts, lists, from, steps),
+            Iter::Or { parts, stretch } => seek_some(parts, stretch, lists, from, steps),
             Iter::Not(part) => seek_other(part, lists, from, steps),
             Iter::Optional(_) => Ok(lists.next_live(from)),
             Iter::All => Ok(lists.next_live(from)),
@@ -158,6 +160,99 @@ fn seek_other<T: Lists, L: Ledger>(
         next = id + 1;
     }
     Ok(None)
+}
+
+// The least live id from `from` on that some part has. In the stretch it is the next bit; beyond it the parts are asked, and
+// the stretch is moved to their answer and filled.
+#[cycle(seek)]
+fn seek_some<T: Lists, L: Ledger>(
+    parts: &mut ListOf<Ahead>,
+    stretch: &mut Bits,
+    lists: &T,
+    from: u64,
+    steps: &mut Steps<L>,
+) -> Result<Option<u64>, NoMemory>
+    requires lists { AreLists (T.held lists.now) }
+    requires ready { UnionReady (T.held lists.now) parts.old stretch.old from }
+    ensures least { IfOk result (λ r. IsLeast
+        (λ id. (T.held lists.now).live id
+        && any_has (map (about_ahead (T.held lists.now)) parts.old) id) from r) }
+    ensures same { OnOk result (map (about_ahead (T.held lists.now)) parts.new
+        ≡ map (about_ahead (T.held lists.now)) parts.old) }
+    ensures ready { IfOk result (λ r. IfSome r (λ id.
+        UnionReady (T.held lists.now) parts.new stretch.new (id + 1))) }
+    ensures counts { steps.old ≤ steps.new }
+{
+    if let Some(id) = stretch.next_from(from) {
+        return Ok(Some(id));
+    }
+    let next = from.max(stretch.limit());
+    let Some(id) = seek_any(parts, lists, next, steps)? else {
+        return Ok(None);
+    };
+    stretch.move_to(id)?;
+    mark_all(parts, stretch, lists, id, steps)?;
+    Ok(Some(id))
+}
+
+// Sets the bits of the live ids from `from` on that some part has.
+#[cycle(seek)]
+fn mark_all<T: Lists, L: Ledger>(
+    parts: &mut ListOf<Ahead>,
+    stretch: &mut Bits,
+    lists: &T,
+    from: u64,
+    steps: &mut Steps<L>,
+) -> Result<(), NoMemory>
+    requires lists { AreLists (T.held lists.now) }
+    requires ready { All (λ part. AheadReady (T.held lists.now) part from) parts.old }
+    requires base { base_of stretch.old ≤ from }
+    requires limit { from < limit_of stretch.old }
+    requires clear { (id : ℕ) → is_in stretch.old id ≡ false }
+    ensures same { OnOk result (map (about_ahead (T.held lists.now)) parts.new
+        ≡ map (about_ahead (T.held lists.now)) parts.old) }
+    ensures ready { OnOk result (UnionReady (T.held lists.now) parts.new stretch.new from) }
+    ensures counts { steps.old ≤ steps.new }
+{
+    'parts: for at in 0..parts.len() {
+        mark(parts.get_mut(at), stretch, lists, from, steps)?;
+    }
+    Ok(())
+}
+
+// Sets the bits of the live ids from `from` on that the part has.
+#[cycle(seek)]
+fn mark<T: Lists, L: Ledger>(
+    part: &mut Ahead,
+    stretch: &mut Bits,
+    lists: &T,
+    from: u64,
+    steps: &mut Steps<L>,
+) -> Result<(), NoMemory>
+    requires lists { AreLists (T.held lists.now) }
+    requires ready { AheadReady (T.held lists.now) part.old from }
+    requires base { base_of stretch.old ≤ from }
+    requires limit { from < limit_of stretch.old }
+    ensures has { OnOk result ((id : ℕ) → from ≤ id → id < limit_of stretch.old
+        → is_in stretch.new id ≡ (is_in stretch.old id
+        || living (T.held lists.now).live (about_ahead (T.held lists.now) part.old) id)) }
+    ensures base { base_of stretch.new ≡ base_of stretch.old }
+    ensures limit { limit_of stretch.new ≡ limit_of stretch.old }
+    ensures same { OnOk result (about_ahead (T.held lists.now) part.new
+        ≡ about_ahead (T.held lists.now) part.old) }
+    ensures ready { OnOk result (AheadReady (T.held lists.now) part.new (limit_of stretch.old)) }
+    ensures counts { steps.old ≤ steps.new }
+{
+    let limit = stretch.limit();
+    let mut next = from;
+    'ids: while let Some(id) = part.seek(lists, next, steps)? {
+        if limit <= id {
+            return Ok(());
+        }
+        stretch.set(id);
+        next = id + 1;
+    }
+    Ok(())
 }
 
 // The least live id from `from` on that some part has.

@@ -5,6 +5,7 @@
 //! Read `specs/Sets.antt` first, which says what ids an iterator has, then `iter.rt`.
 #![tactic(auto)]
 
+mod bits;
 mod blocks;
 mod hint;
 mod hit_test;
@@ -18,6 +19,8 @@ mod places;
 mod read_ahead;
 mod reading;
 
+/// Ids that a union has read ahead.
+pub use bits::Bits;
 /// Lists and places in them, kept for a reader that comes again.
 pub use hint::{Hint, Hints};
 /// A set of ids and how far it was read, and one with its last answer.

@@ -8,6 +8,7 @@ ghost use Rattle.id_iters.specs.Places.{LeafReady, LeavesReady};
 ghost use Rattle.id_iters.specs.Ready.{Ready, AheadReady};
 ghost use Rattle.id_iters.specs.Sets.{about, about_ahead, all_have, any_has};
 
+use crate::bits::Bits;
 use crate::iter::{Ahead, Iter};
 use crate::leaf::Leaf;
 use crate::phrase::PhraseIter;
@@ -46,14 +47,15 @@ impl Iter {
     }
 
     /// The ids that some part has.
-    pub fn of_some(parts: ListOf<Ahead>) -> Iter
+    pub fn of_some(alloc: Global, parts: ListOf<Ahead>) -> Iter
         ensures set { (held : Held)
             → (about held result).has ≡ any_has (map (about_ahead held) parts) }
         ensures ready { (held : Held) (from : ℕ)
             → All (λ part. AheadReady held part from) parts → Ready held result from }
         ensures leaves { leaves_of result ≡ flat_map leaves_of_ahead parts }
     {
-        Iter::Or(parts)
+        let stretch = Bits::new(alloc);
+        Iter::Or { parts, stretch }
     }
 
     /// The ids that the part has not.

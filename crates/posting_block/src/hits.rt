@@ -5,7 +5,7 @@ ghost use Rattle.posting_block.specs.Zigzag.{zigzag, unzigzag};
 ghost use Rattle.posting_block.specs.Codes.{text_spelled, text_read, TextFits};
 
 use crate::codes::{put_codes, read_codes, skip_codes};
-use crate::leb::{put_leb, read_leb};
+use crate::leb::{put_leb, read_step};
 use crate::payload::Payload;
 use crate::places::ListOfPlaces;
 use crate::zigzag::{code_of, value_of};
@@ -93,12 +93,12 @@ impl Payload for NumHit {
     }
 
     fn skip(bytes: &[u8]) -> &[u8] {
-        let (_, rest) = read_leb(bytes);
+        let (_, rest) = read_step(bytes);
         rest
     }
 
     fn read(alloc: Global, bytes: &[u8]) -> Result<NumHit, NoMemory> {
-        let (code, _) = read_leb(bytes);
+        let (code, _) = read_step(bytes);
         Ok(NumHit {
             value: value_of(code),
         })

@@ -1,5 +1,5 @@
 -- Parts put together.
-use Rattle.std.proofs.Common.{◌≡◌, ◌+◌, ◌<◌, take, slice_index_or, ℕ, Bool, true, false, ◌&&◌, ◌||◌, List, [], ◌∷◌, ◌++◌, map, length, Option, refl, sym, ap, ◌∙◌, subst, append-nil, arith}
+use Rattle.std.proofs.Common.{◌≡◌, ◌+◌, ◌<◌, take, slice_index_or, ℕ, Bool, true, false, ◌&&◌, ◌||◌, List, [], ◌∷◌, ◌++◌, map, length, IsSome, Option, refl, sym, ap, ◌∙◌, subst, append-nil, arith}
 use Rattle.std.specs.Cmp.{both_ways}
 use Rattle.std.specs.List.{All, AllByRecursion, flat_map, list_all, list_any}
 use Rattle.std.specs.List.Sorted.{IsPermutation}
@@ -10,7 +10,7 @@ use Rattle.std.proofs.lemmas.List.Folds.{list_any-append}
 use Rattle.std.proofs.lemmas.List.Sorted.{All-permutation, IsPermutation-sym}
 use Rattle.std.proofs.lemmas.List.Sums.{AllPass-from_list_all, list_all-from_AllPass}
 use Rattle.ft_base.proofs.AnyLaws.{any_map}
-use Rattle.id_iters.specs.Fitting.{leaves_of, leaves_of_ahead}
+use Rattle.id_iters.specs.Fitting.{IsOpenAt, leaves_of, leaves_of_ahead}
 use Rattle.id_iters.specs.Held.{Held}
 use Rattle.id_iters.specs.Ready.{AheadReady, Ready}
 use Rattle.id_iters.specs.Sets.{About, about, about_ahead, all_have, any_has}
@@ -19,6 +19,7 @@ use Rattle.id_iters.specs.declared.iter.Iter.{Iter}
 use Rattle.id_iters.specs.declared.leaf.Leaf.{Leaf}
 use Rattle.id_iters.specs.declared.list_name.ListName.{ListName}
 use Rattle.inverted_list.specs.declared.place.Place.{Place}
+use Rattle.query_plan.specs.Groups.{Gathers}
 use Rattle.query_plan.specs.Plans.{AllKnown, AllOpen, AllReady, Joins, PartsKnown, PartsOpen, ids_of}
 use Rattle.query_plan.specs.declared.size.Planned.{Planned}
 
@@ -97,116 +98,149 @@ joins_none made set ready leaves = record {
   known = λ known all. tt;
 }
 
-all_two : {X : Type 0} (P : X → Type 0) (a b : X) → P a → P b → All P (a ∷ b ∷ [])
-all_two P a b one other = All-from_recursion P (a ∷ b ∷ []) (one, (other, tt))
+-- ---- parts that go into a union
 
--- two parts are one that has the ids of both
-pub joins_two : (one other made : Planned) (a b : Ahead) (parts : List Ahead) → parts ≡ a ∷ b ∷ []
-    → ((held : Held) → about_ahead held a ≡ about held one.iter) → ((held : Held) → about_ahead held b ≡ about held other.iter)
-    → ((held : Held) → (about held made.iter).has ≡ any_has (map (about_ahead held) parts))
-    → ((held : Held) (from : ℕ) → Ready held one.iter from → AheadReady held a from)
-    → ((held : Held) (from : ℕ) → Ready held other.iter from → AheadReady held b from)
-    → ((held : Held) (from : ℕ) → All (λ part. AheadReady held part from) parts → Ready held made.iter from)
-    → leaves_of_ahead a ≡ leaves_of one.iter → leaves_of_ahead b ≡ leaves_of other.iter → leaves_of made.iter ≡ flat_map leaves_of_ahead parts
-    → Joins (one ∷ other ∷ []) (made ∷ [])
-joins_two one other made a b parts are first second set ready_a ready_b ready leaves_a leaves_b leaves = record {
-  set = λ held id.
-      ap (λ (has : ℕ → Bool). has id || false)
-      (set held ∙ ap (λ (ps : List Ahead). any_has (map (about_ahead held) ps)) are
-      ∙ ap (λ (x : About). any_has (x ∷ about_ahead held b ∷ [])) (first held)
-      ∙ ap (λ (y : About). any_has (about held one.iter ∷ y ∷ [])) (second held))
-      ∙ or-false (ids_of held one id || (ids_of held other id || false));
-  ready = λ held from all. (
-    ready held from (subst (All (λ (part : Ahead). AheadReady held part from)) (sym are)
-        (all_two (λ (part : Ahead). AheadReady held part from) a b (ready_a held from all.0) (ready_b held from all.1.0))),
-    tt,
-  );
-  placed = λ held after all.
-      (subst (AllOpen held after) (sym both) (all_joined _ (leaves_of one.iter) (leaves_of other.iter) all.0 all.1.0), tt);
-  known = λ known all.
-      let apart = all_apart _ (leaves_of one.iter) (leaves_of other.iter) (subst (AllKnown known) both all.0) in
-      (apart.0, (apart.1, tt));
+abbrev has_part : Held → ℕ → Ahead → Bool
+has_part held id part = (about_ahead held part).has id
+
+pub gathers_none : (left : List Planned) (parts : List Ahead) → Gathers left parts left parts
+gathers_none left parts = record {
+  set = λ held id. refl;
+  ready = λ held from all each. (all, each);
+  placed = λ held after all each. (all, each);
+  known = λ known all each. (all, each);
 }
+
+one_went : (a b p : Bool) → (a || (b || (p || false))) ≡ ((a || (p || false)) || b)
+one_went true b p = refl
+one_went false true true = refl
+one_went false true false = refl
+one_went false false true = refl
+one_went false false false = refl
+
+-- a fact of each, where the last of those left went to the parts
+part_came : (P : Planned → Type 0) (Q : Ahead → Type 0) (less : List Planned) (parts : List Ahead) (other : Planned) (part : Ahead) → (P other → Q part)
+    → AllByRecursion P (less ++ other ∷ []) → AllByRecursion Q parts → AllByRecursion P less × AllByRecursion Q (parts ++ part ∷ [])
+part_came P Q less parts other part went all each =
+    let apart = all_apart P less (other ∷ []) all in
+    (apart.0, all_joined Q parts (part ∷ []) each (went apart.1.0, tt))
+
+part_went : (P : Planned → Type 0) (Q : Ahead → Type 0) (less : List Planned) (parts : List Ahead) (other : Planned) (part : Ahead) → (Q part → P other)
+    → AllByRecursion P less → AllByRecursion Q (parts ++ part ∷ []) → AllByRecursion P (less ++ other ∷ []) × AllByRecursion Q parts
+part_went P Q less parts other part came all each =
+    let apart = all_apart Q parts (part ∷ []) each in
+    (all_joined P less (other ∷ []) all (came apart.1.0, tt), apart.0)
+
+-- one more part
+pub gathers_more : (left old : List Planned) (parts some : List Ahead) (less : List Planned) (other : Planned) (part : Ahead) (all : List Ahead) → Gathers left parts old some → old ≡ less ++ other ∷ []
+    → all ≡ some ++ part ∷ [] → ((held : Held) → about_ahead held part ≡ about held other.iter)
+    → ((held : Held) (from : ℕ) → Ready held other.iter from → AheadReady held part from) → leaves_of_ahead part ≡ leaves_of other.iter → Gathers left parts less all
+gathers_more left old parts some less other part all g took is set ready leaves =
+    subst (λ (xs : List Ahead). Gathers left parts less xs) (sym is)
+    (further (subst (λ (xs : List Planned). Gathers left parts xs some) took g))
   where
-    both : leaves_of made.iter ≡ leaves_of one.iter ++ leaves_of other.iter
-    both =
-        leaves ∙ ap (flat_map leaves_of_ahead) are ∙ ap (λ ls. leaves_of_ahead a ++ ls) (append-nil (leaves_of_ahead b))
-        ∙ ap (λ ls. ls ++ leaves_of_ahead b) leaves_a ∙ ap (λ ls. leaves_of one.iter ++ ls) leaves_b
+    further : Gathers left parts (less ++ other ∷ []) some → Gathers left parts less (some ++ part ∷ [])
+    further h = record {
+      set = λ held id.
+          ap (λ b. some_id held less id || b)
+          (list_any-append (has_part held id) some (part ∷ []) ∙ ap (λ (a : About). list_any (has_part held id) some || (a.has id || false)) (set held))
+          ∙ (one_went (some_id held less id) (list_any (has_part held id) some) (ids_of held other id)
+          ∙ (ap (λ b. b || list_any (has_part held id) some) (sym (list_any-append (λ planned. ids_of held planned id) less (other ∷ []))) ∙ h.set held id));
+      ready = λ held from all each.
+          let both = h.ready held from all each in
+          part_came (λ (planned : Planned). Ready held planned.iter from) (λ (p : Ahead). AheadReady held p from) less some other part (ready held from) both.0 both.1;
+      placed = λ held after all each.
+          let both = h.placed held after all each in
+          part_came (λ (planned : Planned). AllOpen held after (leaves_of planned.iter)) (λ (p : Ahead). AllOpen held after (leaves_of_ahead p)) less some other part (subst (AllOpen held after) (sym leaves)) both.0 both.1;
+      known = λ known all each.
+          let both = part_went (λ (planned : Planned). AllKnown known (leaves_of planned.iter)) (λ (p : Ahead). AllKnown known (leaves_of_ahead p)) less some other part (subst (AllKnown known) leaves) all each in
+          h.known known both.0 both.1;
+    }
 
--- ---- parts that are left, and pairs of those that are not
+-- a fact of the leaves of all parts
+of_each : (P : Leaf → Type 0) (parts : List Ahead) → AllByRecursion (λ (part : Ahead). AllByRecursion P (leaves_of_ahead part)) parts → AllByRecursion P (flat_map leaves_of_ahead parts)
+of_each P [] all = tt
+of_each P (p ∷ parts) all = all_joined P (leaves_of_ahead p) _ all.0 (of_each P parts all.1)
 
-pair_ids : (a p m o l : Bool) → (m || false) ≡ (o || (l || false)) → (a || (p || (m || false))) ≡ (((a || (o || false)) || (l || false)) || p)
-pair_ids true p m o l same = refl
-pair_ids false true m true l same = refl
-pair_ids false true m false true same = refl
-pair_ids false true m false false same = refl
-pair_ids false false m true l same = same
-pair_ids false false m false true same = same
-pair_ids false false m false false same = same
+each_of : (P : Leaf → Type 0) (parts : List Ahead) → AllByRecursion P (flat_map leaves_of_ahead parts) → AllByRecursion (λ (part : Ahead). AllByRecursion P (leaves_of_ahead part)) parts
+each_of P [] all = tt
+each_of P (p ∷ parts) all =
+    let both = all_apart P (leaves_of_ahead p) _ all in
+    (both.0, each_of P parts both.1)
 
--- a fact of each part, where two parts went and their pair came
-pair_came : (P : Planned → Type 0) (fewer pairs : List Planned) (last other made : Planned) → (AllByRecursion P (other ∷ last ∷ []) → AllByRecursion P (made ∷ []))
-    → AllByRecursion P (((fewer ++ other ∷ []) ++ last ∷ []) ++ pairs) → AllByRecursion P (fewer ++ (pairs ++ made ∷ []))
-pair_came P fewer pairs last other made joined all =
-    let apart = all_apart P ((fewer ++ other ∷ []) ++ last ∷ []) pairs all in
-    let rest = all_apart P (fewer ++ other ∷ []) (last ∷ []) apart.0 in
-    let first = all_apart P fewer (other ∷ []) rest.0 in
-    all_joined P fewer (pairs ++ made ∷ []) first.0 (all_joined P pairs (made ∷ []) apart.1 (joined (first.1.0, (rest.1.0, tt))))
+-- the union of the parts that a part and some of those left went to
+pub gathers_joined : (left fewer : List Planned) (one : List Ahead) (more : List Ahead) (last made : Planned) (part : Ahead) → one ≡ part ∷ [] → Gathers left one fewer more
+    → ((held : Held) → about_ahead held part ≡ about held last.iter)
+    → ((held : Held) (from : ℕ) → Ready held last.iter from → AheadReady held part from) → leaves_of_ahead part ≡ leaves_of last.iter
+    → ((held : Held) → (about held made.iter).has ≡ any_has (map (about_ahead held) more))
+    → ((held : Held) (from : ℕ) → All (λ p. AheadReady held p from) more → Ready held made.iter from)
+    → leaves_of made.iter ≡ flat_map leaves_of_ahead more → Joins (left ++ last ∷ []) (fewer ++ made ∷ [])
+gathers_joined left fewer one more last made part is g same ready leaves set asked all_leaves = further (subst (λ (xs : List Ahead). Gathers left xs fewer more) is g)
+  where
+    further : Gathers left (part ∷ []) fewer more → Joins (left ++ last ∷ []) (fewer ++ made ∷ [])
+    further h = record {
+      set = λ held id.
+          rw (list_any-append (λ planned. ids_of held planned id) fewer (made ∷ []), list_any-append (λ planned. ids_of held planned id) left (last ∷ []))
+          (ap (λ b. some_id held fewer id || b)
+          (or-false (ids_of held made id) ∙ (ap (λ (has : ℕ → Bool). has id) (set held) ∙ any_map (λ (a : About). a.has id) (about_ahead held) more))
+          ∙ (h.set held id ∙ ap (λ (a : About). some_id held left id || (a.has id || false)) (same held)));
+      ready = λ held from all.
+          let apart = all_apart (λ (planned : Planned). Ready held planned.iter from) left (last ∷ []) all in
+          let both = h.ready held from apart.0 (ready held from apart.1.0, tt) in
+          all_joined (λ (planned : Planned). Ready held planned.iter from) fewer (made ∷ []) both.0
+          (asked held from (All-from_recursion (λ (p : Ahead). AheadReady held p from) more both.1), tt);
+      placed = λ held after all.
+          let apart = all_apart (λ (planned : Planned). AllOpen held after (leaves_of planned.iter)) left (last ∷ []) all in
+          let both = h.placed held after apart.0 (subst (AllOpen held after) (sym leaves) apart.1.0, tt) in
+          all_joined (λ (planned : Planned). AllOpen held after (leaves_of planned.iter)) fewer (made ∷ []) both.0
+          (subst (AllOpen held after) (sym all_leaves) (of_each (λ (leaf : Leaf). IsOpenAt held leaf.list after leaf.place) more both.1), tt);
+      known = λ known all.
+          let apart = all_apart (λ (planned : Planned). AllKnown known (leaves_of planned.iter)) fewer (made ∷ []) all in
+          let both = h.known known apart.0 (each_of (λ (leaf : Leaf). IsSome (known leaf.list)) more (subst (AllKnown known) all_leaves apart.1.0)) in
+          all_joined (λ (planned : Planned). AllKnown known (leaves_of planned.iter)) left (last ∷ []) both.0 (subst (AllKnown known) leaves both.1.0, tt);
+    }
 
-pair_went : (P : Planned → Type 0) (fewer pairs : List Planned) (last other made : Planned) → (AllByRecursion P (made ∷ []) → AllByRecursion P (other ∷ last ∷ []))
-    → AllByRecursion P (fewer ++ (pairs ++ made ∷ [])) → AllByRecursion P (((fewer ++ other ∷ []) ++ last ∷ []) ++ pairs)
-pair_went P fewer pairs last other made joined all =
-    let apart = all_apart P fewer (pairs ++ made ∷ []) all in
-    let rest = all_apart P pairs (made ∷ []) apart.1 in
-    let two = joined rest.1 in
-    all_joined P ((fewer ++ other ∷ []) ++ last ∷ []) pairs
-    (all_joined P (fewer ++ other ∷ []) (last ∷ []) (all_joined P fewer (other ∷ []) apart.0 (two.0, tt)) (two.1.0, tt)) rest.0
+one_group : (a b g m : Bool) → (b || (m || false)) ≡ a → (b || (g || (m || false))) ≡ (a || g)
+one_group a true g m same = ap (λ x. x || g) same
+one_group a false true m same = true_last a
+  where
+    true_last : (x : Bool) → true ≡ (x || true)
+    true_last true = refl
+    true_last false = refl
+one_group a false false m same = same ∙ sym (or-false a)
 
--- the last two parts go, and the pair comes
-pub pair_more : (left less fewer pairs more : List Planned) (last other made : Planned) → left ≡ less ++ last ∷ [] → less ≡ fewer ++ other ∷ []
-    → Joins (other ∷ last ∷ []) (made ∷ []) → more ≡ pairs ++ made ∷ [] → Joins (left ++ pairs) (fewer ++ more)
-pair_more left less fewer pairs more last other made took took_next joins is =
-    subst (λ (xs : List Planned). Joins (left ++ pairs) (fewer ++ xs)) (sym is)
-    (subst (λ (xs : List Planned). Joins (xs ++ pairs) (fewer ++ (pairs ++ made ∷ []))) (sym (took ∙ ap (λ xs. xs ++ last ∷ []) took_next))
-    (record {
+-- a group came to the others
+pub group_more : (old left fewer groups more : List Planned) (last made : Planned) → old ≡ left ++ last ∷ [] → Joins (left ++ last ∷ []) (fewer ++ made ∷ []) → more ≡ groups ++ made ∷ []
+    → Joins (old ++ groups) (fewer ++ more)
+group_more old left fewer groups more last made took joins is =
+    subst (λ (xs : List Planned). Joins (old ++ groups) (fewer ++ xs)) (sym is)
+    (subst (λ (xs : List Planned). Joins (xs ++ groups) (fewer ++ (groups ++ made ∷ []))) (sym took) (further (left ++ last ∷ []) joins))
+  where
+    came : (P : Planned → Type 0) (all_old : List Planned) → (AllByRecursion P all_old → AllByRecursion P (fewer ++ made ∷ [])) → AllByRecursion P (all_old ++ groups) → AllByRecursion P (fewer ++ (groups ++ made ∷ []))
+    came P all_old joined all =
+        let apart = all_apart P all_old groups all in
+        let new = all_apart P fewer (made ∷ []) (joined apart.0) in
+        all_joined P fewer (groups ++ made ∷ []) new.0 (all_joined P groups (made ∷ []) apart.1 new.1)
+
+    went : (P : Planned → Type 0) (all_old : List Planned) → (AllByRecursion P (fewer ++ made ∷ []) → AllByRecursion P all_old) → AllByRecursion P (fewer ++ (groups ++ made ∷ [])) → AllByRecursion P (all_old ++ groups)
+    went P all_old joined all =
+        let apart = all_apart P fewer (groups ++ made ∷ []) all in
+        let rest = all_apart P groups (made ∷ []) apart.1 in
+        all_joined P all_old groups (joined (all_joined P fewer (made ∷ []) apart.0 rest.1)) rest.0
+
+    further : (all_old : List Planned) → Joins all_old (fewer ++ made ∷ []) → Joins (all_old ++ groups) (fewer ++ (groups ++ made ∷ []))
+    further all_old h = record {
       set = λ held id.
           rw (
-            list_any-append (λ planned. ids_of held planned id) fewer (pairs ++ made ∷ []),
-            list_any-append (λ planned. ids_of held planned id) pairs (made ∷ []),
-            list_any-append (λ planned. ids_of held planned id) ((fewer ++ other ∷ []) ++ last ∷ []) pairs,
-            list_any-append (λ planned. ids_of held planned id) (fewer ++ other ∷ []) (last ∷ []),
-            list_any-append (λ planned. ids_of held planned id) fewer (other ∷ []),
-          ) (pair_ids (some_id held fewer id) (some_id held pairs id) (ids_of held made id) (ids_of held other id) (ids_of held last id) (joins.set held id));
-      ready = λ held from. pair_came (λ (planned : Planned). Ready held planned.iter from) fewer pairs last other made (joins.ready held from);
-      placed = λ held after. pair_came (λ (planned : Planned). AllOpen held after (leaves_of planned.iter)) fewer pairs last other made (joins.placed held after);
-      known = λ known. pair_went (λ (planned : Planned). AllKnown known (leaves_of planned.iter)) fewer pairs last other made (joins.known known);
-    }))
-
-one_ids : (p l : Bool) → (p || (l || false)) ≡ ((l || false) || p)
-one_ids true true = refl
-one_ids true false = refl
-one_ids false true = refl
-one_ids false false = refl
-
--- the last part goes unpaired
-pub pair_last : (left less fewer pairs more : List Planned) (last : Planned) → left ≡ less ++ last ∷ [] → length less ≡ 0 → fewer ≡ [] → more ≡ pairs ++ last ∷ []
-    → Joins (left ++ pairs) (fewer ++ more)
-pair_last left less fewer pairs more last took none gone is =
-    subst (λ (xs : List Planned). Joins (left ++ pairs) (xs ++ more)) (sym gone)
-    (subst (λ (xs : List Planned). Joins (left ++ pairs) xs) (sym is)
-    (subst (λ (xs : List Planned). Joins (xs ++ pairs) (pairs ++ last ∷ [])) (sym (took ∙ ap (λ xs. xs ++ last ∷ []) (nil less none)))
-    (record {
-      set = λ held id.
-          rw (list_any-append (λ planned. ids_of held planned id) pairs (last ∷ []))
-          (one_ids (some_id held pairs id) (ids_of held last id) ∙ or_swap (ids_of held last id) (some_id held pairs id));
-      ready = λ held from all. all_joined (λ (planned : Planned). Ready held planned.iter from) pairs (last ∷ []) all.1 (all.0, tt);
-      placed = λ held after all. all_joined (λ (planned : Planned). AllOpen held after (leaves_of planned.iter)) pairs (last ∷ []) all.1 (all.0, tt);
-      known = λ known all. let apart = all_apart (λ (planned : Planned). AllKnown known (leaves_of planned.iter)) pairs (last ∷ []) all in (apart.1.0, apart.0);
-    })))
-  where
-    or_swap : (a b : Bool) → ((a || false) || b) ≡ (a || b)
-    or_swap true b = refl
-    or_swap false b = refl
+            list_any-append (λ planned. ids_of held planned id) fewer (groups ++ made ∷ []),
+            list_any-append (λ planned. ids_of held planned id) groups (made ∷ []),
+            list_any-append (λ planned. ids_of held planned id) all_old groups,
+          ) (one_group (some_id held all_old id) (some_id held fewer id) (some_id held groups id) (ids_of held made id)
+          (sym (list_any-append (λ planned. ids_of held planned id) fewer (made ∷ [])) ∙ h.set held id));
+      ready = λ held from. came (λ (planned : Planned). Ready held planned.iter from) all_old (h.ready held from);
+      placed = λ held after. came (λ (planned : Planned). AllOpen held after (leaves_of planned.iter)) all_old (h.placed held after);
+      known = λ known. went (λ (planned : Planned). AllKnown known (leaves_of planned.iter)) all_old (h.known known);
+    }
 
 -- ---- what all parts have
 

@@ -1,11 +1,12 @@
 //! Parts put together.
-ghost use Rattle.std.specs.Prelude.{◌≡◌, ◌≤◌, ◌+◌, ◌*◌, ◌++◌, not, ℕ, [], ◌∷◌, length, IfOk, Option};
+ghost use Rattle.std.specs.Prelude.{◌≡◌, ◌≤◌, ◌+◌, ◌-◌, ◌*◌, ◌++◌, not, ℕ, [], ◌∷◌, length, IfOk, OnOk, Option};
 ghost use Rattle.std.specs.List.{list_all};
 ghost use Rattle.id_iters.specs.Fitting.{leaves_of};
 ghost use Rattle.id_iters.specs.Held.{Held};
 ghost use Rattle.id_iters.specs.Ready.{Ready};
 ghost use Rattle.id_iters.specs.declared.list_name.ListName.{ListName};
 ghost use Rattle.inverted_list.specs.declared.place.Place.{Place};
+ghost use Rattle.query_plan.specs.Groups.{Gathers};
 ghost use Rattle.query_plan.specs.Plans.{AllKnown, AllOpen, AllReady, Joins, PartsKnown, PartsOpen, ids_of};
 
 use crate::size::Planned;
@@ -13,14 +14,16 @@ use ft_base::{ListOf, NoMemory};
 use id_iters::{Ahead, Iter};
 use std::alloc::Global;
 
-/// The ids that some part has. The parts are put together in pairs, and the pairs again, so that one id asks only
-/// those that come to it.
+/// So many parts a union has at most.
+const GROUP: usize = 16;
+
+/// The ids that some part has. The parts are put together in groups, and the groups again, so that no union asks many.
 pub fn some_of(alloc: Global, plans: Vec<Planned>) -> Result<Planned, NoMemory>
     ensures { IfOk result (λ made. Joins plans.items (made ∷ [])) }
 {
     let mut left = plans;
     'rounds: while left.len() > 1 {
-        left = paired(alloc, left)?;
+        left = grouped(alloc, left)?;
     }
     match left.pop() {
         Some(planned) => Ok(planned),
@@ -28,44 +31,51 @@ pub fn some_of(alloc: Global, plans: Vec<Planned>) -> Result<Planned, NoMemory>
     }
 }
 
-// Half as many parts, from the last one on.
-fn paired(alloc: Global, plans: Vec<Planned>) -> Result<Vec<Planned>, NoMemory>
-    ensures joins { IfOk result (λ pairs. Joins plans.items pairs.items) }
-    ensures fewer { IfOk result (λ pairs. 2 * length pairs.items ≤ length plans.items + 1) }
+// At most half as many parts, from the last one on.
+fn grouped(alloc: Global, plans: Vec<Planned>) -> Result<Vec<Planned>, NoMemory>
+    ensures joins { IfOk result (λ groups. Joins plans.items groups.items) }
+    ensures fewer { IfOk result (λ groups. 2 * length groups.items ≤ length plans.items + 1) }
 {
     let mut left = plans;
-    let mut pairs = Vec::new(alloc);
-    'pairs: while let Some(last) = left.pop() {
-        match left.pop() {
-            Some(other) => pairs.push(either(alloc, other, last)?)?,
-            None => pairs.push(last)?,
-        }
+    let mut groups = Vec::new(alloc);
+    'groups: while let Some(last) = left.pop() {
+        groups.push(with_others(alloc, last, &mut left)?)?;
     }
-    Ok(pairs)
+    Ok(groups)
 }
 
-// The ids that one part or the other has.
-fn either(alloc: Global, one: Planned, other: Planned) -> Result<Planned, NoMemory>
-    ensures { IfOk result (λ made. Joins (one ∷ other ∷ []) (made ∷ [])) }
+// The ids that a part has or some of the last of those left.
+fn with_others(alloc: Global, last: Planned, left: &mut Vec<Planned>) -> Result<Planned, NoMemory>
+    ensures joins { IfOk result (λ made. Joins (left.old.items ++ last ∷ []) (left.new.items ++ made ∷ [])) }
+    ensures fewer { OnOk result (length left.new.items ≤ length left.old.items - 1) }
 {
-    let size = one.size.saturating_add(other.size);
-    let parts = both(alloc, Ahead::new(one.iter), Ahead::new(other.iter))?;
+    if left.len() == 0 {
+        return Ok(last);
+    }
+    let first = last.size;
+    let mut parts = with_part(ListOf::new(alloc), Ahead::new(last.iter))?;
+    let size = gather(left, &mut parts, first)?;
     Ok(Planned {
-        iter: Iter::of_some(parts),
+        iter: Iter::of_some(alloc, parts),
         size,
     })
 }
 
-fn both(alloc: Global, one: Ahead, other: Ahead) -> Result<ListOf<Ahead>, NoMemory>
-    ensures { IfOk result (λ parts. parts ≡ one ∷ other ∷ []) }
+// Those that are left go to the parts, from the last one on, until they are enough for a union. It answers the size of all.
+fn gather(left: &mut Vec<Planned>, parts: &mut ListOf<Ahead>, first: u64) -> Result<u64, NoMemory>
+    requires { length parts.old ≡ 1 }
+    ensures gathers { OnOk result (Gathers left.old.items parts.old left.new.items parts.new) }
+    ensures fewer { OnOk result (length left.new.items ≤ length left.old.items - 1) }
 {
-    match with_part(ListOf::new(alloc), one) {
-        Ok(parts) => with_part(parts, other),
-        Err(fault) => {
-            drop(other);
-            Err(fault)
-        }
+    let mut size = first;
+    'parts: while parts.len() < GROUP {
+        let Some(other) = left.pop() else {
+            return Ok(size);
+        };
+        size = size.saturating_add(other.size);
+        parts.push(Ahead::new(other.iter))?;
     }
+    Ok(size)
 }
 
 fn with_part(parts: ListOf<Ahead>, part: Ahead) -> Result<ListOf<Ahead>, NoMemory>

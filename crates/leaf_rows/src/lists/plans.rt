@@ -196,7 +196,7 @@ fn plan_of<L: Ledger>(
 // How many unions lie in one another.
 fn depth(iter: &Iter) -> u64 {
     let mut deepest = 0;
-    if let Iter::Or(parts) = iter {
+    if let Iter::Or { parts, .. } = iter {
         for part in parts.as_slice() {
             deepest = depth(&part.iter).max(deepest);
         }
@@ -220,7 +220,7 @@ fn put_kind(iter: &Iter, out: &mut Answer) {
     match iter {
         Iter::Leaf(leaf) => put_leaf(leaf, out),
         Iter::And(_) => out.put(b"(and)"),
-        Iter::Or(_) => out.put(b"(or)"),
+        Iter::Or { .. } => out.put(b"(or)"),
         Iter::Not(_) => out.put(b"(not)"),
         Iter::Optional(_) => out.put(b"(optional)"),
         Iter::All => out.put(b"(all)"),

@@ -1,12 +1,14 @@
-use Rattle.std.proofs.Common.{rules, arith, ◌≡◌, ◌<◌, ◌+◌, ℕ, length, subst, sym, refl, ◌∙◌, ap, Box, Global, length-set, Option, IfSome}
+use Rattle.std.proofs.Common.{rules, arith, ◌≡◌, ◌<◌, ◌≤◌, ◌+◌, ℕ, length, subst, sym, refl, ◌∙◌, ap, Box, Global, length-set, Option, IfSome}
 use Rattle.id_iters.specs.declared.iter.Iter.{Iter}
 use Rattle.id_iters.specs.Least.{IsLeast}
 use Rattle.id_iters.specs.Places.{LeafReady, LeavesReady}
-use Rattle.id_iters.specs.Ready.{Ready, AheadReady}
+use Rattle.id_iters.specs.Ready.{Ready, AheadReady, UnionReady}
+use Rattle.id_iters.specs.Stretch.{base_of, limit_of}
+use Rattle.id_iters.proofs.UnionLaws.{marked_more}
 use Rattle.id_iters.specs.Sets.{About, in_set, about, about_ahead}
 use Rattle.id_iters.proofs.Layers.{about_inner}
 use Rattle.id_iters.proofs.PartLaws.{depth_in, tries}
-use Rattle.id_iters.proofs.SeekLaws.{kept_answers, not_kept_ready, ahead_asked, leaf_sound, leaf_ready, phrase_sound, phrase_ready, and_parts_at, or_parts_at, not_part_at, deep_and, deep_or, deep_not, not_same, if_answer, on_answer, on_same, ready_later, ahead_later, and_ready, or_ready, not_ready}
+use Rattle.id_iters.proofs.SeekLaws.{kept_answers, not_kept_ready, ahead_asked, leaf_sound, leaf_ready, phrase_sound, phrase_ready, and_parts_at, or_union_at, not_part_at, deep_and, deep_or, deep_not, not_same, if_answer, on_same, ready_later, ahead_later, and_ready, or_ready, not_ready}
 use Rattle.std.specs.Box.{with_value}
 use Rattle.id_iters.specs.declared.iter.Iter.TheVariants as variant
 use Rattle.std.specs.List.{All}
@@ -40,11 +42,11 @@ Iter::seek-seek_all-requires g t c κs within =
     let deep = deep_and held c.args.self.now c.in-And.parts _ c.in-And.is c.in-And.parts-is in
     search (rules, ready, deep)
 
-pub Iter::seek-seek_any-requires : goal.Iter::seek-seek_any-requires
-Iter::seek-seek_any-requires g t c κs within =
+pub Iter::seek-seek_some-requires : goal.Iter::seek-seek_some-requires
+Iter::seek-seek_some-requires g t c κs within =
     let held = g.T.Lists.held c.args.lists.now in
-    let ready = or_parts_at held c.args.self.now c.in-Or.parts _ c.args.from c.in-Or.is c.in-Or.parts-is c.requires.ready in
-    let deep = deep_or held c.args.self.now c.in-Or.parts _ c.in-Or.is c.in-Or.parts-is in
+    let ready = or_union_at held c.args.self.now c.in-Or.parts _ c.in-Or.stretch _ c.args.from c.in-Or.is c.in-Or.parts-is c.in-Or.stretch-is c.requires.ready in
+    let deep = deep_or held c.args.self.now c.in-Or.parts _ c.in-Or.stretch c.in-Or.is c.in-Or.parts-is in
     search (rules, ready, deep)
 
 pub Iter::seek-seek_other-requires : goal.Iter::seek-seek_other-requires
@@ -79,7 +81,7 @@ Iter::seek-returns-in-And-clause-ready g t c =
 pub Iter::seek-returns-in-Or-clause-ready : goal.Iter::seek-returns-in-Or-clause-ready
 Iter::seek-returns-in-Or-clause-ready g t c =
     let held = g.T.Lists.held c.args.lists.now in
-    let h = on_answer c.seek_any.result c.args.from _ (All (λ p. AheadReady held p c.args.from) c.seek_any.new.parts) (λ id. Ready held (variant.Or c.seek_any.new.parts) (id + 1)) (λ id low h. or_ready held c.seek_any.new.parts (id + 1) (λ k d l. ahead_later held _ c.args.from (id + 1) (h k d l) (omega (arith, low)))) c.seek_any.ensures.ready c.seek_any.ensures.least in
+    let h = if_answer c.seek_some.result (λ id. UnionReady held c.seek_some.new.parts c.seek_some.new.stretch (id + 1)) (λ id. Ready held (variant.Or c.seek_some.new.parts c.seek_some.new.stretch) (id + 1)) (λ id h. or_ready held c.seek_some.new.parts c.seek_some.new.stretch (id + 1) h) c.seek_some.ensures.ready in
     search (rules, h)
 
 pub Iter::seek-returns-in-Not-clause-same : goal.Iter::seek-returns-in-Not-clause-same
@@ -162,3 +164,25 @@ pub seek_all-returns-clause-least : goal.seek_all-returns-clause-least
 seek_all-returns-clause-least g t c =
     let held = g.T.Lists.held c.args.lists.now in
     all_agree (about held) (λ (a : About). a.has) held.live (Ready held) (λ (i : Iter) id. Ready held i (id + 1)) c.args.parts.now c.parts.parts c.args.from c.parts.id c.parts.lead c.parts.at c.parts.invariant.agreed (omega (arith, c.parts-test.false, c.len.ensures))
+
+pub mark_all-mark-requires : goal.mark_all-mark-requires
+mark_all-mark-requires g t c κs within =
+    let held = g.T.Lists.held c.args.lists.now in
+    let m = c.parts.invariant.marked in
+    let in' : c.parts.at < length c.parts.parts = omega (arith, c.parts-test.true, c.parts.invariant.long) in
+    let ready : AheadReady held c.get_mut.result.now c.args.from = subst (λ (a : Ahead). AheadReady held a c.args.from) (sym c.get_mut.ensures.value) (m.rest c.parts.at c.get_mut.result.now (omega arith) in') in
+    let base : base_of c.parts.stretch ≤ c.args.from = omega (arith, m.base, c.requires.base) in
+    let limit : c.args.from < limit_of c.parts.stretch = omega (arith, m.limit, c.requires.limit) in
+    let deep = depth_in (about_ahead held) c.parts.parts c.args.parts.now c.parts.at c.get_mut.result.now in' c.get_mut.ensures.value m.same in
+    search (rules, ready, base, limit, deep)
+
+pub mark_all-parts-preserved : goal.mark_all-parts-preserved
+mark_all-parts-preserved g t c =
+    let held = g.T.Lists.held c.args.lists.now in
+    let in' : c.parts.at < length c.parts.parts = omega (arith, c.parts-test.true, c.parts.invariant.long) in
+    record {
+      long = length-set c.parts.parts c.parts.at c.mark.new.part ∙ c.parts.invariant.long;
+      marked = marked_more held c.args.parts.now c.parts.parts c.args.stretch.now c.parts.stretch c.mark.new.stretch c.args.from c.parts.at c.get_mut.result.now c.mark.new.part c.parts.invariant.marked in' c.get_mut.ensures.value
+          c.in_ok-mark.ensures.same c.in_ok-mark.ensures.ready c.in_ok-mark.ensures.base c.in_ok-mark.ensures.limit c.in_ok-mark.ensures.has;
+      counts = omega (arith, c.parts.invariant.counts, c.mark.ensures.counts);
+    }

@@ -4,23 +4,34 @@ use Rattle.id_iters.specs.Ready.{Ready, AheadReady}
 use Rattle.id_iters.specs.Sets.{About, about, about_ahead, deepest}
 use Rattle.id_iters.specs.declared.iter.Iter.{Iter}
 use Rattle.id_iters.proofs.LoopLaws.{Agreed}
+use Rattle.id_iters.specs.Stretch.{limit_of}
 use Rattle.id_iters.proofs.PartLaws.{Tried}
+use Rattle.id_iters.proofs.UnionLaws.{Taken, Marked}
 use Rattle.id_iters.proofs.iter.+seek.Given as goal
 
 abbrev pub decreases-Iter::seek : goal.decreases-Iter::seek
-decreases-Iter::seek g l = 3 * (about (g.T.Lists.held l.lists.now) l.self.now).depth
+decreases-Iter::seek g l = 6 * (about (g.T.Lists.held l.lists.now) l.self.now).depth
 
 abbrev pub decreases-Ahead::seek : goal.decreases-Ahead::seek
-decreases-Ahead::seek g l = 3 * (about_ahead (g.T.Lists.held l.lists.now) l.self.now).depth + 1
+decreases-Ahead::seek g l = 6 * (about_ahead (g.T.Lists.held l.lists.now) l.self.now).depth + 1
 
 abbrev pub decreases-seek_other : goal.decreases-seek_other
-decreases-seek_other g l = 3 * (about_ahead (g.T.Lists.held l.lists.now) l.part.now).depth + 2
+decreases-seek_other g l = 6 * (about_ahead (g.T.Lists.held l.lists.now) l.part.now).depth + 2
 
 abbrev pub decreases-seek_any : goal.decreases-seek_any
-decreases-seek_any g l = 3 * deepest (map (about_ahead (g.T.Lists.held l.lists.now)) l.parts.now) + 2
+decreases-seek_any g l = 6 * deepest (map (about_ahead (g.T.Lists.held l.lists.now)) l.parts.now) + 3
+
+abbrev pub decreases-seek_some : goal.decreases-seek_some
+decreases-seek_some g l = 6 * deepest (map (about_ahead (g.T.Lists.held l.lists.now)) l.parts.now) + 4
+
+abbrev pub decreases-mark_all : goal.decreases-mark_all
+decreases-mark_all g l = 6 * deepest (map (about_ahead (g.T.Lists.held l.lists.now)) l.parts.now) + 3
+
+abbrev pub decreases-mark : goal.decreases-mark
+decreases-mark g l = 6 * (about_ahead (g.T.Lists.held l.lists.now) l.part.now).depth + 2
 
 abbrev pub decreases-seek_all : goal.decreases-seek_all
-decreases-seek_all g l = 3 * deepest (map (about (g.T.Lists.held l.lists.now)) l.parts.now) + 2
+decreases-seek_all g l = 6 * deepest (map (about (g.T.Lists.held l.lists.now)) l.parts.now) + 2
 
 abbrev pub invariant-seek_all-parts : goal.invariant-seek_all-parts
 invariant-seek_all-parts g l =
@@ -53,3 +64,22 @@ invariant-seek_other-live g l =
 
 abbrev pub decreases-seek_other-live : goal.decreases-seek_other-live
 decreases-seek_other-live g l = 2 ^ 64 - l.next
+
+abbrev pub invariant-mark_all-parts : goal.invariant-mark_all-parts
+invariant-mark_all-parts g l = record {
+  long : length l.parts ≡ l.at-end;
+  marked : Marked (g.T.Lists.held l.lists) l.fn.parts l.parts l.fn.stretch l.stretch l.from l.at;
+  counts : l.fn.steps ≤ l.steps;
+}
+
+abbrev pub invariant-mark-ids : goal.invariant-mark-ids
+invariant-mark-ids g l = record {
+  same : about_ahead (g.T.Lists.held l.lists) l.part ≡ about_ahead (g.T.Lists.held l.lists) l.fn.part;
+  ready : AheadReady (g.T.Lists.held l.lists) l.part l.next;
+  end : l.limit ≡ limit_of l.fn.stretch;
+  bits : Taken (g.T.Lists.held l.lists) l.fn.part l.fn.stretch l.stretch l.from l.next;
+  counts : l.fn.steps ≤ l.steps;
+}
+
+abbrev pub decreases-mark-ids : goal.decreases-mark-ids
+decreases-mark-ids g l = 2 ^ 64 - l.next
