@@ -53,6 +53,7 @@ SHOP_OPTIONS = {
     "sort-tenth-deep": ("@c:{color3|color4}", "NOCONTENT", "SORTBY", "p", "LIMIT", 1_000, 10),
     "sort-all": ("every", "NOCONTENT", "SORTBY", "p"),
     "sort-all-deep": ("every", "NOCONTENT", "SORTBY", "p", "LIMIT", 1_000, 10),
+    "sort-tenth-read": ("@c:{color3|color4}", "NOCONTENT", "SORTBY", "read"),
     "sort-text": ("@c:{color3|color4}", "NOCONTENT", "SORTBY", "t"),
     "in-keys": ("every", "NOCONTENT", "INKEYS", 3, "key5", "key77", "key900"),
     "filter": ("every", "NOCONTENT", "FILTER", "p", 100, 1_000),
@@ -71,8 +72,10 @@ SHOP_PARTS = {
 
 
 def shop(count, query, options=()):
-    """Documents of eight words, one of twenty tags and one of 100,000 numbers; then the searches."""
-    loads = [request("FT.CREATE", "i", "SCHEMA", "t", "TEXT", "c", "TAG", "p", "NUMERIC")]
+    """Documents of eight words, one of twenty tags and one of 100,000 numbers; then the searches. The number is kept to sort
+    by, and has another name by which it is not."""
+    schema = ("t", "TEXT", "c", "TAG", "p", "NUMERIC", "SORTABLE", "p", "AS", "read", "NUMERIC", "NOINDEX")
+    loads = [request("FT.CREATE", "i", "SCHEMA", *schema)]
     for number in range(count):
         price = number * 7_919 % 100_000
         loads.append(request("HSET", f"key{number}", "t", text(number), "c", f"color{number % 20}", "p", price))

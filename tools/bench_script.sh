@@ -46,6 +46,7 @@ shop-count 25000 50000 100000: the same with LIMIT 0 0
 shop-tenth 25000 50000 100000: a tenth of the documents by two tags, unsorted
 shop-sort-tenth 25000 50000 100000: the same, sorted by the number, the first ten
 shop-sort-tenth-deep 25000 50000 100000: the same, ten from the thousandth on
+shop-sort-tenth-read 25000 50000 100000: the same tenth, sorted by the number of a field that is not SORTABLE, the first ten
 shop-sort-text 25000 50000 100000: the same tenth, sorted by the text, the first ten
 shop-sort-all 25000 50000 100000: all, sorted by the number, the first ten
 shop-sort-all-deep 25000 50000 100000: the same, ten from the thousandth on

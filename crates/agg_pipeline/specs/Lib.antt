@@ -4,7 +4,6 @@ pub mod Feeding
 pub mod Grouping
 pub mod Groups
 pub mod Keyed
-pub mod LentRow
 pub mod Made
 pub mod Ranking
 pub mod Reduce

@@ -54,6 +54,10 @@ loaded_cells Nothing def doc = []
 loaded_cells (Fields names) def doc = fold (load_cell def doc) [] names
 loaded_cells All def doc = map (own_cell def) doc.hash
 
+-- the row of a document and these cells
+abbrev pub row_with : Doc → List Cell → Row
+row_with doc cells = record { doc = Some doc; cells = cells }
+
 -- the row that a document begins as
 abbrev pub loaded : Load → IndexDef → Doc → Row
 loaded load def doc = record { doc = Some doc; cells = loaded_cells load def doc }

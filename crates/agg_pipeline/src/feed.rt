@@ -15,14 +15,13 @@ ghost use Rattle.agg_pipeline.specs.Steps.{piped};
 ghost use Rattle.agg_pipeline.specs.Stream.{is_of_rows};
 ghost use Rattle.agg_pipeline.specs.Table.{Table, finished_row, note_row};
 
-use crate::lent_row::LentRow;
-use crate::loading::loaded_cells;
 use crate::pipeline::pipe;
 use crate::ranking::{into_items, offer_doc};
 use crate::row_steps::push_row;
 use crate::step::{Load, Reducer, Step};
-use crate::stream::{is_of_rows, pipe_doc};
+use crate::stream::{is_of_rows, made_cells, pipe_doc};
 use crate::table::Groups;
+use expr_eval::LentRow;
 use ft_base::{Bytes, Doc, IndexDef, NoMemory, Row};
 use row_sort::FirstRows;
 use std::alloc::Global;
@@ -174,7 +173,7 @@ fn group_doc(
     }
 }
 
-/// Takes the row that the first steps make of a document into its group, where they keep it.
+/// Takes the row that the first steps make of a document into its group, where they keep it. The document is lent.
 fn note_doc(
     alloc: Global,
     def: &IndexDef,
@@ -188,49 +187,16 @@ fn note_doc(
     ensures { OnOk result (list_all is_of_rows first.now ≡ true → groups.new
         ≡ fold (note_row def.now by.now reduce.now) groups.old (piped def.now first.now (loaded load.now def.now doc.now ∷ []))) }
 {
-    if first.is_empty() {
-        return note_lent(alloc, def, load, by, reduce, groups, doc);
-    }
-    let made = pipe_doc(alloc, def, load, first, doc)?;
-    note_made(def, by, reduce, groups, &made)
-}
-
-/// Takes a row into its group, where there is one.
-fn note_made(
-    def: &IndexDef,
-    by: &[Bytes],
-    reduce: &[Reducer],
-    groups: &mut Groups,
-    made: &Option<Row>,
-) -> Result<(), NoMemory>
-    ensures { OnOk result (groups.new
-        ≡ fold (note_row def.now by.now reduce.now) groups.old (option_to_list made.now)) }
-{
-    match made {
-        Some(row) => groups.note(def, by, reduce, LentRow::of(row)),
+    match made_cells(alloc, def, load, first, doc)? {
+        Some(cells) => {
+            let row = LentRow {
+                cells: cells.as_slice(),
+                doc: Some(doc),
+            };
+            groups.note(def, by, reduce, row)
+        }
         None => Ok(()),
     }
-}
-
-/// Takes the row that a document begins as into its group. The document is lent, and not copied.
-fn note_lent(
-    alloc: Global,
-    def: &IndexDef,
-    load: &Load,
-    by: &[Bytes],
-    reduce: &[Reducer],
-    groups: &mut Groups,
-    doc: &Doc,
-) -> Result<(), NoMemory>
-    ensures { OnOk result (groups.new
-        ≡ note_row def.now by.now reduce.now groups.old (loaded load.now def.now doc.now)) }
-{
-    let cells = loaded_cells(alloc, load, def, doc)?;
-    let row = LentRow {
-        cells: cells.as_slice(),
-        doc: Some(doc),
-    };
-    groups.note(def, by, reduce, row)
 }
 
 /// What the later steps make of the rows whose groups these are.

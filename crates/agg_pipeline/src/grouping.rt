@@ -3,9 +3,9 @@ ghost use Rattle.std.specs.Prelude.{◌≡◌, fold, IfOk, OnOk};
 ghost use Rattle.agg_pipeline.specs.Grouping.{grouped};
 ghost use Rattle.agg_pipeline.specs.Table.{note_row};
 
-use crate::lent_row::LentRow;
 use crate::step::Reducer;
 use crate::table::Groups;
+use expr_eval::LentRow;
 use ft_base::{Bytes, IndexDef, NoMemory, Row};
 use std::alloc::Global;
 

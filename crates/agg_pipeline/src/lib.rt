@@ -13,7 +13,6 @@ mod distinct;
 mod feed;
 mod grouping;
 mod laws;
-mod lent_row;
 mod loading;
 mod pipeline;
 mod ranking;
@@ -32,10 +31,6 @@ mod table;
 pub use feed::Feed;
 /// What is true of the definitions, whatever code there is.
 pub use laws::{equal_values, groups_of_all, rows_one_by_one};
-/// Rows that are lent.
-pub use lent_row::LentRow;
-/// The row that a document begins as, and the cells that it has from the start.
-pub use loading::{load, loaded_cells};
 /// What several steps make of rows.
 pub use pipeline::pipe;
 /// The steps, as a command gives them.

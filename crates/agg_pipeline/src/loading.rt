@@ -1,28 +1,17 @@
-//! The row that a document begins as.
+//! LOAD: the cells that a document's row begins with.
 ghost use Rattle.std.specs.Prelude.{◌≡◌, [], fold, map, IfOk, OnOk};
 ghost use Rattle.std.specs.Option.{option_map};
 ghost use Rattle.expr_eval.specs.Lending.{value_lent};
 ghost use Rattle.expr_eval.specs.Properties.{has_number, seen_as};
-ghost use Rattle.agg_pipeline.specs.Rows.{cell, load_cell, loaded, loaded_cells, own_cell, value_there};
+ghost use Rattle.agg_pipeline.specs.Rows.{cell, load_cell, loaded_cells, own_cell, value_there};
 
 use crate::cells::set_cell;
 use crate::step::Load;
 use expr_eval::{Lent, by_alias, by_name, has_number, seen_as};
-use ft_base::{Bytes, Cell, Doc, Field, IndexDef, ListOf, NoMemory, Row};
+use ft_base::{Bytes, Cell, Doc, Field, IndexDef, ListOf, NoMemory};
 use std::alloc::Global;
 
-/// The row that a document begins as.
-pub fn load(alloc: Global, load: &Load, def: &IndexDef, doc: Doc) -> Result<Row, NoMemory>
-    ensures { IfOk result (λ row. row ≡ loaded load.now def.now doc) }
-{
-    let cells = loaded_cells(alloc, load, def, &doc)?;
-    Ok(Row {
-        doc: Some(doc),
-        cells,
-    })
-}
-
-/// The cells that the row has from the start.
+/// The cells that a document's row has from the start.
 pub fn loaded_cells(
     alloc: Global,
     load: &Load,

@@ -1,18 +1,17 @@
 //! The first rows of a SORTBY with MAX while documents come one by one, so that no more than twice MAX are held, and a
 //! document is copied only where its row may be among them.
-ghost use Rattle.std.specs.Prelude.{◌≡◌, ◌∷◌, ◌++◌, [], List, Some, map, option_to_list, true, unwrap_or, IfOk, OnOk};
+ghost use Rattle.std.specs.Prelude.{◌≡◌, ◌∷◌, ◌++◌, [], List, Some, map, true, unwrap_or, IfOk, OnOk};
 ghost use Rattle.std.specs.List.{list_all};
 ghost use Rattle.ft_base.specs.declared.row.Row.{Row as ARow};
 ghost use Rattle.agg_pipeline.specs.Ranking.{AreFirst, no_rows, offered, one_more, ranked, rows_held};
-ghost use Rattle.agg_pipeline.specs.Rows.{loaded};
+ghost use Rattle.agg_pipeline.specs.Rows.{loaded, row_with};
 ghost use Rattle.agg_pipeline.specs.Steps.{piped};
 ghost use Rattle.agg_pipeline.specs.Stream.{is_of_rows};
 
-use crate::lent_row::LentRow;
-use crate::loading::loaded_cells;
-use crate::sorting::{directions, items_of, key_values, rank};
+use crate::sorting::{directions, items_of, key_values};
 use crate::step::{Load, SortKey, Step};
-use crate::stream::{copy_doc, pipe_doc};
+use crate::stream::{made_cells, own_row};
+use expr_eval::LentRow;
 use ft_base::{Cell, Doc, IndexDef, ListOf, NoMemory, Row, Value};
 use row_sort::{FirstRows, Ranked};
 use std::alloc::Global;
@@ -70,77 +69,53 @@ fn offer_made(
           (map (ranked def.now keys.now) (piped def.now first.now (loaded load.now def.now doc.now ∷ [])));
     }) }
 {
-    if first.is_empty() {
-        return offer_lent(alloc, def, load, keys, held, doc);
-    }
-    let made = pipe_doc(alloc, def, load, first, doc)?;
-    offer_row(alloc, def, keys, held, made)
-}
-
-/// Offers a row, where there is one.
-fn offer_row(
-    alloc: Global,
-    def: &IndexDef,
-    keys: &[SortKey],
-    held: &mut FirstRows<Row>,
-    made: Option<Row>,
-) -> Result<(), NoMemory>
-    ensures { OnOk result (held.new ≡ record held.old {
-      rows = offered held.old.by held.old.most held.old.rows
-          (map (ranked def.now keys.now) (option_to_list made));
-    }) }
-{
-    match made {
-        Some(row) => held.offer(rank(alloc, def, keys, row)?),
+    match made_cells(alloc, def, load, first, doc)? {
+        Some(cells) => offer_cells(alloc, def, keys, held, doc, cells),
         None => Ok(()),
     }
 }
 
-/// Offers the row that a document begins as. The document is lent for the values of the keys.
-fn offer_lent(
+/// Offers the row of a document and these cells. The document is lent for the values of the keys.
+fn offer_cells(
     alloc: Global,
     def: &IndexDef,
-    load: &Load,
     keys: &[SortKey],
     held: &mut FirstRows<Row>,
     doc: &Doc,
+    cells: ListOf<Cell>,
 ) -> Result<(), NoMemory>
     ensures { OnOk result (held.new ≡ record held.old {
       rows = one_more held.old.by held.old.most held.old.rows
-          (ranked def.now keys.now (loaded load.now def.now doc.now));
+          (ranked def.now keys.now (row_with doc.now cells));
     }) }
 {
-    let cells = loaded_cells(alloc, load, def, doc)?;
     let row = LentRow {
         cells: cells.as_slice(),
         doc: Some(doc),
     };
     let values = key_values(alloc, def, keys, row)?;
-    offer_values(alloc, held, values, cells, doc)
+    offer_values(alloc, held, values, doc, cells)
 }
 
-/// Offers the row of these cells and a document, with its values of the keys. The document is copied only where the row
+/// Offers the row of a document and these cells, with its values of the keys. The document is copied only where the row
 /// may be among the first.
 fn offer_values(
     alloc: Global,
     held: &mut FirstRows<Row>,
     values: ListOf<Value>,
-    cells: ListOf<Cell>,
     doc: &Doc,
+    cells: ListOf<Cell>,
 ) -> Result<(), NoMemory>
     ensures { OnOk result (held.new ≡ record held.old {
       rows = one_more held.old.by held.old.most held.old.rows
-          (record { values = values; item = record { doc = Some doc.now; cells = cells } });
+          (record { values = values; item = row_with doc.now cells });
     }) }
 {
     if held.turns_away(values.as_slice()) {
         return Ok(());
     }
-    let doc = Some(copy_doc(alloc, doc)?);
-    held.offer(Ranked {
-        values,
-        item: Row { doc, cells },
-    })
+    let item = own_row(alloc, doc, cells)?;
+    held.offer(Ranked { values, item })
 }
 
 /// The first rows in order, without their values.

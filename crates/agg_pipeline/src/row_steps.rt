@@ -1,11 +1,10 @@
 //! The steps that take a row at a time, APPLY and FILTER, and LIMIT.
 ghost use Rattle.std.specs.Prelude.{◌≡◌, [], ◌∷◌, ◌++◌, drop, filter, map, take, IfOk, OnOk};
-ghost use Rattle.expr_eval.specs.Values.{is_true, operand_of};
 ghost use Rattle.agg_pipeline.specs.Steps.{applied, is_kept};
 
 use crate::cells::set_cell;
-use expr_eval::{Expr, Lent, eval};
-use ft_base::{IndexDef, NoMemory, Row, Value};
+use expr_eval::{Expr, LentRow, eval, holds};
+use ft_base::{IndexDef, NoMemory, Row};
 use std::alloc::Global;
 
 /// APPLY: each row has a cell with the expression's value.
@@ -25,7 +24,7 @@ pub fn apply_all(
 }
 
 /// The row has a cell with the expression's value.
-pub fn apply(
+fn apply(
     alloc: Global,
     def: &IndexDef,
     expr: &Expr,
@@ -34,7 +33,7 @@ pub fn apply(
 ) -> Result<(), NoMemory>
     ensures { OnOk result (row.new ≡ applied def.now expr.now name.now row.old) }
 {
-    let value = eval(alloc, expr, row, def)?;
+    let value = eval(alloc, expr, LentRow::of(row), def)?;
     set_cell(alloc, &mut row.cells, name, value)
 }
 
@@ -65,7 +64,7 @@ fn keep(
     ensures { OnOk result (kept.new.items
         ≡ kept.old.items ++ filter (is_kept def.now expr.now) (row ∷ [])) }
 {
-    if is_kept(alloc, def, expr, &row)? {
+    if holds(alloc, expr, LentRow::of(&row), def)? {
         push_row(kept, row)
     } else {
         Ok(())
@@ -78,20 +77,6 @@ pub fn push_row(rows: &mut Vec<Row>, row: Row) -> Result<(), NoMemory>
 {
     rows.push(row)?;
     Ok(())
-}
-
-/// Whether the expression is a Num other than 0 in the row.
-pub fn is_kept(alloc: Global, def: &IndexDef, expr: &Expr, row: &Row) -> Result<bool, NoMemory>
-    ensures { IfOk result (λ kept. kept ≡ is_kept def.now expr.now row.now) }
-{
-    let value = eval(alloc, expr, row, def)?;
-    Ok(is_true(&value))
-}
-
-fn is_true(value: &Value) -> bool
-    ensures { result ≡ is_true (operand_of value.now) }
-{
-    Lent::of(value).is_true()
 }
 
 /// LIMIT: the rows of the window.

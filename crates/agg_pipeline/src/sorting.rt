@@ -3,12 +3,12 @@ ghost use Rattle.std.specs.Prelude.{◌≡◌, [], ◌∷◌, ◌++◌, map, tak
 ghost use Rattle.expr_eval.specs.Properties.{property_value};
 ghost use Rattle.row_sort.specs.Order.{row_order};
 ghost use Rattle.row_sort.specs.Sorting.{sorted};
-ghost use Rattle.agg_pipeline.specs.LentRow.{row_of};
+ghost use Rattle.expr_eval.specs.Lending.{row_of};
 ghost use Rattle.agg_pipeline.specs.Ranking.{items_of, offered, ranked};
 ghost use Rattle.agg_pipeline.specs.Steps.{directions, first_rows, key_values, keys_order};
 
-use crate::lent_row::LentRow;
 use crate::step::SortKey;
+use expr_eval::LentRow;
 use ft_base::{IndexDef, ListOf, NoMemory, Row, Value};
 use row_sort::{Direction, FirstRows, Ranked, order_rows};
 use std::alloc::Global;
@@ -106,12 +106,7 @@ fn rank_all(
 }
 
 /// A row with its values of the keys.
-pub fn rank(
-    alloc: Global,
-    def: &IndexDef,
-    keys: &[SortKey],
-    row: Row,
-) -> Result<Ranked<Row>, NoMemory>
+fn rank(alloc: Global, def: &IndexDef, keys: &[SortKey], row: Row) -> Result<Ranked<Row>, NoMemory>
     ensures { IfOk result (λ made. made ≡ ranked def.now keys.now row) }
 {
     let values = key_values(alloc, def, keys, LentRow::of(&row))?;

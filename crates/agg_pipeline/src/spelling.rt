@@ -3,13 +3,13 @@ ghost use Rattle.std.specs.Prelude.{◌≡◌, [], ◌∷◌, ◌++◌, length, 
 ghost use Rattle.std.specs.Int.{cast_unsigned, w64};
 ghost use Rattle.ft_base.specs.Reply.{joined};
 ghost use Rattle.expr_eval.specs.Properties.{property_value};
-ghost use Rattle.agg_pipeline.specs.LentRow.{row_of};
+ghost use Rattle.expr_eval.specs.Lending.{row_of};
 ghost use Rattle.agg_pipeline.specs.Equal.{eight_bytes, spelled, spelled_all};
 ghost use Rattle.agg_pipeline.specs.Grouping.{tuple_of};
 ghost use Rattle.agg_pipeline.specs.Seen.{seen};
 
-use crate::lent_row::LentRow;
 use crate::seen::Seen;
+use expr_eval::LentRow;
 use ft_base::{Bytes, IndexDef, NoMemory, Value};
 
 /// Appends the spelling of a value.

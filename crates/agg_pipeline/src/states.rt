@@ -1,17 +1,16 @@
 //! What several reducers made of the rows so far.
 ghost use Rattle.std.specs.Prelude.{◌≡◌, drop, OnOk, IfOk};
 ghost use Rattle.expr_eval.specs.Lending.{value_lent};
-ghost use Rattle.agg_pipeline.specs.LentRow.{row_of};
+ghost use Rattle.expr_eval.specs.Lending.{row_of};
 ghost use Rattle.agg_pipeline.specs.Made.{finished, finished_cells, set_finished, starts, states_step, step};
 ghost use Rattle.agg_pipeline.specs.Grouping.{value_for};
 ghost use Rattle.agg_pipeline.specs.Rows.{cell, set_cell, set_cells};
 
 use crate::cells::set_cell;
-use crate::lent_row::LentRow;
 use crate::seen::Seen;
 use crate::state::State;
 use crate::step::Reducer;
-use expr_eval::Lent;
+use expr_eval::{Lent, LentRow};
 use ft_base::{Bytes, Cell, IndexDef, ListOf, NoMemory};
 use std::alloc::Global;
 use std::marker::Model;

@@ -1,16 +1,17 @@
 //! The steps of a stream, which take a row at a time: APPLY and FILTER.
 ghost use Rattle.std.specs.Prelude.{◌≡◌, [], ◌∷◌, Some, filter, true, is_some, option_to_list, IfOk, IfSome};
 ghost use Rattle.std.specs.List.{list_all};
+ghost use Rattle.std.specs.Option.{option_map};
 ghost use Rattle.agg_pipeline.specs.RowMade.{row_made};
-ghost use Rattle.agg_pipeline.specs.Rows.{loaded};
+ghost use Rattle.agg_pipeline.specs.Rows.{loaded, row_with};
 ghost use Rattle.agg_pipeline.specs.Steps.{applied, is_kept, piped, step_rows};
 ghost use Rattle.agg_pipeline.specs.Stream.{is_of_rows};
 
-use crate::loading;
-use crate::row_steps::{apply, is_kept};
+use crate::cells::set_cell;
+use crate::loading::loaded_cells;
 use crate::step::{Load, Step};
-use expr_eval::Expr;
-use ft_base::{Bytes, Doc, IndexDef, ListOf, NoMemory, Row};
+use expr_eval::{Expr, LentRow, eval, holds};
+use ft_base::{Bytes, Cell, Doc, IndexDef, ListOf, NoMemory, Row};
 use std::alloc::Global;
 use std::marker::Model;
 
@@ -55,7 +56,7 @@ impl StreamSteps {
 }
 
 /// The row that a document becomes by LOAD and steps that take a row at a time, and none where a FILTER drops it. The
-/// document is copied, as its row owns it.
+/// document is copied only for a row that there is, as the row owns it.
 pub fn pipe_doc(
     alloc: Global,
     def: &IndexDef,
@@ -66,12 +67,21 @@ pub fn pipe_doc(
     ensures { IfOk result (λ made. list_all is_of_rows steps.now ≡ true
         → option_to_list made ≡ piped def.now steps.now (loaded load.now def.now doc.now ∷ [])) }
 {
-    let row = loading::load(alloc, load, def, copy_doc(alloc, doc)?)?;
-    pipe_row(alloc, def, steps, row)
+    match made_cells(alloc, def, load, steps, doc)? {
+        Some(cells) => Ok(Some(own_row(alloc, doc, cells)?)),
+        None => Ok(None),
+    }
 }
 
-/// A copy of a document, for the row that owns it.
-pub fn copy_doc(alloc: Global, doc: &Doc) -> Result<Doc, NoMemory>
+/// The row of a document and these cells. The document is copied, as the row owns it.
+pub fn own_row(alloc: Global, doc: &Doc, cells: ListOf<Cell>) -> Result<Row, NoMemory>
+    ensures { IfOk result (λ row. row ≡ row_with doc.now cells) }
+{
+    let doc = Some(copy_doc(alloc, doc)?);
+    Ok(Row { doc, cells })
+}
+
+fn copy_doc(alloc: Global, doc: &Doc) -> Result<Doc, NoMemory>
     ensures { IfOk result (λ copy. copy ≡ doc.now) }
 {
     let key = Bytes::from_slice(alloc, doc.key.as_slice())?;
@@ -83,58 +93,99 @@ pub fn copy_doc(alloc: Global, doc: &Doc) -> Result<Doc, NoMemory>
     })
 }
 
-/// What steps that take a row at a time make of a row.
-fn pipe_row(
+/// The cells of the row that a document becomes by LOAD and steps that take a row at a time, and none where a FILTER drops
+/// the row. The document is lent.
+pub fn made_cells(
+    alloc: Global,
+    def: &IndexDef,
+    load: &Load,
+    steps: &[Step],
+    doc: &Doc,
+) -> Result<Option<ListOf<Cell>>, NoMemory>
+    ensures { IfOk result (λ made. list_all is_of_rows steps.now ≡ true
+        → option_to_list (option_map (row_with doc.now) made) ≡ piped def.now steps.now (loaded load.now def.now doc.now ∷ [])) }
+{
+    let cells = loaded_cells(alloc, load, def, doc)?;
+    pipe_cells(alloc, def, steps, doc, cells)
+}
+
+/// What steps that take a row at a time make of the row of a document and these cells.
+fn pipe_cells(
     alloc: Global,
     def: &IndexDef,
     steps: &[Step],
-    row: Row,
-) -> Result<Option<Row>, NoMemory>
+    doc: &Doc,
+    cells: ListOf<Cell>,
+) -> Result<Option<ListOf<Cell>>, NoMemory>
     ensures { IfOk result (λ made. list_all is_of_rows steps.now ≡ true
-        → option_to_list made ≡ piped def.now steps.now (row ∷ [])) }
+        → option_to_list (option_map (row_with doc.now) made) ≡ piped def.now steps.now (row_with doc.now cells ∷ [])) }
 {
-    let mut row = row;
+    let mut cells = cells;
     for step in steps {
-        match step_row(alloc, def, step, row)? {
-            Some(made) => row = made,
+        match step_cells(alloc, def, step, doc, cells)? {
+            Some(made) => cells = made,
             None => return Ok(None),
         }
     }
-    Ok(Some(row))
+    Ok(Some(cells))
 }
 
-/// What one such step makes of a row.
-fn step_row(alloc: Global, def: &IndexDef, step: &Step, row: Row) -> Result<Option<Row>, NoMemory>
+/// What one such step makes of the row of a document and these cells.
+fn step_cells(
+    alloc: Global,
+    def: &IndexDef,
+    step: &Step,
+    doc: &Doc,
+    cells: ListOf<Cell>,
+) -> Result<Option<ListOf<Cell>>, NoMemory>
     ensures { IfOk result (λ made. is_of_rows step.now ≡ true
-        → option_to_list made ≡ step_rows def.now step.now (row ∷ [])) }
+        → option_to_list (option_map (row_with doc.now) made) ≡ step_rows def.now step.now (row_with doc.now cells ∷ [])) }
 {
     match step {
-        Step::Apply { expr, name } => apply_row(alloc, def, expr, name.as_slice(), row),
-        Step::Keep { expr } => keep_row(alloc, def, expr, row),
+        Step::Apply { expr, name } => apply_cell(alloc, def, expr, name.as_slice(), doc, cells),
+        Step::Keep { expr } => keep_cells(alloc, def, expr, doc, cells),
         // No such step is a stream's.
         Step::Group { .. } | Step::Sort { .. } | Step::Limit { .. } => Ok(None),
     }
 }
 
-fn apply_row(
+fn apply_cell(
     alloc: Global,
     def: &IndexDef,
     expr: &Expr,
     name: &[u8],
-    row: Row,
-) -> Result<Option<Row>, NoMemory>
-    ensures { IfOk result (λ made. made ≡ Some (applied def.now expr.now name.now row)) }
+    doc: &Doc,
+    cells: ListOf<Cell>,
+) -> Result<Option<ListOf<Cell>>, NoMemory>
+    ensures { IfOk result (λ made. option_map (row_with doc.now) made
+        ≡ Some (applied def.now expr.now name.now (row_with doc.now cells))) }
 {
-    let mut row = row;
-    apply(alloc, def, expr, name, &mut row)?;
-    Ok(Some(row))
+    let row = LentRow {
+        cells: cells.as_slice(),
+        doc: Some(doc),
+    };
+    let value = eval(alloc, expr, row, def)?;
+    let mut cells = cells;
+    set_cell(alloc, &mut cells, name, value)?;
+    Ok(Some(cells))
 }
 
-fn keep_row(alloc: Global, def: &IndexDef, expr: &Expr, row: Row) -> Result<Option<Row>, NoMemory>
-    ensures { IfOk result (λ made. option_to_list made ≡ filter (is_kept def.now expr.now) (row ∷ [])) }
+fn keep_cells(
+    alloc: Global,
+    def: &IndexDef,
+    expr: &Expr,
+    doc: &Doc,
+    cells: ListOf<Cell>,
+) -> Result<Option<ListOf<Cell>>, NoMemory>
+    ensures { IfOk result (λ made. option_to_list (option_map (row_with doc.now) made)
+        ≡ filter (is_kept def.now expr.now) (row_with doc.now cells ∷ [])) }
 {
-    if is_kept(alloc, def, expr, &row)? {
-        Ok(Some(row))
+    let row = LentRow {
+        cells: cells.as_slice(),
+        doc: Some(doc),
+    };
+    if holds(alloc, expr, row, def)? {
+        Ok(Some(cells))
     } else {
         Ok(None)
     }

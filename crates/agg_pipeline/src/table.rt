@@ -2,7 +2,7 @@
 ghost use Rattle.std.specs.Prelude.{◌≡◌, ◌<◌, ◌++◌, ◌∷◌, [], None, map, slice_get, OnOk, IfOk, IfSome};
 ghost use Rattle.indexmap.specs.IndexMap.{index_map_len, set_value_at, values};
 ghost use Rattle.std.specs.Map.{lookup};
-ghost use Rattle.agg_pipeline.specs.LentRow.{row_of};
+ghost use Rattle.expr_eval.specs.Lending.{row_of};
 ghost use Rattle.agg_pipeline.specs.Made.{starts, states_step};
 ghost use Rattle.expr_eval.specs.Properties.{property_value};
 ghost use Rattle.agg_pipeline.specs.Rows.{cell, set_cell};
@@ -10,10 +10,10 @@ ghost use Rattle.agg_pipeline.specs.Spellings.{is_kept};
 ghost use Rattle.agg_pipeline.specs.Table.{begun_cells, finished_row, first_entry, making_of, note_row, stepped, table_of, tuple_key};
 
 use crate::cells::set_cell;
-use crate::lent_row::LentRow;
 use crate::spelling::spell_tuple;
 use crate::states::States;
 use crate::step::Reducer;
+use expr_eval::LentRow;
 use ft_base::{Bytes, Cell, IndexDef, ListOf, NoMemory, Row};
 use indexmap::IndexMap;
 use std::alloc::Global;

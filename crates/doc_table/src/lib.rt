@@ -1,14 +1,19 @@
-//! The documents of one index: which ids are live, and their keys.
+//! The documents of one index: which ids are live, and the numbers that searches sort by.
 //!
-//! A document is prepared first, which may want memory, and then committed without it. Read
+//! A document is prepared first, which may run out of memory, and then committed, which takes none. Read
 //! `table.rt`, then `specs/Table.antt`. The ids of all rows are bits too: `pages.rt`.
 #![tactic(auto)]
 
 mod changes;
+mod doc_row;
+mod doc_rows;
 mod page;
 mod pages;
 mod places;
+mod sorting_vector;
 mod table;
 
+/// The numbers of a document that searches sort by.
+pub use sorting_vector::SortingVector;
 /// The documents of one index, and a list of their ids.
 pub use table::{DocTable, IdList};

@@ -1,18 +1,19 @@
-//! One map from ids to keys, whose last row may wait to be committed, and a bit for each id that has a
+//! The rows of documents by id, of which the last may wait to be committed, and a bit for each id that has a
 //! row. So a search that asks whether an id is live reads a bit and no row, and a document that is
 //! killed leaves neither.
-ghost use Rattle.std.specs.Prelude.{◌≡◌, ℕ, ◌+◌, ◌/◌, ◌<◌, ◌++◌, ◌∷◌, [], None, Some, nat_eq, nat_le, is_some, length, map, find, take, IfOk, IfSome, OnOk, OnErr};
+ghost use Rattle.std.specs.Prelude.{◌≡◌, ℕ, ◌+◌, ◌/◌, ◌<◌, ◌++◌, ◌∷◌, [], None, Some, nat_eq, nat_le, is_some, length, map, find, IfOk, IfSome, OnOk, OnErr};
 ghost use Rattle.std.specs.Option.{option_map};
 ghost use Rattle.std.specs.List.Sorted.{IsStrictlyIncreasing};
-ghost use Rattle.std.specs.BTreeMap.{keys};
 ghost use Rattle.std.specs.Map.{lookup, remove_entry};
 ghost use Rattle.ft_base.specs.Rows.{live_rows, Below};
 ghost use Rattle.doc_table.specs.Pages.{has_id, Rises, with_id, without_waiting};
+ghost use Rattle.doc_table.specs.Table.{number_in};
 
+use crate::doc_rows::DocRows;
 use crate::pages::IdPages;
-use ft_base::{Bytes, ListOf, NoMemory};
+use crate::sorting_vector::SortingVector;
+use ft_base::{ListOf, NoMemory};
 use std::alloc::Global;
-use std::collections::BTreeMap;
 use std::marker::Model;
 
 /// Ids of documents.
@@ -22,7 +23,7 @@ pub type IdList = ListOf<u64>;
 #[derive(Drop)]
 pub struct DocTable {
     alloc: Global,
-    docs: BTreeMap<u64, Bytes>,
+    docs: DocRows,
     // The ids of all rows.
     ids: IdPages,
     // The id of the row that still waits to be committed.
@@ -37,9 +38,9 @@ impl Model for DocTable {
 
     ghost use Rattle.doc_table.specs.Rows.{table_of, IsTable, AreMarked};
 
-    ghost view = { λ t. table_of t.pending t.last t.docs.entries };
+    ghost view = { λ t. table_of t.pending t.last t.docs };
 
-    ghost invariant = { λ t. IsTable t.pending t.last t.docs.entries × AreMarked t.last t.ids t.docs.entries };
+    ghost invariant = { λ t. IsTable t.pending t.last t.docs × AreMarked t.last t.ids t.docs };
 }
 
 impl DocTable {
@@ -49,7 +50,7 @@ impl DocTable {
     {
         DocTable {
             alloc,
-            docs: BTreeMap::new(alloc),
+            docs: DocRows::new(alloc),
             ids: IdPages::new(alloc),
             pending: None,
             last: 0,
@@ -58,13 +59,13 @@ impl DocTable {
 
     /// Makes room for a document, which is not live yet. One that was prepared before and never
     /// committed is gone.
-    pub fn prepare(&mut self, id: u64, key: &[u8]) -> Result<(), NoMemory>
+    pub fn prepare(&mut self, id: u64, vector: SortingVector) -> Result<(), NoMemory>
         requires { self.old.last < id }
-        ensures ok { OnOk result (self.new ≡ record self.old { ready = Some (id, key.now); last = id }) }
+        ensures ok { OnOk result (self.new ≡ record self.old { ready = Some (id, vector); last = id }) }
         ensures err { OnErr result (self.new ≡ self.old) }
     {
-        put_copy(self.alloc, &mut self.docs, &mut self.ids, id, key)?;
-        // What was abandoned goes only now, so that want of memory leaves all as it was.
+        put_in(&mut self.docs, &mut self.ids, id, vector)?;
+        // What was abandoned goes only now, so that being out of memory leaves all as it was.
         take_out(&mut self.docs, &mut self.ids, self.pending);
         self.pending = Some(id);
         self.last = id;
@@ -90,9 +91,8 @@ impl DocTable {
         if self.pending == Some(id) {
             return false; // It was never live.
         }
-        let key = self.docs.remove(&id);
         self.ids.remove(id);
-        key.is_some()
+        self.docs.remove(id)
     }
 
     /// Whether a document is live.
@@ -140,15 +140,16 @@ impl DocTable {
         Some(id)
     }
 
-    /// The key of a live document.
-    pub fn key_of(&self, id: u64) -> Option<&[u8]>
-        ensures { option_map (λ key. key.now) result ≡ lookup (nat_eq id) self.now.live }
+    /// The number at a place of a live document's sorting vector, for a reader that walks from id to id. `near` is where it
+    /// found the row before, and any value will do.
+    #[inline]
+    pub fn number_near(&self, id: u64, place: usize, near: &mut usize) -> Option<i64>
+        ensures { result ≡ number_in (lookup (nat_eq id) self.now.live) place }
     {
         if self.pending == Some(id) {
             return None; // It is not live yet.
         }
-        let key = self.docs.get(&id)?;
-        Some(key.as_slice())
+        self.docs.number_near(id, place, near)
     }
 
     /// The live ids, rising.
@@ -157,7 +158,7 @@ impl DocTable {
         ensures rising { IfOk result IsStrictlyIncreasing }
     {
         // A document that waits has the greatest id, so the live ones come first.
-        let ids = first_ids(self.alloc, &self.docs, self.len())?;
+        let ids = self.docs.first_ids(self.alloc, self.len())?;
         Ok(ListOf::from_vec(ids))
     }
 
@@ -178,60 +179,36 @@ impl DocTable {
     }
 }
 
-// Takes a row of a copy of the key in with its bit, behind all others.
-fn put_copy(
-    alloc: Global,
-    docs: &mut BTreeMap<u64, Bytes>,
-    ids: &mut IdPages,
-    id: u64,
-    key: &[u8],
-) -> Result<(), NoMemory>
-    requires below { Below id docs.old.entries }
-    requires bound { Rises 0 (id / 64 + 1) ids.old }
-    ensures rows { OnOk result (docs.new.entries ≡ docs.old.entries ++ (id, key.now) ∷ []) }
-    ensures ids { OnOk result ((other : ℕ) → has_id ids.new other ≡ with_id id (has_id ids.old) other) }
-    ensures err { OnErr result ((docs.new.entries ≡ docs.old.entries) × (ids.new ≡ ids.old)) }
-    ensures bound { Rises 0 (id / 64 + 1) ids.new }
-{
-    put_in(docs, ids, id, Bytes::from_slice(alloc, key)?)
-}
-
 // Takes a row in with its bit, behind all others.
 fn put_in(
-    docs: &mut BTreeMap<u64, Bytes>,
+    docs: &mut DocRows,
     ids: &mut IdPages,
     id: u64,
-    key: Bytes,
+    vector: SortingVector,
 ) -> Result<(), NoMemory>
-    requires below { Below id docs.old.entries }
+    requires below { Below id docs.old }
     requires bound { Rises 0 (id / 64 + 1) ids.old }
-    ensures rows { OnOk result (docs.new.entries ≡ docs.old.entries ++ (id, key) ∷ []) }
+    ensures rows { OnOk result (docs.new ≡ docs.old ++ (id, vector) ∷ []) }
     ensures ids { OnOk result ((other : ℕ) → has_id ids.new other ≡ with_id id (has_id ids.old) other) }
-    ensures err { OnErr result ((docs.new.entries ≡ docs.old.entries) × (ids.new ≡ ids.old)) }
+    ensures err { OnErr result ((docs.new ≡ docs.old) × (ids.new ≡ ids.old)) }
     ensures bound { Rises 0 (id / 64 + 1) ids.new }
 {
-    docs.insert(id, key)?;
+    docs.push(id, vector)?;
     if let Err(fault) = ids.push(id) {
-        docs.remove(&id); // Want of memory for the bit leaves the rows as they were too.
+        docs.remove(id); // Being out of memory for the bit leaves the rows as they were too.
         return Err(fault);
     }
     Ok(())
 }
 
 // Takes the row that waits out with its bit, if there is one.
-fn take_out(docs: &mut BTreeMap<u64, Bytes>, ids: &mut IdPages, pending: Option<u64>)
-    ensures rows { docs.new.entries ≡ live_rows pending docs.old.entries }
+fn take_out(docs: &mut DocRows, ids: &mut IdPages, pending: Option<u64>)
+    ensures rows { docs.new ≡ live_rows pending docs.old }
     ensures ids { (other : ℕ) → has_id ids.new other ≡ without_waiting pending (has_id ids.old) other }
     ensures bound { (high : ℕ) → Rises 0 high ids.old → Rises 0 high ids.new }
 {
     if let Some(id) = pending {
-        docs.remove(&id);
+        docs.remove(id);
         ids.remove(id);
     }
-}
-
-fn first_ids(alloc: Global, docs: &BTreeMap<u64, Bytes>, count: usize) -> Result<Vec<u64>, NoMemory>
-    ensures { IfOk result (λ ids. ids.items ≡ take count (keys docs.now)) }
-{
-    docs.keys().copied().take(count).collect(alloc)
 }

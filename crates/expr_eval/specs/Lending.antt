@@ -1,7 +1,5 @@
--- The value that is lent, and what operators and functions see of it.
-use Rattle.std.specs.Prelude.{List, Option}
-use Rattle.ft_base.specs.declared.doc.Doc.{Doc}
-use Rattle.ft_base.specs.declared.row.Cell.{Cell}
+-- The value that is lent, and what operators and functions see of it; and the row that is lent.
+use Rattle.std.specs.Option.{option_copied}
 use Rattle.ft_base.specs.declared.row.Row.{Row}
 use Rattle.ft_base.specs.declared.row.Value.{Value}
 use Rattle.ft_base.specs.declared.row.Value.TheVariants as value
@@ -10,6 +8,7 @@ use Rattle.expr_eval.specs.declared.evaluator.Outer.{Outer}
 use Rattle.expr_eval.specs.declared.evaluator.Outer.TheVariants as outer
 use Rattle.expr_eval.specs.declared.lent.Lent.{Lent}
 use Rattle.expr_eval.specs.declared.lent.Lent.TheVariants as lent
+use Rattle.expr_eval.specs.declared.lent_row.LentRow.{LentRow}
 
 -- the value that is lent
 abbrev pub value_lent : Lent → Value
@@ -34,6 +33,6 @@ outer_value outer.Not v = value.Num (denied v)
 outer_value outer.Neg v = num_or_null (negated v)
 outer_value (outer.RightOf op left) v = num_or_null (joined op (operand_lent left) v)
 
--- the row of cells and a document that are lent
-abbrev pub row_lent : List Cell → Option Doc → Row
-row_lent cells doc = record { doc = doc; cells = cells }
+-- the row that is lent
+abbrev pub row_of : LentRow → Row
+row_of row = record { doc = option_copied row.doc; cells = row.cells.now }

@@ -1,22 +1,30 @@
 //! The value of an expression in a row.
 ghost use Rattle.std.specs.Prelude.{◌≡◌, IfOk};
-ghost use Rattle.expr_eval.specs.Lending.{value_lent, operand_lent, outer_value};
+ghost use Rattle.expr_eval.specs.Lending.{row_of, value_lent, operand_lent, outer_value};
 ghost use Rattle.expr_eval.specs.Meaning.{value_of};
-ghost use Rattle.expr_eval.specs.Values.{operand_of};
+ghost use Rattle.expr_eval.specs.Values.{is_true, operand_of};
 
 use crate::functions::called;
 use crate::lent::Lent;
+use crate::lent_row::LentRow;
 use crate::operators::{denied, joined, negated};
-use crate::properties::property;
 use crate::tree::{Expr, Func, Op};
-use ft_base::{Boxed, IndexDef, NoMemory, Row, Value};
+use ft_base::{Boxed, IndexDef, NoMemory, Value};
 use std::alloc::Global;
 
 /// What an expression is worth in a row. Only the value that is handed out is copied.
-pub fn eval(alloc: Global, expr: &Expr, row: &Row, def: &IndexDef) -> Result<Value, NoMemory>
-    ensures { IfOk result (λ value. value ≡ value_of expr.now row.now def.now) }
+pub fn eval(alloc: Global, expr: &Expr, row: LentRow<'_>, def: &IndexDef) -> Result<Value, NoMemory>
+    ensures { IfOk result (λ value. value ≡ value_of expr.now (row_of row.entry) def.now) }
 {
     found(alloc, expr, row, def)?.own(alloc)
+}
+
+/// Whether an expression is a Num other than 0 in a row. No value is copied.
+pub fn holds(alloc: Global, expr: &Expr, row: LentRow<'_>, def: &IndexDef) -> Result<bool, NoMemory>
+    ensures { IfOk result (λ is. is ≡ is_true (operand_of (value_of expr.now (row_of row.entry) def.now))) }
+{
+    let value = found(alloc, expr, row, def)?;
+    Ok(value.is_true())
 }
 
 /// The value, lent where it stands in the row or in the expression.
@@ -24,15 +32,15 @@ pub fn eval(alloc: Global, expr: &Expr, row: &Row, def: &IndexDef) -> Result<Val
 fn found<'a>(
     alloc: Global,
     expr: &'a Expr,
-    row: &'a Row,
+    row: LentRow<'a>,
     def: &IndexDef,
 ) -> Result<Lent<'a>, NoMemory>
-    ensures { IfOk result (λ value. value_lent value ≡ value_of expr.now row.now def.now) }
+    ensures { IfOk result (λ value. value_lent value ≡ value_of expr.now (row_of row.entry) def.now) }
 {
     match expr {
         Expr::Num(number) => Ok(Lent::Num(*number)),
         Expr::Text(text) => Ok(Lent::Text(text.as_slice())),
-        Expr::Prop(name) => Ok(property(name.as_slice(), row, def)),
+        Expr::Prop(name) => Ok(row.property(name.as_slice(), def)),
         Expr::Call { func, arg } => within(alloc, arg, Outer::Call(*func), row, def),
         Expr::Not(arg) => within(alloc, arg, Outer::Not, row, def),
         Expr::Neg(arg) => within(alloc, arg, Outer::Neg, row, def),
@@ -58,11 +66,11 @@ fn within<'a>(
     alloc: Global,
     part: &'a Boxed<Expr>,
     outer: Outer<'a>,
-    row: &'a Row,
+    row: LentRow<'a>,
     def: &IndexDef,
 ) -> Result<Lent<'a>, NoMemory>
     ensures { IfOk result (λ value. value_lent value
-        ≡ outer_value outer.entry (operand_of (value_of part.now row.now def.now))) }
+        ≡ outer_value outer.entry (operand_of (value_of part.now (row_of row.entry) def.now))) }
 {
     let value = found(alloc, part.get(), row, def)?;
     outer_value(alloc, outer, value)

@@ -11,6 +11,7 @@ mod fault;
 mod functions;
 mod laws;
 mod lent;
+mod lent_row;
 mod lexer;
 mod operators;
 mod parser;
@@ -18,14 +19,16 @@ mod properties;
 mod token;
 mod tree;
 
-/// The value of an expression in a row.
-pub use evaluator::eval;
+/// The value of an expression in a row, and whether it is a Num other than 0.
+pub use evaluator::{eval, holds};
 /// Why a text is no expression.
 pub use fault::ExprFault;
 /// Values that are lent by a row.
 pub use lent::Lent;
-/// The value of a property in a row, and of the fields of a hash, lent.
-pub use properties::{by_alias, by_name, has_number, property, property_in, seen_as};
+/// Rows that are lent.
+pub use lent_row::LentRow;
+/// The values of the fields of a hash, lent.
+pub use properties::{by_alias, by_name, has_number, seen_as};
 /// A text has one answer.
 pub use laws::{one_fault, one_tree, tree_or_fault};
 /// The tree of a text.

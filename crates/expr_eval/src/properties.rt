@@ -1,41 +1,15 @@
-//! The value of a property in a row.
+//! Where the value of a property stands: in a cell of a row, or in a field of a hash.
 ghost use Rattle.std.specs.Prelude.{◌≡◌};
 ghost use Rattle.std.specs.Option.{option_map, option_copied};
-ghost use Rattle.expr_eval.specs.Lending.{row_lent, value_lent};
-ghost use Rattle.expr_eval.specs.Properties.{cell_of, alias_of, has_number, seen_as, by_field, by_alias, by_name, in_document, in_hash, property_value};
+ghost use Rattle.expr_eval.specs.Lending.{value_lent};
+ghost use Rattle.expr_eval.specs.Properties.{cell_of, alias_of, has_number, seen_as, by_alias, by_name, in_hash};
 
 use crate::lent::Lent;
 use field_text::number;
-use ft_base::{Cell, Doc, Field, HashRec, IndexDef, Row, Value};
+use ft_base::{Cell, Field, HashRec, Value};
 
-/// The value of a property, lent.
-pub fn property<'a>(name: &[u8], row: &'a Row, def: &IndexDef) -> Lent<'a>
-    ensures { value_lent result ≡ property_value name.now row.now def.now }
-{
-    match cell_of(row.cells.as_slice(), name) {
-        Some(value) => Lent::of(value),
-        None => in_document(name, &row.doc, def.fields.as_slice()),
-    }
-}
-
-/// The same of cells and a document that are no row, lent.
-pub fn property_in<'a>(
-    name: &[u8],
-    cells: &'a [Cell],
-    doc: Option<&'a Doc>,
-    def: &IndexDef,
-) -> Lent<'a>
-    ensures { value_lent result
-        ≡ property_value name.now (row_lent cells.now (option_copied doc.entry)) def.now }
-{
-    match (cell_of(cells, name), doc) {
-        (Some(value), _) => Lent::of(value),
-        (None, Some(doc)) => in_hash(name, &doc.hash, def.fields.as_slice()),
-        (None, None) => Lent::Null,
-    }
-}
-
-fn cell_of<'a>(cells: &'a [Cell], name: &[u8]) -> Option<&'a Value>
+/// The value of the cell of a name.
+pub fn cell_of<'a>(cells: &'a [Cell], name: &[u8]) -> Option<&'a Value>
     ensures { option_copied result ≡ cell_of cells.now name.now }
 {
     for cell in cells {
@@ -46,17 +20,8 @@ fn cell_of<'a>(cells: &'a [Cell], name: &[u8]) -> Option<&'a Value>
     None
 }
 
-fn in_document<'a>(name: &[u8], doc: &'a Option<Doc>, fields: &[Field]) -> Lent<'a>
-    ensures { value_lent result ≡ in_document name.now doc.now fields.now }
-{
-    match doc {
-        Some(doc) => in_hash(name, &doc.hash, fields),
-        None => Lent::Null,
-    }
-}
-
 /// The hash's field that an alias names, else the hash's field of this very name.
-fn in_hash<'a>(name: &[u8], hash: &'a HashRec, fields: &[Field]) -> Lent<'a>
+pub fn in_hash<'a>(name: &[u8], hash: &'a HashRec, fields: &[Field]) -> Lent<'a>
     ensures { value_lent result ≡ in_hash name.now hash.now fields.now }
 {
     match by_alias(name, hash, fields) {

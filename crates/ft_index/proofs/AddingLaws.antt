@@ -1,12 +1,10 @@
 -- How a document's words go into the lists, one after another.
 use Rattle.std.specs.Prelude.{◌≡◌, ◌<◌, ℕ, true, false, List, [], ◌∷◌, ◌++◌, Option, None, Some, length, if◌then◌else◌, refl}
-use Rattle.std.proofs.Common.{sym, ◌∙◌, subst, inl, inr, arith, append-nil}
+use Rattle.std.proofs.Common.{Bor, sym, ◌∙◌, subst, inl, inr, arith, append-nil}
 use Rattle.std.specs.Cmp.Lexicographic.{bytes_decides, nat_list_eq_equiv}
 use Rattle.std.specs.List.{AllByRecursion, IsDistinct}
 use Rattle.std.specs.Map.{keys_of, lookup}
 use Rattle.std.specs.Str.{bytes_eq}
-use Rattle.std.specs.declared.alloc.Global.{Global}
-use Rattle.std.specs.declared.vec.Vec.{Vec}
 use Rattle.std.proofs.lemmas.Bool.{cases_Bool, cond-true, cond-false}
 use Rattle.inverted_list.specs.Listing.{last_id}
 use Rattle.posting_block.specs.declared.hits.TextHit.{TextHit}
@@ -24,10 +22,10 @@ grown left found id old new added word = by_left (lookup (is_key word) left) (ad
     by_left (Some codes) here = ([], here.0 ∙ sym (append-nil (entries_of old word)))
 
 -- a word that differs from all keys is not found
-none-left : (word : List ℕ) (key : Vec ℕ Global) (left : Collected) → bytes_eq word key.items ≡ true → AllByRecursion (λ other. same_key key other ≡ false) (keys_of left) → lookup (is_key word) left ≡ None
+none-left : (word : List ℕ) (key : Bor (List ℕ)) (left : Collected) → bytes_eq word key.now ≡ true → AllByRecursion (λ other. same_key key other ≡ false) (keys_of left) → lookup (is_key word) left ≡ None
 none-left word key [] same apart = refl
 none-left word key (e ∷ es) same apart =
-    let no : is_key word e.0 ≡ false = nat_list_eq_equiv.congr word key.items e.0.items same ∙ apart.0 in
+    let no : is_key word e.0 ≡ false = nat_list_eq_equiv.congr word key.now e.0.now same ∙ apart.0 in
     rw no (none-left word key es same apart.1)
 
 entry-met : (id : ℕ) (codes : List ℕ) → 0 < length codes → entry id codes ≡ (id, record { places = codes }) ∷ []
@@ -35,22 +33,22 @@ entry-met id [] some = absurd (omega (arith, some))
 entry-met id (code ∷ codes) some = refl
 
 -- the word at the front gets its entry
-pub added-next : (key : Vec ℕ Global) (codes : List ℕ) (left found : Collected) (id : ℕ) (start old new : Lists TextHit)
+pub added-next : (key : Bor (List ℕ)) (codes : List ℕ) (left found : Collected) (id : ℕ) (start old new : Lists TextHit)
     → IsDistinct same_key (keys_of ((key, codes) ∷ left)) → AreMet ((key, codes) ∷ left) → AreAddedBut ((key, codes) ∷ left) found id start old
-    → ((other : List ℕ) → entries_of new other ≡ (if bytes_eq key.items other then entries_of old other ++ (id, record { places = codes }) ∷ [] else entries_of old other))
+    → ((other : List ℕ) → entries_of new other ≡ (if bytes_eq key.now other then entries_of old other ++ (id, record { places = codes }) ∷ [] else entries_of old other))
     → AreAddedBut left found id start new
 unfolding IsDistinct
 added-next key codes left found id start old new distinct met added entries word =
-    elim (cases_Bool (bytes_eq word key.items)) [
+    elim (cases_Bool (bytes_eq word key.now)) [
       | inl here ↦
-          let before = subst (λ (front : Option (List ℕ)). IsAddedBut front found id start old word) (cond-true (bytes_eq word key.items) (Some codes) (lookup (is_key word) left) here) (added word) in
-          let turned : bytes_eq key.items word ≡ true = nat_list_eq_equiv.symm key.items word ∙ here in
+          let before = subst (λ (front : Option (List ℕ)). IsAddedBut front found id start old word) (cond-true (bytes_eq word key.now) (Some codes) (lookup (is_key word) left) here) (added word) in
+          let turned : bytes_eq key.now word ≡ true = nat_list_eq_equiv.symm key.now word ∙ here in
           let entered : entries_of new word ≡ entries_of start word ++ entry id (codes_of found word) = rw (entries word, turned, before.0, before.1, entry-met id codes met.0) refl in
           subst (λ (front : Option (List ℕ)). IsAddedBut front found id start new word) (sym (none-left word key left here distinct.0)) entered
       | inr away ↦
-          let before = subst (λ (front : Option (List ℕ)). IsAddedBut front found id start old word) (cond-false (bytes_eq word key.items) (Some codes) (lookup (is_key word) left) away) (added word) in
-          let turned : bytes_eq key.items word ≡ false = nat_list_eq_equiv.symm key.items word ∙ away in
-          let same : entries_of new word ≡ entries_of old word = entries word ∙ cond-false (bytes_eq key.items word) _ (entries_of old word) turned in
+          let before = subst (λ (front : Option (List ℕ)). IsAddedBut front found id start old word) (cond-false (bytes_eq word key.now) (Some codes) (lookup (is_key word) left) away) (added word) in
+          let turned : bytes_eq key.now word ≡ false = nat_list_eq_equiv.symm key.now word ∙ away in
+          let same : entries_of new word ≡ entries_of old word = entries word ∙ cond-false (bytes_eq key.now word) _ (entries_of old word) turned in
           same_entries (lookup (is_key word) left) same before
     ]
   where
@@ -58,14 +56,14 @@ added-next key codes left found id start old new distinct met added entries word
     same_entries None same before = same ∙ before
     same_entries (Some codes) same before = (same ∙ before.0, before.1)
 
-pub rest-distinct : (key : Vec ℕ Global) (codes : List ℕ) (left : Collected) → IsDistinct same_key (keys_of ((key, codes) ∷ left)) → IsDistinct same_key (keys_of left)
+pub rest-distinct : (key : Bor (List ℕ)) (codes : List ℕ) (left : Collected) → IsDistinct same_key (keys_of ((key, codes) ∷ left)) → IsDistinct same_key (keys_of left)
 unfolding IsDistinct
 rest-distinct key codes left distinct = distinct.1
 
 -- the list of the word at the front ends below the id
-pub front-later : (key : Vec ℕ Global) (codes : List ℕ) (left found : Collected) (id : ℕ) (start old : Lists TextHit) (word : List ℕ) → word ≡ key.items
+pub front-later : (key : Bor (List ℕ)) (codes : List ℕ) (left found : Collected) (id : ℕ) (start old : Lists TextHit) (word : List ℕ) → word ≡ key.now
     → AreAddedBut ((key, codes) ∷ left) found id start old → ((other : List ℕ) → last_id 0 (entries_of start other) < id) → last_id 0 (entries_of old word) < id
 front-later key codes left found id start old word named added later =
-    let here : bytes_eq word key.items ≡ true = (bytes_decides word key.items).1 named in
-    let before = subst (λ (front : Option (List ℕ)). IsAddedBut front found id start old word) (cond-true (bytes_eq word key.items) (Some codes) (lookup (is_key word) left) here) (added word) in
+    let here : bytes_eq word key.now ≡ true = (bytes_decides word key.now).1 named in
+    let before = subst (λ (front : Option (List ℕ)). IsAddedBut front found id start old word) (cond-true (bytes_eq word key.now) (Some codes) (lookup (is_key word) left) here) (added word) in
     subst (λ (es : List (ℕ × TextHit)). last_id 0 es < id) (sym before.0) (later word)

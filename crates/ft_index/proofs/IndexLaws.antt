@@ -4,8 +4,10 @@ use Rattle.std.proofs.Common.{ap, inl, inr, arith}
 use Rattle.std.specs.Map.{remove_entry}
 use Rattle.std.specs.Option.{option_map}
 use Rattle.std.proofs.lemmas.Bool.{cases_Bool}
-use Rattle.doc_table.specs.Table.{Table}
+use Rattle.doc_table.specs.Table.{Table, Vector}
+use Rattle.ft_base.specs.declared.definition.IndexDef.{IndexDef}
 use Rattle.ft_base.specs.declared.doc.Doc.{Doc}
+use Rattle.ft_meaning.specs.Sortable.{sorting_vector}
 use Rattle.ft_index.proofs.AliveLaws.{has_id-above}
 use Rattle.ft_index.specs.Lists.{AllLists, has_id}
 use Rattle.inverted_list.specs.Listing.{RisesAbove, last_id}
@@ -19,10 +21,10 @@ pub dead-yet : (table : Table) (lists : AllLists) (id : ℕ) → AreKept table l
 dead-yet table lists id kept later = has_id-above 0 id table.live kept.rise (omega (arith, kept.end, later))
 
 -- what is live once the document is committed for which the table made room
-pub live-committed : (old table : Table) (doc : Doc) → table ≡ awaiting doc old → (commits table.ready table).live ≡ old.live ++ (doc.id, doc.key) ∷ []
-live-committed old table doc waits = ap (λ (t : Table). (commits t.ready t).live) waits
+pub live-committed : (def : IndexDef) (old table : Table) (doc : Doc) → table ≡ awaiting def doc old → (commits table.ready table).live ≡ old.live ++ (doc.id, sorting_vector def doc) ∷ []
+live-committed def old table doc waits = ap (λ (t : Table). (commits t.ready t).live) waits
 
-pub rises-removed : (low id : ℕ) (rows : List (ℕ × List ℕ)) → RisesAbove low rows → RisesAbove low (remove_entry (nat_eq id) rows)
+pub rises-removed : {V : Type 0} (low id : ℕ) (rows : List (ℕ × V)) → RisesAbove low rows → RisesAbove low (remove_entry (nat_eq id) rows)
 rises-removed low id [] rises = tt
 rises-removed low id (row ∷ rows) rises =
     elim (cases_Bool (nat_eq id row.0)) [
@@ -30,7 +32,7 @@ rises-removed low id (row ∷ rows) rises =
       | inr away ↦ rw away (rises.0, rises-removed row.0 id rows rises.1)
     ]
 
-pub last-removed : (low id : ℕ) (rows : List (ℕ × List ℕ)) → RisesAbove low rows → last_id low (remove_entry (nat_eq id) rows) ≤ last_id low rows
+pub last-removed : {V : Type 0} (low id : ℕ) (rows : List (ℕ × V)) → RisesAbove low rows → last_id low (remove_entry (nat_eq id) rows) ≤ last_id low rows
 last-removed low id [] rises = omega arith
 last-removed low id (row ∷ rows) rises =
     elim (cases_Bool (nat_eq id row.0)) [
@@ -50,17 +52,17 @@ kept-gone table lists id index =
       differ = index.differ;
     }
   where
-    waits_lower : (ready : Option (ℕ × List ℕ)) → IfSome ready (λ row. (last_id 0 table.live < row.0) × (row.0 ≤ table.last))
+    waits_lower : (ready : Option (ℕ × Vector)) → IfSome ready (λ row. (last_id 0 table.live < row.0) × (row.0 ≤ table.last))
         → last_id 0 (remove_entry (nat_eq id) table.live) ≤ last_id 0 table.live
         → IfSome ready (λ row. (last_id 0 (remove_entry (nat_eq id) table.live) < row.0) × (row.0 ≤ table.last))
     waits_lower None waits less = tt
     waits_lower (Some row) waits less = (omega (arith, waits.0, less), waits.1)
 
-pub rises-push : (low : ℕ) (row : ℕ × List ℕ) (rows : List (ℕ × List ℕ)) → RisesAbove low rows → last_id low rows < row.0 → RisesAbove low (rows ++ row ∷ [])
+pub rises-push : {V : Type 0} (low : ℕ) (row : ℕ × V) (rows : List (ℕ × V)) → RisesAbove low rows → last_id low rows < row.0 → RisesAbove low (rows ++ row ∷ [])
 rises-push low row [] rises above = (above, tt)
 rises-push low row (first ∷ rows) rises above = (rises.0, rises-push first.0 row rows rises.1 above)
 
-pub last-push : (low : ℕ) (row : ℕ × List ℕ) (rows : List (ℕ × List ℕ)) → last_id low (rows ++ row ∷ []) ≡ row.0
+pub last-push : {V : Type 0} (low : ℕ) (row : ℕ × V) (rows : List (ℕ × V)) → last_id low (rows ++ row ∷ []) ≡ row.0
 last-push low row [] = refl
 last-push low row (first ∷ rows) = last-push first.0 row rows
 
@@ -68,7 +70,7 @@ last-push low row (first ∷ rows) = last-push first.0 row rows
 pub kept-committed : (table : Table) (lists : AllLists) → AreKept table lists → AreKept (commits table.ready table) lists
 kept-committed table lists index = by_ready table.ready index.waits
   where
-    by_ready : (ready : Option (ℕ × List ℕ)) → IfSome ready (λ row. (last_id 0 table.live < row.0) × (row.0 ≤ table.last)) → AreKept (commits ready table) lists
+    by_ready : (ready : Option (ℕ × Vector)) → IfSome ready (λ row. (last_id 0 table.live < row.0) × (row.0 ≤ table.last)) → AreKept (commits ready table) lists
     by_ready None waits = index
     by_ready (Some row) waits = record {
       rise = rises-push 0 row table.live index.rise waits.0;
@@ -79,7 +81,7 @@ kept-committed table lists index = by_ready table.ready index.waits
     }
 
 -- what a table's commit leaves
-pub table-committed : (old new : Table) (ready : Option (ℕ × List ℕ)) (id : ℕ) → option_map (λ row. row.0) ready ≡ Some id
+pub table-committed : (old new : Table) (ready : Option (ℕ × Vector)) (id : ℕ) → option_map (λ row. row.0) ready ≡ Some id
     → IfSome ready (λ row. new ≡ record old { live = old.live ++ row ∷ []; ready = None }) → new ≡ commits ready old
 table-committed old new None id waiting after = cc (waiting)
 table-committed old new (Some row) id waiting after = after

@@ -3,8 +3,10 @@ use Rattle.std.specs.Prelude.{◌≡◌, ◌<◌, ◌≤◌, ◌⊎◌, ℕ, ℤ
 use Rattle.std.proofs.Common.{sym, ap, ◌∙◌, subst, inl, inr, arith}
 use Rattle.std.proofs.lemmas.List.{map-append}
 use Rattle.std.specs.Map.{remove_entry}
+use Rattle.doc_table.specs.Table.{Vector}
 use Rattle.ft_base.specs.declared.definition.IndexDef.{IndexDef}
 use Rattle.ft_base.specs.declared.doc.Doc.{Doc}
+use Rattle.ft_meaning.specs.Sortable.{sorting_vector}
 use Rattle.id_iters.specs.declared.list_name.ListName.{ListName}
 use Rattle.id_iters.specs.declared.list_name.ListName.TheVariants as names
 use Rattle.inverted_list.specs.Listing.{RisesAbove}
@@ -158,22 +160,22 @@ all-unseen def id old new words tags ranges live docs dead has = record {
   numbers = ranges live docs dead has.numbers;
 }
 
-pub all-seen : (def : IndexDef) (doc : Doc) (old new : AllLists) → IsSeen doc (WordsHave def old.words) (WordsHave def new.words) → IsSeen doc (TagsHave def old.tags) (TagsHave def new.tags)
-    → IsSeen doc (RangesHaveAll def old.ranges) (RangesHaveAll def new.ranges) → IsSeen doc (λ live docs. Has def live old docs) (λ live docs. Has def live new docs)
+pub all-seen : (def : IndexDef) (doc : Doc) (old new : AllLists) → IsSeen def doc (WordsHave def old.words) (WordsHave def new.words) → IsSeen def doc (TagsHave def old.tags) (TagsHave def new.tags)
+    → IsSeen def doc (RangesHaveAll def old.ranges) (RangesHaveAll def new.ranges) → IsSeen def doc (λ live docs. Has def live old docs) (λ live docs. Has def live new docs)
 all-seen def doc old new words tags ranges live docs has = record {
-  live = ap (λ (rows : List (ℕ × List ℕ)). rows ++ (doc.id, doc.key) ∷ []) has.live ∙ sym (map-append row_of docs (doc ∷ []));
+  live = ap (λ (rows : List (ℕ × Vector)). rows ++ (doc.id, sorting_vector def doc) ∷ []) has.live ∙ sym (map-append (row_of (sorting_vector def)) docs (doc ∷ []));
   words = words live docs has.words;
   tags = tags live docs has.tags;
   numbers = ranges live docs has.numbers;
 }
 
 -- Where an id is taken out, its document is gone, and the entries that it leaves are dead.
-pub has-without : (def : IndexDef) (live : List (ℕ × List ℕ)) (lists : AllLists) (docs : List Doc) (id : ℕ) → RisesAbove 0 live → Has def live lists docs
+pub has-without : (def : IndexDef) (live : List (ℕ × Vector)) (lists : AllLists) (docs : List Doc) (id : ℕ) → RisesAbove 0 live → Has def live lists docs
     → Has def (remove_entry (nat_eq id) live) lists (without id docs)
 has-without def live lists docs id rises has =
-    let rows : RisesAbove 0 (map row_of docs) = subst (RisesAbove 0) has.live rises in
+    let rows : RisesAbove 0 (map (row_of (sorting_vector def)) docs) = subst (RisesAbove 0) has.live rises in
     record {
-      live = ap (remove_entry (nat_eq id)) has.live ∙ rows-without 0 id docs rows;
+      live = ap (remove_entry (nat_eq id)) has.live ∙ rows-without (sorting_vector def) 0 id docs rows;
       words = λ word. alive-killed id live (entries_of lists.words word) rises ∙ (ap (filter (is_other id)) (has.words word) ∙ sym (words-without def word id docs));
       tags = λ field tag. alive-killed id live (entries_in lists.tags field tag) rises ∙ (ap (filter (is_other id)) (has.tags field tag) ∙ sym (tags-without def field tag id docs));
       numbers = λ field. numbers.rows-without def field id live docs (rows_of lists.ranges field) rises (has.numbers field);

@@ -5,10 +5,11 @@ use Rattle.std.specs.Map.{remove_entry}
 use Rattle.std.proofs.lemmas.Bool.{cases_Bool}
 use Rattle.std.proofs.lemmas.List.{append-nil}
 use Rattle.std.proofs.lemmas.List.Elements.{filter-append}
-use Rattle.doc_table.specs.Table.{Table}
+use Rattle.doc_table.specs.Table.{Table, Vector}
 use Rattle.ft_base.specs.declared.definition.IndexDef.{IndexDef}
 use Rattle.ft_base.specs.declared.doc.Doc.{Doc}
 use Rattle.ft_meaning.specs.Member.{failed, member, members, most_failures, one_more}
+use Rattle.ft_meaning.specs.Sortable.{sorting_vector}
 use Rattle.ft_index.specs.Entering.{awaiting}
 use Rattle.ft_index.specs.Fits.{fit_of}
 use Rattle.ft_index.specs.Index.{Index, Indexes, IsIndex, WaitsIn, commits, commits_as, commits_ready, committed}
@@ -40,7 +41,7 @@ members-same def docs doc other =
 pub indexes-same : (old new : Index) (docs : List Doc) → new.def ≡ old.def → new.table.live ≡ old.table.live → new.lists ≡ old.lists → Indexes old docs → Indexes new docs
 indexes-same old new docs def live lists has =
     subst (λ (d : IndexDef). Has d new.table.live new.lists (members d docs)) (sym def)
-    (subst (λ (rows : List (ℕ × List ℕ)). Has old.def rows new.lists (members old.def docs)) (sym live)
+    (subst (λ (rows : List (ℕ × Vector)). Has old.def rows new.lists (members old.def docs)) (sym live)
     (subst (λ (ls : AllLists). Has old.def old.table.live ls (members old.def docs)) (sym lists) has))
 
 -- what a commit leaves, by how the document fits
@@ -82,15 +83,15 @@ seen-other old new ready doc docs def table lists waits fit other stands =
     subst (λ (i : Index). Indexes i (docs ++ doc ∷ [])) (sym (commits-is new ready waits)) (subst (Has after.def after.table.live after.lists) more has)
 
 -- And once a member is.
-pub seen-member : (old new : Index) (ready : Ready) (doc : Doc) (docs : List Doc) → new.def ≡ old.def → new.table ≡ awaiting doc old.table → new.waits ≡ Some ready
+pub seen-member : (old new : Index) (ready : Ready) (doc : Doc) (docs : List Doc) → new.def ≡ old.def → new.table ≡ awaiting old.def doc old.table → new.waits ≡ Some ready
     → ready.fit ≡ fit_of old.def doc → fit_of old.def doc ≡ Member
-    → Has old.def (old.table.live ++ (doc.id, doc.key) ∷ []) new.lists (members old.def docs ++ doc ∷ []) → Indexes (committed new) (docs ++ doc ∷ [])
+    → Has old.def (old.table.live ++ (doc.id, sorting_vector old.def doc) ∷ []) new.lists (members old.def docs ++ doc ∷ []) → Indexes (committed new) (docs ++ doc ∷ [])
 seen-member old new ready doc docs def table waits fit is has =
     let live : Index = record new { table = commits new.table.ready new.table; waits = None } in
-    let all : Has old.def (old.table.live ++ (doc.id, doc.key) ∷ []) new.lists (members old.def (docs ++ doc ∷ [])) =
-    subst (Has old.def (old.table.live ++ (doc.id, doc.key) ∷ []) new.lists) (sym (members-more old.def docs doc (fit-member old.def doc is))) has in
+    let all : Has old.def (old.table.live ++ (doc.id, sorting_vector old.def doc) ∷ []) new.lists (members old.def (docs ++ doc ∷ [])) =
+    subst (Has old.def (old.table.live ++ (doc.id, sorting_vector old.def doc) ∷ []) new.lists) (sym (members-more old.def docs doc (fit-member old.def doc is))) has in
     let here : Has old.def live.table.live new.lists (members old.def (docs ++ doc ∷ [])) =
-    subst (λ (rows : List (ℕ × List ℕ)). Has old.def rows new.lists (members old.def (docs ++ doc ∷ []))) (sym (live-committed old.table new.table doc table)) all in
+    subst (λ (rows : List (ℕ × Vector)). Has old.def rows new.lists (members old.def (docs ++ doc ∷ []))) (sym (live-committed old.def old.table new.table doc table)) all in
     let stands : Indexes live (docs ++ doc ∷ []) = subst (λ (d : IndexDef). Has d live.table.live new.lists (members d (docs ++ doc ∷ []))) (sym def) here in
     let becomes : committed new ≡ live = commits-is new ready waits ∙ ap (λ (f : Fit). commits_as f (record new { waits = None })) (fit ∙ is) in
     subst (λ (i : Index). Indexes i (docs ++ doc ∷ [])) (sym becomes) stands

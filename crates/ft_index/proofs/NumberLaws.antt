@@ -11,8 +11,10 @@ use Rattle.ft_base.specs.Hash.{get_field}
 use Rattle.ft_base.specs.declared.definition.Field.{Field}
 use Rattle.ft_base.specs.declared.definition.FieldKind.{FieldKind}
 use Rattle.ft_base.specs.declared.definition.FieldKind.TheVariants as kinds
+use Rattle.doc_table.specs.Table.{Vector}
 use Rattle.ft_base.specs.declared.definition.IndexDef.{IndexDef}
 use Rattle.ft_base.specs.declared.doc.Doc.{Doc}
+use Rattle.ft_meaning.specs.Sortable.{sorting_vector}
 use Rattle.ft_meaning.specs.Holds.{value_number}
 use Rattle.inverted_list.specs.Listing.{RisesAbove}
 use Rattle.inverted_list.specs.declared.marker.Markers.{Markers}
@@ -115,8 +117,8 @@ entries-fit def number (doc ∷ docs) = subst (AllByRecursion (λ (e : ℕ × Nu
     by_value (Some value) is rest = (searched-fits (slice_get def.fields number) doc value is, rest)
 
 -- ranges that got a document's number stand for the document too
-gained-seen : (def : IndexDef) (number : ℕ) (field : Field) (doc : Doc) (live : List (ℕ × List ℕ)) (docs : List Doc) (old new : Rows) → slice_get def.fields number ≡ Some field → IsAbove doc.id old
-    → RowsGain (value_entry doc.id (searched_number (Some field) doc)) (Some old) (Some new) → RangesHave def live number docs old → RangesHave def (live ++ (doc.id, doc.key) ∷ []) number (docs ++ doc ∷ []) new
+gained-seen : (def : IndexDef) (number : ℕ) (field : Field) (doc : Doc) (live : List (ℕ × Vector)) (docs : List Doc) (old new : Rows) → slice_get def.fields number ≡ Some field → IsAbove doc.id old
+    → RowsGain (value_entry doc.id (searched_number (Some field) doc)) (Some old) (Some new) → RangesHave def live number docs old → RangesHave def (live ++ (doc.id, sorting_vector def doc) ∷ []) number (docs ++ doc ∷ []) new
 gained-seen def number field doc live docs old new at above gains has =
     let more = value_entry doc.id (searched_number (Some field) doc) in
     let es = filter fits has.entries in
@@ -128,26 +130,26 @@ gained-seen def number field doc live docs old new at above gains has =
       entries = es ++ more;
       partition = gains.0;
       parted = gains.1 es (fitting-parted has.entries old has.partition has.parted);
-      same = alive-seen live es more doc.id doc.key (fitting-ids has.entries old doc.id has.partition above has.parted) own
+      same = alive-seen live es more doc.id (sorting_vector def doc) (fitting-ids has.entries old doc.id has.partition above has.parted) own
           ∙ (ap (λ (entries : Entries). entries ++ more) kept
           ∙ (ap (λ (f : Option Field). number_entries def number docs ++ value_entry doc.id (searched_number f doc)) (sym at) ∙ sym (number_entries-append def number docs doc)));
     }
 
-field-seen : (def : IndexDef) (number : ℕ) (doc : Doc) (live : List (ℕ × List ℕ)) (docs : List Doc) (field : Option Field) (old new : Option Rows) → slice_get def.fields number ≡ field → IfSome old (IsAbove doc.id)
-    → FieldGains field doc old new → NumbersHave def live number docs old → NumbersHave def (live ++ (doc.id, doc.key) ∷ []) number (docs ++ doc ∷ []) new
-field-seen def number doc live docs None None new at above same has = subst (λ (rows : Option Rows). NumbersHave def (live ++ (doc.id, doc.key) ∷ []) number (docs ++ doc ∷ []) rows) (sym same) has
+field-seen : (def : IndexDef) (number : ℕ) (doc : Doc) (live : List (ℕ × Vector)) (docs : List Doc) (field : Option Field) (old new : Option Rows) → slice_get def.fields number ≡ field → IfSome old (IsAbove doc.id)
+    → FieldGains field doc old new → NumbersHave def live number docs old → NumbersHave def (live ++ (doc.id, sorting_vector def doc) ∷ []) number (docs ++ doc ∷ []) new
+field-seen def number doc live docs None None new at above same has = subst (λ (rows : Option Rows). NumbersHave def (live ++ (doc.id, sorting_vector def doc) ∷ []) number (docs ++ doc ∷ []) rows) (sym same) has
 field-seen def number doc live docs None (Some old) new at above same has = let ranged : is_ranged None ≡ true = ap is_ranged (sym at) ∙ has.ranged in absurd (cc (ranged))
-field-seen def number doc live docs (Some field) None new at above same has = subst (λ (rows : Option Rows). NumbersHave def (live ++ (doc.id, doc.key) ∷ []) number (docs ++ doc ∷ []) rows) (sym same) has
+field-seen def number doc live docs (Some field) None new at above same has = subst (λ (rows : Option Rows). NumbersHave def (live ++ (doc.id, sorting_vector def doc) ∷ []) number (docs ++ doc ∷ []) rows) (sym same) has
 field-seen def number doc live docs (Some field) (Some old) None at above gains has = absurd gains
 field-seen def number doc live docs (Some field) (Some old) (Some new) at above gains has = gained-seen def number field doc live docs old new at above gains has
 
 pub numbers-seen : (def : IndexDef) (doc : Doc) (old new : List (Option Rows)) → ((number : ℕ) → IfSome (rows_of old number) (IsAbove doc.id)) → RangesGain def.fields doc old new
-    → IsSeen doc (RangesHaveAll def old) (RangesHaveAll def new)
+    → IsSeen def doc (RangesHaveAll def old) (RangesHaveAll def new)
 numbers-seen def doc old new above gains live docs has number =
     field-seen def number doc live docs (slice_get def.fields number) (rows_of old number) (rows_of new number) refl (above number) (gains number) (has number)
 
 -- what lists have does not change by a number of an id that is not live
-pub rows-unseen : (def : IndexDef) (number id : ℕ) (live : List (ℕ × List ℕ)) (docs : List Doc) (value : Option ℤ) (old new : Option Rows) → has_id live id ≡ false
+pub rows-unseen : (def : IndexDef) (number id : ℕ) (live : List (ℕ × Vector)) (docs : List Doc) (value : Option ℤ) (old new : Option Rows) → has_id live id ≡ false
     → RowsGain (value_entry id value) old new → NumbersHave def live number docs old → NumbersHave def live number docs new
 rows-unseen def number id live docs value None new dead same has = subst (NumbersHave def live number docs) (sym same) has
 rows-unseen def number id live docs value (Some old) None dead gains has = absurd gains
@@ -181,7 +183,7 @@ numbers-without def number id (doc ∷ docs) =
     by_tests false None same is rest = rw (same, is) rest
     by_tests false (Some value) same is rest = rw (same, is, same) (ap (λ (others : Entries). (doc.id, record { value = value }) ∷ others) rest)
 
-pub rows-without : (def : IndexDef) (number id : ℕ) (live : List (ℕ × List ℕ)) (docs : List Doc) (rows : Option Rows) → RisesAbove 0 live
+pub rows-without : (def : IndexDef) (number id : ℕ) (live : List (ℕ × Vector)) (docs : List Doc) (rows : Option Rows) → RisesAbove 0 live
     → NumbersHave def live number docs rows → NumbersHave def (remove_entry (nat_eq id) live) number (without id docs) rows
 rows-without def number id live docs None rises has = has
 rows-without def number id live docs (Some rows) rises has = record {

@@ -6,6 +6,7 @@ use Rattle.std.specs.Map.{keys_of}
 use Rattle.std.proofs.lemmas.Bool.{and_from, and_parts, cases_Bool, false≢true}
 use Rattle.std.proofs.lemmas.Bool.Decides.{nat_tests}
 use Rattle.std.proofs.lemmas.Int.{ints}
+use Rattle.doc_table.specs.Table.{Vector}
 use Rattle.id_iters.specs.Least.{IsLeast}
 use Rattle.id_iters.specs.Named.{lies_at}
 use Rattle.ft_index.proofs.AliveLaws.{above-no, below-no, has_id-below, same-yes}
@@ -23,7 +24,7 @@ same-least p q from (Some n) agree is = record {
   below = record { fails = λ id above under. agree id above ∙ is.below.fails id above under };
 }
 
-pub least-live : (low from : ℕ) (rows : List (ℕ × List ℕ)) → RisesAbove low rows → IsLeast (has_id rows) from (find (λ id. nat_le from id) (map (λ row. row.0) rows))
+pub least-live : (low from : ℕ) (rows : List (ℕ × Vector)) → RisesAbove low rows → IsLeast (has_id rows) from (find (λ id. nat_le from id) (map (λ row. row.0) rows))
 least-live low from [] rises = record { fails = λ id above. refl }
 least-live low from (row ∷ rows) rises = elim (cases_Bool (nat_le from row.0)) [
   | inl y ↦

@@ -11,6 +11,7 @@ use Rattle.ft_base.specs.Hash.{get_field}
 use Rattle.ft_base.specs.declared.definition.Field.{Field}
 use Rattle.ft_base.specs.declared.definition.FieldKind.{FieldKind}
 use Rattle.ft_base.specs.declared.definition.FieldKind.TheVariants as kinds
+use Rattle.doc_table.specs.Table.{Vector}
 use Rattle.ft_base.specs.declared.definition.IndexDef.{IndexDef}
 use Rattle.ft_base.specs.declared.doc.Doc.{Doc}
 use Rattle.ft_base.specs.Kinds.{is_numeric}
@@ -44,7 +45,7 @@ counted-next ranges k slot total n within here is counted =
     let front : drop k ranges ≡ slot ∷ drop (k + 1) ranges = drop_more ranges k slot within ∙ ap (λ (first : Option Rows). first ∷ drop (k + 1) ranges) here in
     omega (arith, is, counted, ap entries_in_ranges front, sum_by-cons entries_in_slot slot (drop (k + 1) ranges))
 
-alive-most : {P : Type 0} (live : List (ℕ × List ℕ)) (es : List (ℕ × P)) → length (alive live es) ≤ length es
+alive-most : {P : Type 0} (live : List (ℕ × Vector)) (es : List (ℕ × P)) → length (alive live es) ≤ length es
 alive-most live es = omega (arith, length-filter (λ (e : ℕ × _). has_id live e.0) es, count_by-le-length (λ (e : ℕ × _). has_id live e.0) es)
 
 -- the words of occurrences
@@ -90,7 +91,7 @@ word-count def word (doc ∷ docs) =
     )
 
 -- the lists of words have an entry for each word of each document
-words-least : (def : IndexDef) (live : List (ℕ × List ℕ)) (docs : List Doc) (words : Lists TextHit) → WordsHave def words live docs → sum_by (word_count def) docs ≤ entries_in_all words
+words-least : (def : IndexDef) (live : List (ℕ × Vector)) (docs : List Doc) (words : Lists TextHit) → WordsHave def words live docs → sum_by (word_count def) docs ≤ entries_in_all words
 words-least def live docs words has =
     named-entered words (words_of def) docs (λ word. omega (arith, ap length (has word), word-count def word docs, alive-most live (entries_of words word)))
 
@@ -127,7 +128,7 @@ tag-entries-count def number tag (doc ∷ docs) = elim (cases_Bool (has_tag def 
 ]
 
 -- the lists of a field's tags have an entry for each tag of each document
-field-least : (def : IndexDef) (live : List (ℕ × List ℕ)) (docs : List Doc) (tags : FieldTags) → TagsHave def tags live docs → (number : ℕ) (field : Field) → slice_get def.fields number ≡ Some field
+field-least : (def : IndexDef) (live : List (ℕ × Vector)) (docs : List Doc) (tags : FieldTags) → TagsHave def tags live docs → (number : ℕ) (field : Field) → slice_get def.fields number ≡ Some field
     → sum_by (λ doc. tag_count doc field) docs ≤ entries_in_all (tags_of tags number)
 field-least def live docs tags has number field at =
     let names : Doc → List (List ℕ) = λ doc. searched_tags (slice_get def.fields number) doc in
@@ -138,7 +139,7 @@ field-least def live docs tags has number field at =
     let all = sum-le (λ (doc : Doc). tag_count doc field) (λ (doc : Doc). distinct_count bytes_eq (searched_tags (Some field) doc)) (λ doc. omega (arith, tags-searched doc field, ap length (sym (distinct-apart (searched_tags (Some field) doc) (searched-apart field doc))))) docs in
     omega (arith, all, entered)
 
-tags-least : (def : IndexDef) (live : List (ℕ × List ℕ)) (docs : List Doc) (tags : FieldTags) → TagsHave def tags live docs
+tags-least : (def : IndexDef) (live : List (ℕ × Vector)) (docs : List Doc) (tags : FieldTags) → TagsHave def tags live docs
     → sum_by (λ (doc : Doc). sum_by (tag_count doc) def.fields) docs ≤ entries_in_fields tags
 tags-least def live docs tags has =
     omega (
@@ -175,7 +176,7 @@ in_rows-one row (next ∷ rows) e es above = elim (cases_Bool (int_lt e.1.value 
       omega (arith, count-cons (λ x. lies_in row.0 (Some next.0) x.1.value) e es, in_rows-one next rows e es (le_from_not_lt e.1.value next.0 n))
 ]
 
-live-in_rows : (live : List (ℕ × List ℕ)) (row : ℤ × _) (rows : Rows) (es : Entries) → AllByRecursion (λ e. int_le row.0 e.1.value ≡ true) (alive live es)
+live-in_rows : (live : List (ℕ × Vector)) (row : ℤ × _) (rows : Rows) (es : Entries) → AllByRecursion (λ e. int_le row.0 e.1.value ≡ true) (alive live es)
     → length (alive live es) ≤ in_rows (row ∷ rows) es
 live-in_rows live row rows [] above = omega arith
 live-in_rows live row rows (e ∷ es) above = elim (cases_Bool (has_id live e.0)) [
@@ -188,7 +189,7 @@ live-in_rows live row rows (e ∷ es) above = elim (cases_Bool (has_id live e.0)
 ]
 
 -- rows that part entries have the live ones of these, whose numbers are of 64 bits
-parted-least : (live : List (ℕ × List ℕ)) (es : Entries) (rows : Rows) → low_of rows ≡ Some least → AreParted es rows → AllByRecursion (λ e. fits e ≡ true) (alive live es)
+parted-least : (live : List (ℕ × Vector)) (es : Entries) (rows : Rows) → low_of rows ≡ Some least → AreParted es rows → AllByRecursion (λ e. fits e ≡ true) (alive live es)
     → length (alive live es) ≤ entries_in_rows rows
 parted-least live es [] first parted fit = absurd (cc (first))
 parted-least live es (row ∷ rows) first parted fit =
@@ -224,7 +225,7 @@ no-number field doc away = elim (cases_Bool field.noindex) [
 ]
 
 -- the ranges of a field have an entry for each document that has a number there
-slot-least : (def : IndexDef) (live : List (ℕ × List ℕ)) (docs : List Doc) (number : ℕ) (field : Field) (slot : Option Rows) → slice_get def.fields number ≡ Some field
+slot-least : (def : IndexDef) (live : List (ℕ × Vector)) (docs : List Doc) (number : ℕ) (field : Field) (slot : Option Rows) → slice_get def.fields number ≡ Some field
     → NumbersHave def live number docs slot → sum_by (λ doc. number_count doc field) docs ≤ entries_in_slot slot
 slot-least def live docs number field None at has =
     omega (arith, sum-none (λ (doc : Doc). number_count doc field) (λ doc. no-number field doc (ap is_ranged (sym at) ∙ has)) docs)
@@ -238,7 +239,7 @@ numbered-ranges [] ranges = omega arith
 numbered-ranges (field ∷ fields) [] = omega (arith, numbered-ranges fields [])
 numbered-ranges (field ∷ fields) (slot ∷ ranges) = omega (arith, numbered-ranges fields ranges, sum_by-cons entries_in_slot slot ranges)
 
-numbers-least : (def : IndexDef) (live : List (ℕ × List ℕ)) (docs : List Doc) (ranges : List (Option Rows)) → RangesHaveAll def ranges live docs
+numbers-least : (def : IndexDef) (live : List (ℕ × Vector)) (docs : List Doc) (ranges : List (Option Rows)) → RangesHaveAll def ranges live docs
     → sum_by (λ (doc : Doc). sum_by (number_count doc) def.fields) docs ≤ entries_in_ranges ranges
 numbers-least def live docs ranges has =
     omega (
@@ -250,7 +251,7 @@ numbers-least def live docs ranges has =
     )
 
 -- Lists that stand for documents have an entry, at least, for each live record.
-pub records-least : (def : IndexDef) (live : List (ℕ × List ℕ)) (docs : List Doc) (lists : AllLists) → Has def live lists docs → live_records def docs ≤ all_entries lists
+pub records-least : (def : IndexDef) (live : List (ℕ × Vector)) (docs : List Doc) (lists : AllLists) → Has def live lists docs → live_records def docs ≤ all_entries lists
 records-least def live docs lists has =
     omega (
       arith,

@@ -11,6 +11,7 @@ use Rattle.field_text.specs.Tags.{firsts, tags_of}
 use Rattle.ft_base.specs.declared.definition.Field.{Field}
 use Rattle.ft_base.specs.declared.definition.IndexDef.{IndexDef}
 use Rattle.ft_base.specs.declared.doc.Doc.{Doc}
+use Rattle.ft_meaning.specs.Sortable.{sorting_vector}
 use Rattle.inverted_list.specs.Listing.{last_id}
 use Rattle.inverted_list.specs.declared.marker.Markers.{Markers}
 use Rattle.posting_block.specs.declared.hits.TagHit.{TagHit}
@@ -198,12 +199,12 @@ tag_entries-append def field tag (first ∷ docs) doc = elim (cases_Bool (has_ta
 ]
 
 pub tags-seen : (def : IndexDef) (doc : Doc) (old new : FieldTags) → TagsUpTo doc.id old
-    → ((field : ℕ) (tag : List ℕ) → last_id 0 (entries_in old field tag) < doc.id) → TagsGain def.fields doc old new → IsSeen doc (TagsHave def old) (TagsHave def new)
+    → ((field : ℕ) (tag : List ℕ) → last_id 0 (entries_in old field tag) < doc.id) → TagsGain def.fields doc old new → IsSeen def doc (TagsHave def old) (TagsHave def new)
 tags-seen def doc old new up_to later added live docs has field tag =
     let es = entries_in old field tag in
     let more = tag_entry doc.id (has_tag def field tag doc) in
-    ap (alive (live ++ (doc.id, doc.key) ∷ [])) (added field tag)
-    ∙ (alive-seen live es more doc.id doc.key (all-below 0 doc.id es (up_to field tag).rise (later field tag)) (tag-own doc.id (has_tag def field tag doc))
+    ap (alive (live ++ (doc.id, sorting_vector def doc) ∷ [])) (added field tag)
+    ∙ (alive-seen live es more doc.id (sorting_vector def doc) (all-below 0 doc.id es (up_to field tag).rise (later field tag)) (tag-own doc.id (has_tag def field tag doc))
     ∙ (ap (λ (entries : List (ℕ × TagHit)). entries ++ more) (has field tag) ∙ sym (tag_entries-append def field tag docs doc)))
 
 pub tags-without : (def : IndexDef) (field : ℕ) (tag : List ℕ) (id : ℕ) (docs : List Doc) → tag_entries def field tag (without id docs) ≡ filter (is_other id) (tag_entries def field tag docs)

@@ -1,21 +1,24 @@
 -- The words of a document, a field at a time, and what is seen of them once they are in the lists.
-use Rattle.std.proofs.Common.{◌≡◌, ℕ, ◌+◌, ◌<◌, ◌≤◌, List, [], ◌∷◌, ◌++◌, map, drop, drop-cons, length, slice_index_or, refl, ap, sym, subst, inl, inr, ◌∙◌, add-one, append_assoc, append-nil, is_some, nat_eq, if◌then◌else◌}
+use Rattle.std.proofs.Common.{◌≡◌, ℕ, suc, ◌+◌, ◌<◌, ◌≤◌, List, [], ◌∷◌, ◌++◌, map, take, drop, drop-cons, Some, ◌*◌, ◌^◌, length, slice_index_or, refl, ap, sym, subst, inl, inr, ◌∙◌, add-one, append_assoc, append-nil, is_some, nat_eq, if◌then◌else◌}
 use Rattle.std.proofs.lemmas.Bool.{cases_Bool}
 use Rattle.std.proofs.lemmas.List.{map-append}
 use Rattle.std.proofs.lemmas.List.Elements.{filter-append}
 use Rattle.std.specs.Cmp.Lexicographic.{bytes_decides}
-use Rattle.std.specs.List.{filter}
+use Rattle.std.specs.List.{filter, slice_get}
 use Rattle.std.specs.Str.{bytes_eq}
 use Rattle.ft_base.specs.declared.definition.Field.{Field}
 use Rattle.ft_base.specs.declared.definition.IndexDef.{IndexDef}
 use Rattle.ft_base.specs.declared.doc.Doc.{Doc}
+use Rattle.ft_meaning.specs.Sortable.{sorting_vector}
 use Rattle.ft_meaning.specs.Meaning.{field_tokens}
 use Rattle.inverted_list.specs.Listing.{last_id}
 use Rattle.inverted_list.specs.declared.marker.Markers.{Markers}
 use Rattle.posting_block.specs.declared.hits.TextHit.{TextHit}
 use Rattle.term_dict.specs.Terms.{Lists, Sets, entries_of, list_of}
+use Rattle.token_text.specs.declared.token.Token.{Token}
+use Rattle.token_text.proofs.StepLaws.{taken-next}
 use Rattle.ft_index.specs.Adding.{IsSeen, IsUnseen, WordsHave}
-use Rattle.ft_index.specs.Collected.{GrowBy}
+use Rattle.ft_index.specs.Collected.{GrowBy, occurrences_in}
 use Rattle.ft_index.specs.Entries.{codes, codes_among, entry, occurrence, occurrences_from, word_entries}
 use Rattle.ft_index.specs.Has.{alive}
 use Rattle.ft_index.specs.Markers.{marker_in, word_marker}
@@ -30,11 +33,35 @@ pub codes_among-append : (word : List ℕ) (xs ys : List (List ℕ × ℕ)) → 
 codes_among-append word xs ys =
     ap (map (λ (one : List ℕ × ℕ). one.1)) (filter-append (λ (one : List ℕ × ℕ). bytes_eq word one.0) xs ys) ∙ map-append _ _ _
 
--- the field at a number comes before those behind it
-pub occurrences-next : (def : IndexDef) (doc : Doc) (fields : List Field) (number : ℕ) (field : Field) → number < length fields → slice_index_or fields number field ≡ field
-    → occurrences_from def doc number (drop number fields) ≡ map (occurrence number) (field_tokens def doc field) ++ occurrences_from def doc (number + 1) (drop (number + 1) fields)
-occurrences-next def doc fields number field within here =
-    rw (drop-cons fields number field within, here, add-one) refl
+-- the code of one token
+codes-one : (word : List ℕ) (number : ℕ) (token : Token) → codes_among word (map (occurrence number) (token ∷ [])) ≡ (if bytes_eq word token.word then (number * 2 ^ 32 + token.place) ∷ [] else [])
+codes-one word number token =
+    elim (cases_Bool (bytes_eq word token.word)) [
+      | inl y ↦ rw y refl
+      | inr n ↦ rw n refl
+    ]
+
+-- the token at an index comes behind those before it
+pub codes-next : (word : List ℕ) (number : ℕ) (tokens : List Token) (i : ℕ) (token : Token) → slice_get tokens i ≡ Some token
+    → codes_among word (map (occurrence number) (take (i + 1) tokens))
+    ≡ codes_among word (map (occurrence number) (take i tokens)) ++ (if bytes_eq word token.word then (number * 2 ^ 32 + token.place) ∷ [] else [])
+codes-next word number tokens i token here =
+    ap (λ (front : List Token). codes_among word (map (occurrence number) front)) (taken-next tokens i token here)
+    ∙ (ap (codes_among word) (map-append (occurrence number) (take i tokens) (token ∷ []))
+    ∙ (codes_among-append word (map (occurrence number) (take i tokens)) (map (occurrence number) (token ∷ []))
+    ∙ ap (λ (last : List ℕ). codes_among word (map (occurrence number) (take i tokens)) ++ last) (codes-one word number token)))
+
+-- the text at a number comes before those behind it
+pub occurrences-next : (texts : List (List Token)) (number : ℕ) (tokens : List Token) → number < length texts → slice_index_or texts number tokens ≡ tokens
+    → occurrences_in number (drop number texts) ≡ map (occurrence number) tokens ++ occurrences_in (number + 1) (drop (number + 1) texts)
+occurrences-next texts number tokens within here =
+    rw (drop-cons texts number tokens within, here, add-one) refl
+
+-- the texts of a document's fields have what stands in the document
+pub occurrences-of_texts : (def : IndexDef) (doc : Doc) (number : ℕ) (fields : List Field) → occurrences_in number (map (field_tokens def doc) fields) ≡ occurrences_from def doc number fields
+occurrences-of_texts def doc number [] = refl
+occurrences-of_texts def doc number (field ∷ fields) =
+    ap (λ (rest : List (List ℕ × ℕ)). map (occurrence number) (field_tokens def doc field) ++ rest) (occurrences-of_texts def doc (suc number) fields)
 
 pub entry-own : (id : ℕ) (codes : List ℕ) → AreOf id (entry id codes)
 entry-own id [] = tt
@@ -54,12 +81,12 @@ word_entries-append def word (first ∷ docs) doc =
     ∙ sym (append_assoc (entry first.id (codes def word first)) (word_entries def word docs) (entry doc.id (codes def word doc)))
 
 pub words-seen : (def : IndexDef) (doc : Doc) (old new : Lists TextHit) → WordsUpTo doc.id old → ((word : List ℕ) → last_id 0 (entries_of old word) < doc.id)
-    → ((word : List ℕ) → entries_of new word ≡ entries_of old word ++ entry doc.id (codes def word doc)) → IsSeen doc (WordsHave def old) (WordsHave def new)
+    → ((word : List ℕ) → entries_of new word ≡ entries_of old word ++ entry doc.id (codes def word doc)) → IsSeen def doc (WordsHave def old) (WordsHave def new)
 words-seen def doc old new up_to later added live docs has word =
     let es = entries_of old word in
     let more = entry doc.id (codes def word doc) in
-    ap (alive (live ++ (doc.id, doc.key) ∷ [])) (added word)
-    ∙ (alive-seen live es more doc.id doc.key (all-below 0 doc.id es (up_to word).rise (later word)) (entry-own doc.id (codes def word doc))
+    ap (alive (live ++ (doc.id, sorting_vector def doc) ∷ [])) (added word)
+    ∙ (alive-seen live es more doc.id (sorting_vector def doc) (all-below 0 doc.id es (up_to word).rise (later word)) (entry-own doc.id (codes def word doc))
     ∙ (ap (λ (entries : List (ℕ × TextHit)). entries ++ more) (has word) ∙ sym (word_entries-append def word docs doc)))
 
 pub words-without : (def : IndexDef) (word : List ℕ) (id : ℕ) (docs : List Doc) → word_entries def word (without id docs) ≡ filter (is_other id) (word_entries def word docs)

@@ -1,7 +1,9 @@
 -- What is seen of a document whose entries go into lists.
 use Rattle.std.specs.Prelude.{◌≡◌, ℕ, List, [], ◌∷◌, ◌++◌, Bool, false, Option, if◌then◌else◌}
+use Rattle.doc_table.specs.Table.{Vector}
 use Rattle.ft_base.specs.declared.definition.IndexDef.{IndexDef}
 use Rattle.ft_base.specs.declared.doc.Doc.{Doc}
+use Rattle.ft_meaning.specs.Sortable.{sorting_vector}
 use Rattle.numeric_ranges.specs.Ranges.{Rows}
 use Rattle.posting_block.specs.declared.hits.TagHit.{TagHit}
 use Rattle.posting_block.specs.declared.hits.TextHit.{TextHit}
@@ -13,7 +15,7 @@ use Rattle.ft_index.specs.Lists.{has_id, rows_of}
 
 -- what lists have of documents, by the live ids and the documents
 abbrev pub Having : Type 1
-Having = List (ℕ × List ℕ) → List Doc → Type 0
+Having = List (ℕ × Vector) → List Doc → Type 0
 
 -- the live entries of each word are those of just the documents that have it
 abbrev pub WordsHave : IndexDef → Lists TextHit → Having
@@ -29,11 +31,12 @@ RangesHaveAll def ranges live docs = (field : ℕ) → NumbersHave def live fiel
 
 -- Nothing of an id is seen while it is not live.
 abbrev pub IsUnseen : ℕ → Having → Having → Type 0
-IsUnseen id old new = (live : List (ℕ × List ℕ)) (docs : List Doc) → has_id live id ≡ false → old live docs → new live docs
+IsUnseen id old new = (live : List (ℕ × Vector)) (docs : List Doc) → has_id live id ≡ false → old live docs → new live docs
 
 -- Once its id is live, a document is seen beside the others.
-abbrev pub IsSeen : Doc → Having → Having → Type 0
-IsSeen doc old new = (live : List (ℕ × List ℕ)) (docs : List Doc) → old live docs → new (live ++ (doc.id, doc.key) ∷ []) (docs ++ doc ∷ [])
+abbrev pub IsSeen : IndexDef → Doc → Having → Having → Type 0
+IsSeen def doc old new = (live : List (ℕ × Vector)) (docs : List Doc) → old live docs
+    → new (live ++ (doc.id, sorting_vector def doc) ∷ []) (docs ++ doc ∷ [])
 
 -- the entry of a tag, where a document has the tag
 abbrev pub tag_entry : ℕ → Bool → List (ℕ × TagHit)

@@ -1,22 +1,27 @@
 -- The words of one document as they are collected, each once with its codes, and how they go into the lists.
-use Rattle.std.specs.Prelude.{◌≡◌, ◌<◌, ℕ, List, [], ◌++◌, Bool, Option, None, Some, length}
+use Rattle.std.specs.Prelude.{◌≡◌, ◌<◌, ℕ, suc, List, [], ◌∷◌, ◌++◌, Bool, Option, None, Some, length, map}
+use Rattle.std.specs.Borrow.{Bor}
 use Rattle.std.specs.List.{AllByRecursion}
 use Rattle.std.specs.Map.{lookup}
 use Rattle.std.specs.Option.{unwrap_or}
 use Rattle.std.specs.Str.{bytes_eq}
-use Rattle.std.specs.declared.alloc.Global.{Global}
-use Rattle.std.specs.declared.vec.Vec.{Vec}
 use Rattle.posting_block.specs.declared.hits.TextHit.{TextHit}
 use Rattle.term_dict.specs.Terms.{Lists, entries_of}
-use Rattle.ft_index.specs.Entries.{entry}
+use Rattle.token_text.specs.declared.token.Token.{Token}
+use Rattle.ft_index.specs.Entries.{entry, occurrence}
 
--- words and their codes, as an index map holds them
+-- the tokens of texts with their codes, the first text being that of the field with this number
+abbrev pub occurrences_in : ℕ → List (List Token) → List (List ℕ × ℕ)
+occurrences_in number [] = []
+occurrences_in number (tokens ∷ texts) = map (occurrence number) tokens ++ occurrences_in (suc number) texts
+
+-- words, which are lent, and their codes, as an index map holds them
 abbrev pub Collected : Type 0
-Collected = List (Vec ℕ Global × List ℕ)
+Collected = List (Bor (List ℕ) × List ℕ)
 
 -- whether a key is a word
-abbrev pub is_key : List ℕ → Vec ℕ Global → Bool
-is_key word key = bytes_eq word key.items
+abbrev pub is_key : List ℕ → Bor (List ℕ) → Bool
+is_key word key = bytes_eq word key.now
 
 -- the codes of a word, of which there are none where it was not met
 abbrev pub codes_of : Collected → List ℕ → List ℕ
@@ -24,7 +29,7 @@ codes_of found word = unwrap_or (lookup (is_key word) found) []
 
 -- each word that was met has a code
 abbrev pub AreMet : Collected → Type 0
-AreMet found = AllByRecursion (λ (one : Vec ℕ Global × List ℕ). 0 < length one.1) found
+AreMet found = AllByRecursion (λ (one : Bor (List ℕ) × List ℕ). 0 < length one.1) found
 
 -- The lists are as they were but for one entry of this id at the end of some.
 abbrev pub GrowBy : ℕ → Lists TextHit → Lists TextHit → Type 0

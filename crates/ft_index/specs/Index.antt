@@ -1,7 +1,7 @@
 -- What a contract sees of one index, and which documents it stands for.
 use Rattle.std.specs.Prelude.{◌≡◌, ◌≤◌, ℕ, List, [], ◌∷◌, ◌++◌, Option, Some, None}
 use Rattle.std.specs.Option.{option_map}
-use Rattle.doc_table.specs.Table.{Table}
+use Rattle.doc_table.specs.Table.{Table, Vector}
 use Rattle.ft_base.specs.declared.definition.IndexDef.{IndexDef}
 use Rattle.ft_base.specs.declared.doc.Doc.{Doc}
 use Rattle.ft_meaning.specs.Member.{members, most_failures, one_more}
@@ -29,7 +29,7 @@ abbrev pub Indexes : Index → List Doc → Type 0
 Indexes index docs = Has index.def index.table.live index.lists (members index.def docs)
 
 -- the table once the document that waits is live
-abbrev pub commits : Option (ℕ × List ℕ) → Table → Table
+abbrev pub commits : Option (ℕ × Vector) → Table → Table
 commits None table = table
 commits (Some row) table = record table { live = table.live ++ row ∷ []; ready = None }
 
@@ -50,7 +50,7 @@ committed index = commits_ready index.waits index
 -- a member that waits is the one for which the table has room
 abbrev pub WaitsIn : Option Ready → Table → Type 0
 WaitsIn None table = Unit {0}
-WaitsIn (Some ready) table = ready.fit ≡ Member → option_map (λ (row : ℕ × List ℕ). row.0) table.ready ≡ Some ready.id
+WaitsIn (Some ready) table = ready.fit ≡ Member → option_map (λ (row : ℕ × Vector). row.0) table.ready ≡ Some ready.id
 
 -- What holds of every index.
 pub record IsIndex (index : Index) : Type 0 where

@@ -1,6 +1,8 @@
 -- What a contract sees of the lists of one index.
 use Rattle.std.specs.Prelude.{ℕ, ℤ, List, [], Bool, Option, Some, None, nat_eq, is_some, slice_get}
 use Rattle.std.specs.Map.{keys_of, lookup}
+pub use Rattle.doc_table.specs.Table.{Vector}
+use Rattle.doc_table.specs.Table.{number_in}
 use Rattle.id_iters.specs.Held.{Held}
 use Rattle.id_iters.specs.Named.{Named}
 use Rattle.inverted_list.specs.Listing.{Listing}
@@ -37,12 +39,12 @@ abbrev pub lows_of : Option Rows → List ℤ
 lows_of None = []
 lows_of (Some rows) = keys_of rows
 
--- whether an id is among rows of ids and keys
-abbrev pub has_id : List (ℕ × List ℕ) → ℕ → Bool
+-- whether an id is among rows of ids and sorting vectors
+abbrev pub has_id : List (ℕ × Vector) → ℕ → Bool
 has_id live id = is_some (lookup (nat_eq id) live)
 
 -- the lists by their names, and which ids are live, as an iterator sees them
-abbrev pub held_of : AllLists → List (ℕ × List ℕ) → Held
+abbrev pub held_of : AllLists → List (ℕ × Vector) → Held
 held_of lists live = record {
   words = λ word. list_of lists.words word;
   tags = λ field tag. list_in lists.tags field tag;
@@ -50,11 +52,11 @@ held_of lists live = record {
   live = has_id live;
 }
 
--- the names of the lists, and the key of each live id
-abbrev pub named_of : AllLists → List (ℕ × List ℕ) → Named
+-- the names of the lists, and the numbers that each live document is sorted by
+abbrev pub named_of : AllLists → List (ℕ × Vector) → Named
 named_of lists live = record {
   words = keys_of lists.words;
   tags = λ field. keys_of (tags_of lists.tags field);
   lows = λ field. lows_of (rows_of lists.ranges field);
-  keys = λ id. lookup (nat_eq id) live;
+  numbers = λ id place. number_in (lookup (nat_eq id) live) place;
 }

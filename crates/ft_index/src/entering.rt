@@ -1,20 +1,25 @@
-//! How a member enters an index: the table makes room for it, then the lists get its entries.
+//! How a member enters an index: the table makes room for its sorting vector, then the lists get its
+//! entries.
 ghost use Rattle.std.specs.Prelude.{◌≡◌, ◌<◌, ◌≤◌, ◌++◌, ◌∷◌, [], List, ℕ, length, OnOk};
 ghost use Rattle.ft_base.specs.declared.doc.Doc.{Doc};
 ghost use Rattle.ft_meaning.specs.Meaning.{ValuesFit};
+ghost use Rattle.ft_meaning.specs.Sortable.{sorting_vector};
 ghost use Rattle.ft_index.specs.Entering.{awaiting};
 ghost use Rattle.ft_index.specs.Kept.{AreKept};
 ghost use Rattle.ft_index.specs.Has.{Has};
 ghost use Rattle.ft_index.specs.Markers.{AreBefore, GainsMarkers};
 
 use crate::lists::IndexLists;
+use crate::sorting::vector_of;
 use doc_table::DocTable;
 use ft_base::{Doc, IndexDef, NoMemory};
 use inverted_list::Markers;
+use std::alloc::Global;
 
 /// Puts a document's entries into the lists, under an id that is not live. Out of memory,
 /// some of them may have come.
 pub fn enter(
+    alloc: Global,
     def: &IndexDef,
     table: &mut DocTable,
     lists: &mut IndexLists,
@@ -31,14 +36,15 @@ pub fn enter(
     ensures kept { AreKept table.new lists.new }
     ensures unseen { (docs : List Doc) → Has def.now table.old.live lists.old docs
         → Has def.now table.old.live lists.new docs }
-    ensures waits { OnOk result (table.new ≡ awaiting doc.now table.old) }
+    ensures waits { OnOk result (table.new ≡ awaiting def.now doc.now table.old) }
     ensures seen { OnOk result ((docs : List Doc) → Has def.now table.old.live lists.old docs
-        → Has def.now (table.old.live ++ (doc.now.id, doc.now.key) ∷ []) lists.new (docs ++ doc.now ∷ [])) }
+        → Has def.now (table.old.live ++ (doc.now.id, sorting_vector def.now doc.now) ∷ []) lists.new (docs ++ doc.now ∷ [])) }
     ensures before { AreBefore markers.new lists.new }
     ensures gains { GainsMarkers lists.old lists.new markers.old markers.new }
     ensures event { markers.new.event ≡ markers.old.event }
     ensures next { markers.old.next ≤ markers.new.next }
 {
-    table.prepare(doc.id, doc.key.as_slice())?;
+    let vector = vector_of(alloc, def, doc)?;
+    table.prepare(doc.id, vector)?;
     lists.add(def, doc, markers)
 }

@@ -27,6 +27,7 @@ const MOST_FAILURES: u64 = 9_223_372_036_854_775_807;
 /// An index of documents by the words, the tags and the numbers of their fields.
 #[derive(Drop)]
 pub struct FtIndex {
+    alloc: Global,
     def: IndexDef,
     table: DocTable,
     lists: IndexLists,
@@ -81,6 +82,7 @@ impl FtIndex {
     {
         let lists = IndexLists::new(alloc, &def, markers)?;
         Ok(FtIndex {
+            alloc,
             def,
             table: DocTable::new(alloc),
             lists,
@@ -180,7 +182,14 @@ impl FtIndex {
                 return Ok(ready);
             }
         }
-        enter(&self.def, &mut self.table, &mut self.lists, doc, markers)?;
+        enter(
+            self.alloc,
+            &self.def,
+            &mut self.table,
+            &mut self.lists,
+            doc,
+            markers,
+        )?;
         self.waits = Some(ready);
         Ok(ready)
     }

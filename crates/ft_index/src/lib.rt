@@ -1,9 +1,11 @@
 //! One index: which documents are live, and the posting lists of their words, tags and numbers.
 //!
 //! A document goes in under the number of the event that wrote it. Its entries go into the lists
-//! while it is not live yet, which may want memory; then it is made live, which wants none. A document
+//! while it is not live yet, which may take memory; then it is made live, which takes none. A document
 //! that is written again gets a new id: the old id is killed, and what it left in the lists is dead.
 //! So a list may hold entries that no search may answer, and whoever reads one asks what is live.
+//! Of a live document the index keeps no key, but its sorting vector: the numbers that searches are
+//! sorted by.
 //! Read first `specs/Index.antt`, then `index.rt`; of the lists `specs/Entries.antt` and `specs/Has.antt`, which says how they
 //! stand for documents, then `lists.rt`.
 #![tactic(auto)]
@@ -14,6 +16,7 @@ mod lists;
 mod numbers;
 mod reading;
 mod ready;
+mod sorting;
 mod tags;
 mod words;
 

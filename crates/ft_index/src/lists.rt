@@ -1,10 +1,12 @@
 //! The lists of an index, by kind, and how a document's entries go into them.
 ghost use Rattle.std.specs.Prelude.{◌≡◌, ◌<◌, ◌≤◌, ◌+◌, ◌*◌, ◌^◌, ℕ, List, [], ◌∷◌, ◌++◌, false, length, IfOk, IfNone, IfSome, OnOk};
 ghost use Rattle.std.specs.Option.{option_copied};
+ghost use Rattle.doc_table.specs.Table.{Vector};
 ghost use Rattle.ft_base.specs.declared.definition.IndexDef.{IndexDef};
 ghost use Rattle.ft_base.specs.declared.doc.Doc.{Doc};
 ghost use Rattle.ft_meaning.specs.Meaning.{ValuesFit};
 ghost use Rattle.ft_meaning.specs.Records.{live_records};
+ghost use Rattle.ft_meaning.specs.Sortable.{sorting_vector};
 ghost use Rattle.inverted_list.specs.declared.marker.Marker.{Marker};
 ghost use Rattle.ft_index.specs.Has.{Has};
 ghost use Rattle.ft_index.specs.Lists.{has_id, rows_of};
@@ -103,7 +105,7 @@ impl IndexLists {
         ensures fits { IfSome result (λ n. n < 2 ^ 63) }
         ensures none { IfNone result (2 ^ 63 ≤ all_entries self.now) }
         // There are at least the live ones.
-        ensures least { (def : IndexDef) (live : List (ℕ × List ℕ)) (docs : List Doc)
+        ensures least { (def : IndexDef) (live : List (ℕ × Vector)) (docs : List Doc)
             → Has def live self.now docs → IfSome result (λ n. live_records def docs ≤ n) }
     {
         let words = self.terms.entries()?;
@@ -122,11 +124,11 @@ impl IndexLists {
         requires differ { MarkersDiffer self.old }
         requires before { AreBefore markers.old self.old }
         // Nothing of it is seen while its id is not live, out of memory or not.
-        ensures unseen { (live : List (ℕ × List ℕ)) (docs : List Doc) → has_id live doc.now.id ≡ false
+        ensures unseen { (live : List (ℕ × Vector)) (docs : List Doc) → has_id live doc.now.id ≡ false
             → Has def.now live self.old docs → Has def.now live self.new docs }
         // Once the id is live, the lists stand for the document too.
-        ensures seen { OnOk result ((live : List (ℕ × List ℕ)) (docs : List Doc) → Has def.now live self.old docs
-            → Has def.now (live ++ (doc.now.id, doc.now.key) ∷ []) self.new (docs ++ doc.now ∷ [])) }
+        ensures seen { OnOk result ((live : List (ℕ × Vector)) (docs : List Doc) → Has def.now live self.old docs
+            → Has def.now (live ++ (doc.now.id, sorting_vector def.now doc.now) ∷ []) self.new (docs ++ doc.now ∷ [])) }
         ensures up_to { AreUpTo doc.now.id self.new }
         // Which markers its lists have.
         ensures differ { MarkersDiffer self.new }

@@ -1,6 +1,7 @@
 //! The numbers of a document: each goes into a range of its NUMERIC field.
 ghost use Rattle.std.specs.Prelude.{◌≡◌, ◌≢◌, ◌<◌, ◌≤◌, ◌+◌, ◌*◌, ◌^◌, List, ℕ, [], ◌∷◌, None, Some, length, IfOk, IfNone, IfSome, OnOk, OnErr};
 ghost use Rattle.ft_base.specs.declared.definition.IndexDef.{IndexDef};
+ghost use Rattle.ft_meaning.specs.Holds.{field_number};
 ghost use Rattle.numeric_ranges.specs.Ranges.{IsAbove};
 ghost use Rattle.ft_index.specs.Adding.{IsSeen, IsUnseen, RangesHaveAll};
 ghost use Rattle.ft_index.specs.Entries.{is_ranged, searched_number};
@@ -94,7 +95,7 @@ pub fn add_numbers(
     requires before { AllBefore markers.old (range_marker ranges.old) }
     ensures unseen { IsUnseen doc.now.id
         (RangesHaveAll def.now ranges.old) (RangesHaveAll def.now ranges.new) }
-    ensures seen { OnOk result (IsSeen doc.now
+    ensures seen { OnOk result (IsSeen def.now doc.now
         (RangesHaveAll def.now ranges.old) (RangesHaveAll def.now ranges.new)) }
     ensures up_to { RangesUpTo doc.now.id ranges.new }
     ensures takes { TakesMarkers markers.old markers.new
@@ -131,7 +132,17 @@ fn add_all(
 fn searched_number(field: &Field, doc: &Doc) -> Option<i64>
     ensures { result ≡ searched_number (Some field.now) doc.now }
 {
-    if !has_ranges(field) {
+    if field.noindex {
+        return None;
+    }
+    field_number(field, doc)
+}
+
+/// The number of a document in a NUMERIC field.
+pub fn field_number(field: &Field, doc: &Doc) -> Option<i64>
+    ensures { result ≡ field_number doc.now field.now }
+{
+    if !field.kind.is_numeric() {
         return None;
     }
     let value = doc.hash.get(field.name.as_slice())?;

@@ -68,7 +68,7 @@ impl Lists for FtIndex {
         }
     }
 
-    fn key_of(&self, id: u64) -> Option<&[u8]> {
-        self.table().key_of(id)
+    fn number_near(&self, id: u64, place: usize, near: &mut usize) -> Option<i64> {
+        self.table().number_near(id, place, near)
     }
 }

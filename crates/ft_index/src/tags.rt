@@ -33,7 +33,7 @@ pub fn add_tags(
     requires up_to { TagsUpTo doc.now.id lists.old }
     requires before { AllBefore markers.old (tag_marker lists.old) }
     ensures unseen { IsUnseen doc.now.id (TagsHave def.now lists.old) (TagsHave def.now lists.new) }
-    ensures seen { OnOk result (IsSeen doc.now (TagsHave def.now lists.old) (TagsHave def.now lists.new)) }
+    ensures seen { OnOk result (IsSeen def.now doc.now (TagsHave def.now lists.old) (TagsHave def.now lists.new)) }
     ensures up_to { TagsUpTo doc.now.id lists.new }
     ensures takes { TakesMarkers markers.old markers.new (tag_marker lists.old) (tag_marker lists.new) }
 {

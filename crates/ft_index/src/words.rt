@@ -2,30 +2,32 @@
 //! and then each word's list gets one entry.
 ghost use Rattle.std.specs.Prelude.{◌≡◌, ◌<◌, ◌≤◌, ◌+◌, ◌*◌, ◌^◌, List, ℕ, [], ◌∷◌, ◌++◌, map, length, if◌then◌else◌, IfOk, OnOk, OnErr};
 ghost use Rattle.std.specs.Str.{bytes_eq};
+ghost use Rattle.ft_base.specs.declared.limits.TheConstants.{MAX_WORD_BYTES};
 ghost use Rattle.ft_meaning.specs.Meaning.{ValuesFit, field_tokens};
 ghost use Rattle.inverted_list.specs.Listing.{last_id};
 ghost use Rattle.term_dict.specs.Terms.{entries_of};
 ghost use Rattle.ft_index.specs.Adding.{IsSeen, IsUnseen, WordsHave};
-ghost use Rattle.ft_index.specs.Collected.{AreMet, GrowBy, codes_of};
+ghost use Rattle.ft_index.specs.Collected.{AreMet, GrowBy, codes_of, occurrences_in};
 ghost use Rattle.ft_index.specs.Entries.{codes, codes_among, entry, occurrence};
 ghost use Rattle.ft_index.specs.Markers.{word_marker};
 ghost use Rattle.ft_index.specs.Taking.{AllBefore, TakesMarkers};
 ghost use Rattle.ft_index.specs.UpTo.{WordsUpTo};
 
-use ft_base::{Doc, Field, IndexDef, NoMemory};
+use ft_base::{Doc, IndexDef, NoMemory};
 use ft_meaning::field_tokens;
 use indexmap::IndexMap;
 use inverted_list::Markers;
 use posting_block::{ListOfPlaces, TextHit};
 use std::alloc::Global;
 use term_dict::Terms;
-use token_text::Token;
+use token_text::TextTokens;
 
 /// What a field's number counts for in a code, above every place.
 const PLACES: u64 = 1 << 32;
 
-/// Words, each with its codes in rising order.
-type WordCodes = IndexMap<Vec<u8>, ListOfPlaces>;
+/// Words, each with its codes in rising order. The tokens of the texts lend the words, so that a
+/// word takes no memory of its own here.
+type WordCodes<'a> = IndexMap<&'a [u8], ListOfPlaces>;
 
 /// Puts an entry for the document into the list of each of its words. Out of memory, some
 /// have theirs.
@@ -42,72 +44,70 @@ pub fn add_words(
     requires up_to { WordsUpTo doc.now.id terms.old }
     requires before { AllBefore markers.old (word_marker terms.old) }
     ensures unseen { IsUnseen doc.now.id (WordsHave def.now terms.old) (WordsHave def.now terms.new) }
-    ensures seen { OnOk result (IsSeen doc.now (WordsHave def.now terms.old) (WordsHave def.now terms.new)) }
+    ensures seen { OnOk result (IsSeen def.now doc.now (WordsHave def.now terms.old) (WordsHave def.now terms.new)) }
     ensures up_to { WordsUpTo doc.now.id terms.new }
     ensures takes { TakesMarkers markers.old markers.new (word_marker terms.old) (word_marker terms.new) }
 {
-    let found = occurrences(alloc, def, doc)?;
+    let texts = texts_of(alloc, def, doc)?;
+    let found = collected(alloc, texts.as_slice())?;
     add_all(terms, found, doc.id, markers)
 }
 
-/// The words of a document's indexed TEXT fields.
-fn occurrences(alloc: Global, def: &IndexDef, doc: &Doc) -> Result<WordCodes, NoMemory>
-    requires fields { length def.now.fields ≤ 1_024 }
-    requires values { ValuesFit doc.now.hash }
+/// The tokens of each field of a document, of which there are none where its words are not found.
+fn texts_of(alloc: Global, def: &IndexDef, doc: &Doc) -> Result<Vec<TextTokens>, NoMemory>
+    requires { ValuesFit doc.now.hash }
+    ensures { IfOk result (λ texts.
+        texts.items ≡ map (field_tokens def.now doc.now) def.now.fields) }
+{
+    let mut texts = Vec::with_capacity(alloc, def.fields.len())?;
+    for field in def.fields.as_slice() {
+        texts.push(field_tokens(alloc, def, doc, field)?)?;
+    }
+    Ok(texts)
+}
+
+/// The words of the fields of a document.
+fn collected<'a>(alloc: Global, texts: &'a [TextTokens]) -> Result<WordCodes<'a>, NoMemory>
+    requires { length texts.now ≤ 1_024 }
     ensures codes { IfOk result (λ found. (word : List ℕ)
-        → codes_of found.entries word ≡ codes def.now word doc.now) }
+        → codes_of found.entries word ≡ codes_among word (occurrences_in 0 texts.now)) }
     ensures met { IfOk result (λ found. AreMet found.entries) }
 {
     let mut found = IndexMap::new(alloc);
-    for (number, field) in def.fields.as_slice().iter().enumerate() {
-        note_field(&mut found, alloc, def, doc, number as u64, field)?;
+    for (number, tokens) in texts.iter().enumerate() {
+        note_all(&mut found, number as u64, tokens)?;
     }
     Ok(found)
 }
 
-/// Notes the words of one field, which has this number.
-fn note_field(
-    found: &mut WordCodes,
-    alloc: Global,
-    def: &IndexDef,
-    doc: &Doc,
-    number: u64,
-    field: &Field,
-) -> Result<(), NoMemory>
-    requires number { number < 1_024 }
-    requires values { ValuesFit doc.now.hash }
-    ensures codes { OnOk result ((word : List ℕ) → codes_of found.new.entries word
-        ≡ codes_of found.old.entries word ++ codes_among word (map (occurrence number) (field_tokens def.now doc.now field.now))) }
-    ensures met { OnOk result (AreMet found.old.entries → AreMet found.new.entries) }
-{
-    let tokens = field_tokens(alloc, def, doc, field)?;
-    note_all(found, number, tokens.as_slice())
-}
-
 /// Notes the tokens of the field with this number.
-fn note_all(found: &mut WordCodes, number: u64, tokens: &[Token]) -> Result<(), NoMemory>
+fn note_all<'a>(
+    found: &mut WordCodes<'a>,
+    number: u64,
+    tokens: &'a TextTokens,
+) -> Result<(), NoMemory>
     requires { number < 1_024 }
     ensures codes { OnOk result ((word : List ℕ) → codes_of found.new.entries word
         ≡ codes_of found.old.entries word ++ codes_among word (map (occurrence number) tokens.now)) }
     ensures met { OnOk result (AreMet found.old.entries → AreMet found.new.entries) }
 {
-    for token in tokens {
-        let code = code_of(number, token.place);
-        note(found, token.word.as_slice(), code)?;
+    for i in 0..tokens.len() {
+        note(found, tokens.word(i), code_of(number, i))?;
     }
     Ok(())
 }
 
-/// The code of a place in the field with this number.
-fn code_of(number: u64, place: u32) -> u64
-    requires { number < 1_024 }
-    ensures { result ≡ number * 2 ^ 32 + place }
+/// The code of the token at an index, whose place is one more, in the field with this number.
+fn code_of(number: u64, i: usize) -> u64
+    requires number { number < 1_024 }
+    requires place { i < MAX_WORD_BYTES }
+    ensures { result ≡ number * 2 ^ 32 + (i + 1) }
 {
-    number * PLACES + u64::from(place)
+    number * PLACES + (i as u64 + 1)
 }
 
 /// Adds a code behind those of its word.
-fn note(found: &mut WordCodes, word: &[u8], code: u64) -> Result<(), NoMemory>
+fn note<'a>(found: &mut WordCodes<'a>, word: &'a [u8], code: u64) -> Result<(), NoMemory>
     ensures codes { OnOk result ((other : List ℕ) → codes_of found.new.entries other
         ≡ codes_of found.old.entries other ++ (if bytes_eq other word.now then code ∷ [] else [])) }
     ensures met { OnOk result (AreMet found.old.entries → AreMet found.new.entries) }
@@ -115,26 +115,24 @@ fn note(found: &mut WordCodes, word: &[u8], code: u64) -> Result<(), NoMemory>
     if let Some(places) = found.get_mut(word) {
         return places.push(code);
     }
-    let alloc = *found.allocator();
-    let (name, places) = first_code(alloc, word, code)?;
-    found.insert(name, places)?;
+    let places = first_code(*found.allocator(), code)?;
+    found.insert(word, places)?;
     Ok(())
 }
 
-/// A word with one code.
-fn first_code(alloc: Global, word: &[u8], code: u64) -> Result<(Vec<u8>, ListOfPlaces), NoMemory>
-    ensures word { IfOk result (λ first. first.0.items ≡ word.now) }
-    ensures code { IfOk result (λ first. first.1 ≡ code ∷ []) }
+/// One code.
+fn first_code(alloc: Global, code: u64) -> Result<ListOfPlaces, NoMemory>
+    ensures { IfOk result (λ places. places ≡ code ∷ []) }
 {
     let mut places = ListOfPlaces::new(alloc);
     places.push(code)?;
-    Ok((Vec::from_slice(alloc, word)?, places))
+    Ok(places)
 }
 
 /// Adds an entry of this id to the list of each word. Out of memory, some have theirs.
 fn add_all(
     terms: &mut Terms,
-    found: WordCodes,
+    found: WordCodes<'_>,
     id: u64,
     markers: &mut Markers,
 ) -> Result<(), NoMemory>
@@ -143,13 +141,13 @@ fn add_all(
     requires met { AreMet found.entries }
     requires before { AllBefore markers.old (word_marker terms.old) }
     ensures ok { OnOk result ((word : List ℕ) → entries_of terms.new word
-        ≡ entries_of terms.old word ++ entry id (codes_of found.entries word)) }
+        ≡ entries_of terms.old word ++ entry id (codes_of found.entry.entries word)) }
     ensures some { GrowBy id terms.old terms.new }
     ensures up_to { WordsUpTo id terms.new }
     ensures takes { TakesMarkers markers.old markers.new (word_marker terms.old) (word_marker terms.new) }
 {
     for (word, codes) in found {
-        add(terms, word.as_slice(), codes, id, markers)?;
+        add(terms, word, codes, id, markers)?;
     }
     Ok(())
 }

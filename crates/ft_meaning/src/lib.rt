@@ -6,9 +6,12 @@
 #![tactic(auto)]
 
 mod membership;
+mod sortable;
 mod words;
 
 /// Whether a document is in an index, and whether it fails to be.
 pub use membership::{failed, member};
+/// Which fields' numbers an index keeps to sort by.
+pub use sortable::keeps_number;
 /// The words of a document's fields.
 pub use words::field_tokens;

@@ -3,13 +3,13 @@ ghost use Rattle.std.specs.Prelude.{◌≡◌, nat_eq, nat_lt};
 ghost use Rattle.std.specs.Option.{option_copied};
 ghost use Rattle.std.specs.Map.{lookup};
 ghost use Rattle.ft_base.specs.Rows.{live_rows, WaitsLast};
-ghost use Rattle.hash_store.specs.Rows.{doc_in};
+ghost use Rattle.hash_store.specs.Rows.{doc_in, HaveOwnIds};
 
-use crate::doc_rows::DocRows;
 use ft_base::Doc;
+use id_rows::IdRows;
 
 /// The document of the id, unless it waits.
-pub fn live_doc(docs: &DocRows, pending: Option<u64>, id: u64) -> Option<&Doc>
+pub fn live_doc(docs: &IdRows<Doc>, pending: Option<u64>, id: u64) -> Option<&Doc>
     requires last { WaitsLast pending docs.now }
     ensures { option_copied result ≡ lookup (nat_eq id) (live_rows pending docs.now) }
 {
@@ -20,8 +20,9 @@ pub fn live_doc(docs: &DocRows, pending: Option<u64>, id: u64) -> Option<&Doc>
 }
 
 /// The document with the least id above an id, unless it waits.
-pub fn live_after(docs: &DocRows, pending: Option<u64>, id: u64) -> Option<&Doc>
+pub fn live_after(docs: &IdRows<Doc>, pending: Option<u64>, id: u64) -> Option<&Doc>
     requires last { WaitsLast pending docs.now }
+    requires own { HaveOwnIds docs.now }
     ensures { option_copied result ≡ lookup (nat_lt id) (live_rows pending docs.now) }
 {
     let doc = docs.after(id)?;
@@ -32,7 +33,7 @@ pub fn live_after(docs: &DocRows, pending: Option<u64>, id: u64) -> Option<&Doc>
 }
 
 /// Takes the document of the id out, where there is an id.
-pub fn take_out(docs: &mut DocRows, id: Option<u64>) -> Option<Doc>
+pub fn take_out(docs: &mut IdRows<Doc>, id: Option<u64>) -> Option<Doc>
     ensures was { result ≡ doc_in id docs.old }
     ensures gone { docs.new ≡ live_rows id docs.old }
 {

@@ -8,12 +8,12 @@ ghost use Rattle.hash_store.specs.Keys.{row_at, row_for, has_key, id_at, SetsRow
 
 use crate::by_id::take_out;
 use crate::by_key::{KeyIds, drop_row, id_of, make_row, release, set_id};
-use crate::doc_rows::DocRows;
 use ft_base::{Doc, NoMemory};
+use id_rows::IdRows;
 use std::alloc::Global;
 
 /// The document that the key leads to.
-pub fn doc_of<'a>(ids: &KeyIds, docs: &'a DocRows, key: &[u8]) -> Option<&'a Doc>
+pub fn doc_of<'a>(ids: &KeyIds, docs: &'a IdRows<Doc>, key: &[u8]) -> Option<&'a Doc>
     ensures { option_copied result ≡ doc_in (id_at ids.now.entries key.now) docs.now }
 {
     docs.get(id_of(ids, key)?)
@@ -23,7 +23,7 @@ pub fn doc_of<'a>(ids: &KeyIds, docs: &'a DocRows, key: &[u8]) -> Option<&'a Doc
 pub fn add_rows(
     alloc: Global,
     ids: &mut KeyIds,
-    docs: &mut DocRows,
+    docs: &mut IdRows<Doc>,
     doc: Doc,
 ) -> Result<(), NoMemory>
     requires above { Below doc.id docs.old }
@@ -44,14 +44,14 @@ pub fn add_rows(
 }
 
 // Takes the document of an id off again.
-fn take_off(docs: &mut DocRows, id: u64)
+fn take_off(docs: &mut IdRows<Doc>, id: u64)
     ensures { docs.new ≡ remove_entry (nat_eq id) docs.old }
 {
     docs.remove(id);
 }
 
 // Sees to it that the key of the document has a row.
-fn add_key(alloc: Global, ids: &mut KeyIds, docs: &DocRows, id: u64) -> Result<(), NoMemory>
+fn add_key(alloc: Global, ids: &mut KeyIds, docs: &IdRows<Doc>, id: u64) -> Result<(), NoMemory>
     ensures ok { OnOk result (IfSome (lookup (nat_eq id) docs.now)
         (λ doc. SetsRow doc.key (Some (id_at ids.old.entries doc.key)) ids.old.entries ids.new.entries)) }
     ensures err { OnErr result (ids.new.entries ≡ ids.old.entries) }
@@ -64,7 +64,7 @@ fn add_key(alloc: Global, ids: &mut KeyIds, docs: &DocRows, id: u64) -> Result<(
 
 /// Takes the rows of the document that waited out, but for its key's where that leads to a document
 /// or is the key of the one that is kept.
-pub fn drop_waiting(ids: &mut KeyIds, docs: &mut DocRows, pending: Option<u64>, kept: u64)
+pub fn drop_waiting(ids: &mut KeyIds, docs: &mut IdRows<Doc>, pending: Option<u64>, kept: u64)
     ensures docs { docs.new ≡ live_rows pending docs.old }
     ensures ids { IfSome (lookup (nat_eq kept) docs.new)
         (λ doc. ReleasesKeyOf (doc_in pending docs.old) doc.key ids.old.entries ids.new.entries) }
@@ -74,7 +74,7 @@ pub fn drop_waiting(ids: &mut KeyIds, docs: &mut DocRows, pending: Option<u64>, 
     }
 }
 
-fn release_for(ids: &mut KeyIds, docs: &DocRows, key: &[u8], kept: u64)
+fn release_for(ids: &mut KeyIds, docs: &IdRows<Doc>, key: &[u8], kept: u64)
     ensures { IfSome (lookup (nat_eq kept) docs.now)
         (λ doc. Releases key.now doc.key ids.old.entries ids.new.entries) }
 {
@@ -84,7 +84,7 @@ fn release_for(ids: &mut KeyIds, docs: &DocRows, key: &[u8], kept: u64)
 }
 
 /// Lets the key of the document lead to it, and answers where it led before.
-pub fn lead_to(ids: &mut KeyIds, docs: &DocRows, id: u64) -> Option<u64>
+pub fn lead_to(ids: &mut KeyIds, docs: &IdRows<Doc>, id: u64) -> Option<u64>
     requires row { IfSome (lookup (nat_eq id) docs.now) (λ doc. IsSome (row_at ids.old.entries doc.key)) }
     ensures was { IfSome (lookup (nat_eq id) docs.now) (λ doc. result ≡ id_at ids.old.entries doc.key) }
     ensures leads { IfSome (lookup (nat_eq id) docs.now)
@@ -99,7 +99,7 @@ pub fn lead_to(ids: &mut KeyIds, docs: &DocRows, id: u64) -> Option<u64>
 }
 
 /// Lets a key that has a row lead nowhere. The row stays where the document that waits has the key.
-pub fn lead_nowhere(ids: &mut KeyIds, docs: &DocRows, pending: Option<u64>, key: &[u8])
+pub fn lead_nowhere(ids: &mut KeyIds, docs: &IdRows<Doc>, pending: Option<u64>, key: &[u8])
     requires row { IsSome (row_at ids.old.entries key.now) }
     ensures { SetsRow key.now (row_for None (doc_in pending docs.now) key.now) ids.old.entries ids.new.entries }
 {
@@ -110,8 +110,16 @@ pub fn lead_nowhere(ids: &mut KeyIds, docs: &DocRows, pending: Option<u64>, key:
     }
 }
 
+/// The same of the key of a document that was taken out.
+pub fn forget_key(ids: &mut KeyIds, docs: &IdRows<Doc>, pending: Option<u64>, doc: Doc)
+    requires row { IsSome (row_at ids.old.entries doc.key) }
+    ensures { SetsRow doc.key (row_for None (doc_in pending docs.now) doc.key) ids.old.entries ids.new.entries }
+{
+    lead_nowhere(ids, docs, pending, doc.key.as_slice());
+}
+
 // Whether the document that waits has the key.
-fn is_waiting(docs: &DocRows, pending: Option<u64>, key: &[u8]) -> bool
+fn is_waiting(docs: &IdRows<Doc>, pending: Option<u64>, key: &[u8]) -> bool
     ensures { result ≡ has_key (doc_in pending docs.now) key.now }
 {
     let Some(id) = pending else {

@@ -6,14 +6,15 @@ ghost use Rattle.std.specs.Str.{bytes_eq};
 ghost use Rattle.std.specs.List.{All, IsDistinct};
 ghost use Rattle.std.specs.List.Sorted.{IsStrictlyIncreasing};
 ghost use Rattle.ft_base.specs.Space.{doc_of, write, erase};
+ghost use Rattle.hash_store.specs.Erasing.{erase_id};
 ghost use Rattle.hash_store.specs.Store.{after_read};
 
 use crate::by_id::{live_after, live_doc, take_out};
 use crate::by_key::{KeyIds, id_of};
-use crate::doc_rows::DocRows;
 use crate::rows;
-use crate::rows::{add_rows, drop_waiting, lead_nowhere, lead_to};
+use crate::rows::{add_rows, drop_waiting, forget_key, lead_nowhere, lead_to};
 use ft_base::{Doc, NoMemory};
+use id_rows::IdRows;
 use std::alloc::Global;
 use std::collections::BTreeMap;
 use std::marker::Model;
@@ -23,7 +24,7 @@ use std::marker::Model;
 pub struct HashStore {
     alloc: Global,
     ids: KeyIds,
-    docs: DocRows,
+    docs: IdRows<Doc>,
     // The id of the row that still waits to be committed.
     pending: Option<u64>,
     last: u64,
@@ -67,7 +68,7 @@ impl HashStore {
         HashStore {
             alloc,
             ids: BTreeMap::new(alloc),
-            docs: DocRows::new(alloc),
+            docs: IdRows::new(alloc),
             pending: None,
             last: 0,
             reads: 0,
@@ -111,6 +112,14 @@ impl HashStore {
         id_of(&self.ids, key)
     }
 
+    /// The key of the document of an id. The document is not read.
+    pub fn key_of(&self, id: u64) -> Option<&[u8]>
+        ensures { option_copied result ≡ option_map (λ doc. doc.key) (find (λ doc. nat_eq id doc.id) self.now.space) }
+    {
+        let doc = live_doc(&self.docs, self.pending, id)?;
+        Some(doc.key.as_slice())
+    }
+
     /// The number of documents.
     pub fn len(&self) -> usize
         ensures len { result ≡ length self.now.space }
@@ -139,7 +148,7 @@ impl HashStore {
     {
         let id = doc.id;
         add_rows(self.alloc, &mut self.ids, &mut self.docs, doc)?;
-        // What was abandoned goes only now, so that want of memory leaves all as it was.
+        // What was abandoned goes only now, so that out of memory all stays as it was.
         drop_waiting(&mut self.ids, &mut self.docs, self.pending, id);
         self.pending = Some(id);
         self.last = id;
@@ -171,6 +180,19 @@ impl HashStore {
         self.docs.remove(id);
         lead_nowhere(&mut self.ids, &self.docs, self.pending, key);
         Some(id)
+    }
+
+    /// Takes the document of an id out, where it is there, as `erase` does by its key. One that is prepared stays so. It takes no
+    /// memory.
+    pub fn erase_id(&mut self, id: u64)
+        ensures { self.new ≡ record self.old { space = erase_id self.old.space id } }
+    {
+        if self.pending == Some(id) {
+            return; // It isn't written yet.
+        }
+        if let Some(doc) = self.docs.remove(id) {
+            forget_key(&mut self.ids, &self.docs, self.pending, doc);
+        }
     }
 
     /// Takes all documents out, and one that is prepared. It takes no memory.

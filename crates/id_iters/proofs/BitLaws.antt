@@ -1,16 +1,15 @@
 -- The bits of a stretch.
-use Rattle.std.specs.Prelude.{◌≡◌, ℕ, zero, suc, ◌+◌, ◌-◌, ◌*◌, ◌/◌, ◌%◌, ◌^◌, ◌<◌, ◌≤◌, List, [], ◌∷◌, ◌++◌, ◌⊎◌, Bool, true, false, ◌&&◌, ◌||◌, nat_eq, nat_le, bit_or, length, slice_index, Some, None, refl}
-use Rattle.std.proofs.Common.{sym, ◌∙◌, ap, subst, arith, inl, inr, get_or}
+use Rattle.std.specs.Prelude.{◌≡◌, ℕ, ◌+◌, ◌-◌, ◌*◌, ◌/◌, ◌%◌, ◌^◌, ◌<◌, ◌≤◌, List, true, false, ◌&&◌, ◌||◌, nat_eq, nat_le, bit_or, length}
+use Rattle.std.proofs.Common.{sym, ◌∙◌, ap, arith, inl, inr, get_or}
 use Rattle.std.specs.Int.{bit_at, trailing_zeros, w64}
-use Rattle.std.specs.List.{AllByRecursion}
 use Rattle.std.proofs.Math.ListN.{set}
 use Rattle.std.proofs.lemmas.Bool.{cases_Bool, cases_lt, eqb-true, eqb-false, ne_eqb, and_parts}
 use Rattle.std.proofs.lemmas.Bool.Decides.{nat_tests}
-use Rattle.std.proofs.lemmas.List.{get_or_past, get_or-set_same, get_or-set_other}
+use Rattle.std.proofs.lemmas.List.{get_or-set_same, get_or-set_other}
 use Rattle.std.proofs.lemmas.Nat.Bits.{bit_at-trailing_zeros}
 use Rattle.doc_table.specs.Pages.{bit_of}
-use Rattle.doc_table.proofs.WordLaws.{bits_set, no_bits}
-use Rattle.id_iters.specs.Least.{IsLeastAt, NoneFrom}
+use Rattle.doc_table.proofs.WordLaws.{bits_set}
+use Rattle.id_iters.specs.Least.{IsLeastAt}
 use Rattle.id_iters.specs.Stretch.{Stretch, is_in}
 
 abbrev pub stretch : ℕ → List ℕ → Stretch
@@ -19,15 +18,6 @@ stretch start words = record { start = start; words = words }
 -- a word has no bit of an id from a number on
 abbrev pub IsBare : ℕ → List ℕ → ℕ → ℕ → Type 0
 IsBare start words from k = (bit : ℕ) → bit < 64 → from ≤ 64 * (start + k) + bit → bit_of (get_or words k 0) bit ≡ false
-
-pub bare_before : (start from k : ℕ) (words : List ℕ) → start + k < from / 64 → IsBare start words from k
-bare_before start from k words before bit inside behind = absurd (omega arith)
-
--- the bits from the number on, none of which is set
-pub bare_none : (start from k word : ℕ) (words : List ℕ) → word ≡ 0 → ((bit : ℕ) → bit < 64 → bit_of word bit ≡ (nat_le from (64 * (start + k) + bit) && bit_of (get_or words k 0) bit)) → IsBare start words from k
-bare_none start from k word words none bits bit inside behind =
-    let on : nat_le from (64 * (start + k) + bit) ≡ true = grind (arith, nat_tests) in
-    sym (bits bit inside ∙ ap (λ b. b && bit_of (get_or words k 0) bit) on) ∙ (ap (λ w. bit_of w bit) none ∙ no_bits bit)
 
 -- an id by its word and its bit
 in_at : (start k bit : ℕ) (words : List ℕ) → bit < 64 → is_in (stretch start words) (64 * (start + k) + bit) ≡ bit_of (get_or words k 0) bit
@@ -65,14 +55,6 @@ lowest_from start from k word lowest words low bare bits some fits is =
       },
     )
 
-pub bare_all : (start from : ℕ) (words : List ℕ) → 64 * start ≤ from → ((k : ℕ) → k < length words → IsBare start words from k) → NoneFrom (is_in (stretch start words)) from
-bare_all start from words low bare = record {
-  fails = λ id behind. elim (cases_lt (id / 64 - start) (length words)) [
-    | inl there ↦ bare (id / 64 - start) there (id % 64) (omega arith) (omega (arith, low, behind))
-    | inr past ↦ ap (λ w. bit_of w (id % 64)) (get_or_past words (id / 64 - start) 0 past) ∙ no_bits (id % 64)
-  ];
-}
-
 -- two ids of one word are one if their bits are
 bits_apart : (id other : ℕ) → other / 64 ≡ id / 64 → nat_eq (other % 64) (id % 64) ≡ nat_eq other id
 bits_apart id other same = grind (arith, nat_tests)
@@ -98,12 +80,3 @@ one_more start id words low within other lower =
   where
     new : ℕ
     new = bit_or (get_or words (id / 64 - start) 0) (1 * 2 ^ (id % 64) % 2 ^ 64)
-
--- words without a bit
-pub cleared : (words : List ℕ) → AllByRecursion (λ w. w ≡ 0) words → (k : ℕ) → get_or words k 0 ≡ 0
-cleared [] none k = refl
-cleared (w ∷ words) none zero = none.0
-cleared (w ∷ words) none (suc k) = cleared words none.1 k
-
-pub clear_ids : (start : ℕ) (words : List ℕ) → AllByRecursion (λ w. w ≡ 0) words → (id : ℕ) → is_in (stretch start words) id ≡ false
-clear_ids start words none id = ap (λ w. bit_of w (id % 64)) (cleared words none (id / 64 - start)) ∙ no_bits (id % 64)

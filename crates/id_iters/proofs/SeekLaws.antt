@@ -187,11 +187,6 @@ if_answer (Ok None) P Q h p = tt
 if_answer (Ok (Some id)) P Q h p = h id p
 if_answer (Err e) P Q h p = tt
 
-pub on_answer : {E : Type 0} (r : Result (Option ℕ) E) (from : ℕ) (p : ℕ → Bool) (P : Type 0) (Q : ℕ → Type 0) → ((id : ℕ) → from ≤ id → P → Q id) → OnOk r P → IfOk r (λ x. IsLeast p from x) → IfOk r (λ x. IfSome x Q)
-on_answer (Ok None) from p P Q h on least = tt
-on_answer (Ok (Some id)) from p P Q h on least = h id least.reached on
-on_answer (Err e) from p P Q h on least = tt
-
 pub on_same : {E : Type 0} (r : Result (Option ℕ) E) (P Q : Type 0) → (P → Q) → OnOk r P → OnOk r Q
 on_same (Ok x) P Q h on = h on
 on_same (Err e) P Q h on = tt

@@ -10,12 +10,12 @@ use ft_base::{NoMemory, Span};
 use inverted_list::List;
 use posting_block::{NumHit, TagHit, TextHit};
 
-/// The lists of an index and their names, and which documents are live.
+/// The lists of an index and their names, which documents are live, and the numbers that they are sorted by.
 pub trait Lists {
     // the lists and the live ids
     ghost held: { Self → Held };
 
-    // the names of the lists, and the keys of the live documents
+    // the names of the lists, and the numbers that live documents are sorted by
     ghost named: { Self → Named };
 
     /// The list of a word.
@@ -68,7 +68,8 @@ pub trait Lists {
     fn low_at(&self, field: u16, place: usize) -> Option<i64>
         ensures { result ≡ slice_get ((named self.now).lows field) place };
 
-    /// The key of a live document.
-    fn key_of(&self, id: u64) -> Option<&[u8]>
-        ensures { option_copied result ≡ (named self.now).keys id };
+    /// The number at a place of a live document's sorting vector, for a reader that walks from id to id. `near` is where it
+    /// found the document before, and any value will do: no answer depends on it.
+    fn number_near(&self, id: u64, place: usize, near: &mut usize) -> Option<i64>
+        ensures { result ≡ (named self.now).numbers id place };
 }

@@ -14,25 +14,21 @@ use Rattle.ft_base.specs.declared.reply.Reply.{Reply}
 use Rattle.ft_index.specs.Index.{Index}
 use Rattle.ft_base.specs.Memory.{want_of_memory}
 use Rattle.ft_machine.specs.Aggregating.{aggregate_rows, rows_reply}
-use Rattle.ft_machine.specs.Counted.{in_order}
 use Rattle.ft_machine.specs.Step.{Told}
-use Rattle.index_commands.specs.Exactness.{IsRefusal, ReadsAll, ReadsFew, ReadsFound, ReadsRows, TellsEntries, TellsExactly, TellsOf}
+use Rattle.index_commands.specs.Exactness.{IsRefusal, ReadsAll, ReadsFew, ReadsFound, ReadsRows, Shows, TellsEntries, TellsExactly, TellsOf}
 use Rattle.ft_machine.specs.Info.{info_reply}
 use Rattle.ft_machine.specs.declared.counts.Counts.{Counts}
 use Rattle.ft_index.specs.Lists.{AllLists}
 use Rattle.ft_index.specs.Records.{all_entries}
 use Rattle.indexed_store.specs.Named.{is_named}
 use Rattle.hash_store.specs.Store.{reads_after}
-use Rattle.search_exec.specs.Ids.{reads_for}
-use Rattle.ft_machine.specs.Shown.{found_reply}
 
 -- what a search found was answered, or out of memory
 pub reads-found : {E : Type 0} (what : Searching) (def : IndexDef) (docs : List Doc) (written : List ℕ) (made : Result Reply E) (old new : ℕ)
-    → IfOk made (λ reply. reply ≡ found_reply what def (in_order what.sort def docs))
-    → OnOk made (new ≡ reads_after old (reads_for what (length docs))) → old ≤ new → Told made written → ReadsRows what written old new
-reads-found what def docs written (Ok reply) old new is reads rises (inl said) = inl (record { def = def; found = docs; shown = said ∙ ap spelling is; reads = reads })
-reads-found what def docs written (Ok reply) old new is reads rises (inr want) = inr (inr (want, rises))
-reads-found what def docs written (Err e) old new is reads rises want = inr (inr (want, rises))
+    → IfOk made (Shows what def docs old new) → old ≤ new → Told made written → ReadsRows what written old new
+reads-found what def docs written (Ok reply) old new shows rises (inl said) = inl (record { def = def; found = docs; shown = said ∙ ap spelling shows.shown; reads = shows.reads })
+reads-found what def docs written (Ok reply) old new shows rises (inr want) = inr (inr (want, rises))
+reads-found what def docs written (Err e) old new shows rises want = inr (inr (want, rises))
 
 -- the rows of what an aggregate found were answered, or out of memory
 pub reads-made : {E : Type 0} (what : Aggregating) (def : IndexDef) (docs : List Doc) (written : List ℕ) (made : Result Reply E) (old new : ℕ)

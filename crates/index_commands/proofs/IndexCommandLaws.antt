@@ -18,13 +18,13 @@ use Rattle.ft_base.specs.declared.definition.IndexDef.{IndexDef}
 use Rattle.ft_base.specs.declared.doc.Doc.{Doc}
 use Rattle.ft_base.specs.declared.reply.Reply.{Reply}
 use Rattle.ft_base.specs.declared.reply.Reply.TheVariants.{Array, Bulk, Fault, Line}
-use Rattle.ft_index.proofs.AliveLaws.{row_of}
 use Rattle.ft_index.specs.Index.{Index}
 use Rattle.ft_schema.specs.Gives.{IsFaultOf}
 use Rattle.ft_schema.specs.Schema.{extended, has_any_alias, is_over}
 use Rattle.ft_schema.specs.declared.fault.SchemaFault.{SchemaFault}
 use Rattle.ft_schema.specs.declared.fault.SchemaFault.TheVariants as schema
 use Rattle.indexed_store.proofs.NamedLaws.{index_of-named}
+use Rattle.indexed_store.proofs.StepLaws.{row_of}
 use Rattle.ft_machine.specs.Definitions.{Defined, failures_over, index_of, with_index, without_index, without_members}
 use Rattle.indexed_store.specs.DefinitionsOf.{defined, definitions_of}
 use Rattle.indexed_store.specs.Named.{is_named}

@@ -1,5 +1,5 @@
 -- What FT.INFO tells of an index is true of its documents.
-use Rattle.std.specs.Prelude.{◌≡◌, ◌≤◌, ◌+◌, ℕ, List, [], ◌∷◌, Option, None, Some, Result, Ok, Err, IfOk, find, length, refl}
+use Rattle.std.specs.Prelude.{◌≡◌, ◌≤◌, ◌+◌, ℕ, ℤ, List, [], ◌∷◌, Option, None, Some, Result, Ok, Err, IfOk, find, length, refl}
 use Rattle.std.proofs.Common.{sym, ap, ◌∙◌, arith, subst}
 use Rattle.std.proofs.lemmas.List.{length-map}
 use Rattle.std.proofs.lemmas.Result.{IfOk-weaker}
@@ -18,6 +18,7 @@ use Rattle.ft_machine.specs.Info.{info_reply, Tells, informed}
 use Rattle.ft_index.specs.Has.{Has}
 use Rattle.ft_index.specs.Lists.{AllLists}
 use Rattle.ft_meaning.specs.Records.{live_records}
+use Rattle.ft_meaning.specs.Sortable.{sorting_vector}
 use Rattle.ft_machine.proofs.Stepping.{gives, told}
 use Rattle.ft_base.specs.Words.{first}
 use Rattle.ft_machine.specs.Definitions.{Defined}
@@ -54,13 +55,13 @@ informs-index indexes index state number args written made same there tells said
 
 -- what is told by the counts of an index
 pub told-of : {E : Type 0} (index : Index) (def : IndexDef) (lists : AllLists) (made : Result Reply E) (docs records failures cursors : ℕ) → def ≡ index.def → lists ≡ index.lists → docs ≡ length index.table.live
-    → failures ≡ index.failures → ((def : IndexDef) (live : List (ℕ × List ℕ)) (all : List Doc) → Has def live lists all → live_records def all ≤ records)
+    → failures ≡ index.failures → ((def : IndexDef) (live : List (ℕ × List (Option ℤ))) (all : List Doc) → Has def live lists all → live_records def all ≤ records)
     → IfOk made (λ reply. reply ≡ info_reply def (record { docs = docs; records = records; failures = failures; cursors = cursors }))
     → IfOk made (λ reply. (all : List Doc) (opened : List Cursor) → Indexes index all → cursors ≡ length (cursors_of index.def.serial opened) → Tells (defined index) all opened reply)
 told-of index def lists (Err e) docs records failures cursors its of_lists counted failed least made = tt
 told-of index def lists (Ok reply) docs records failures cursors its of_lists counted failed least made = λ all opened stands are.
     let there = members index.def all in
-    let count : docs ≡ length there = counted ∙ (ap (λ (rows : List (ℕ × List ℕ)). length rows) stands.live ∙ length-map there (λ (doc : Doc). (doc.id, doc.key))) in
+    let count : docs ≡ length there = counted ∙ (ap (λ (rows : List (ℕ × List (Option ℤ))). length rows) stands.live ∙ length-map there (λ (doc : Doc). (doc.id, sorting_vector index.def doc))) in
     record {
       records = records;
       least = least index.def index.table.live there (subst (λ (ls : AllLists). Has index.def index.table.live ls there) (sym of_lists) stands);

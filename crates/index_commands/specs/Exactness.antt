@@ -1,13 +1,13 @@
 -- How many documents a search and an aggregate read, and how many records are told of an index: by the store's own count, and
 -- the lists'.
-use Rattle.std.specs.Prelude.{◌≡◌, ◌≤◌, ◌⊎◌, ℕ, List, length, Option, Some, None, find}
+use Rattle.std.specs.Prelude.{◌≡◌, ◌≤◌, ◌⊎◌, ℕ, List, length, Option, Some, None, IsTrue, find}
 use Rattle.cmd_parse.specs.Aggregating.{Aggregating}
 use Rattle.cmd_parse.specs.Searching.{Searching}
 use Rattle.cmd_parse.specs.Asked.{Asked, Plain, Search, Aggregate}
 use Rattle.cmd_parse.specs.declared.aggregate_words.CursorSpec.{CursorSpec}
 use Rattle.cmd_parse.specs.declared.command.Verb.TheVariants.{Info}
 use Rattle.ft_base.specs.Memory.{out_of_memory}
-use Rattle.ft_base.specs.Reply.{spelling}
+use Rattle.ft_base.specs.Reply.{fits_wire, spelling}
 use Rattle.ft_base.specs.declared.definition.IndexDef.{IndexDef}
 use Rattle.ft_base.specs.declared.doc.Doc.{Doc}
 use Rattle.ft_base.specs.declared.reply.Reply.{Reply}
@@ -28,15 +28,21 @@ use Rattle.search_exec.specs.Ids.{reads_for}
 abbrev pub IsRefusal : List ℕ → Type 0
 IsRefusal written = (text : List ℕ) × (written ≡ spelling (Fault text))
 
+-- A reply shows the documents that count, and fits the wire; as many were read as are told of a search that counts so many.
+pub record Shows (what : Searching) (def : IndexDef) (found : List Doc) (old new : ℕ) (reply : Reply) : Type 0 where
+  pub shown : reply ≡ found_reply what def (in_order what.sort def found)
+  pub fits : IsTrue (fits_wire reply)
+  pub reads : new ≡ reads_after old (reads_for what def (length found))
+
 -- Documents are shown, and as many were read as are told of a search that counts so many.
 pub record ReadsShown (what : Searching) (written : List ℕ) (old new : ℕ) : Type 0 where
   pub def : IndexDef
   -- the documents that count
   pub found : List Doc
   pub shown : written ≡ spelling (found_reply what def (in_order what.sort def found))
-  pub reads : new ≡ reads_after old (reads_for what (length found))
+  pub reads : new ≡ reads_after old (reads_for what def (length found))
 
--- A search has read just what it shows or sorts; where it is refused, nothing.
+-- A search has read just what it shows, or what it must read to sort; where it is refused, nothing.
 abbrev pub ReadsRows : Searching → List ℕ → ℕ → ℕ → Type 0
 ReadsRows what written old new =
     ReadsShown what written old new

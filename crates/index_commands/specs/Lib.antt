@@ -1,3 +1,5 @@
 pub mod Exactness
+pub mod Found
 pub mod Gathered
 pub mod Parts
+pub mod Reading

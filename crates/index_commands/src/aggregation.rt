@@ -1,28 +1,21 @@
 //! FT.AGGREGATE: the query is parsed by the fields of its index, and its steps make rows of the documents found.
-ghost use Rattle.std.specs.Prelude.{◌≡◌, ◌<◌, ◌≤◌, ◌^◌, ◌⊎◌, ℕ, None, false, length, IfOk, IsTrue, OnOk};
-ghost use Rattle.std.specs.List.{All};
+ghost use Rattle.std.specs.Prelude.{◌≡◌, ◌<◌, ◌≤◌, None, false, length, IfOk, IsTrue, OnOk};
 ghost use Rattle.cmd_parse.specs.Aggregating.{aggregate_of};
 ghost use Rattle.cmd_parse.specs.Read.{Aggregate};
-ghost use Rattle.ft_base.specs.Memory.{out_of_memory};
-ghost use Rattle.ft_base.specs.Reply.{fits_wire, spelling};
-ghost use Rattle.ft_base.specs.declared.doc.Doc.{Doc};
+ghost use Rattle.ft_base.specs.Reply.{fits_wire};
 ghost use Rattle.ft_base.specs.declared.limits.TheConstants.{MAX_WORD_BYTES};
-ghost use Rattle.ft_index.specs.Index.{Indexes, IsIndex};
 ghost use Rattle.ft_machine.specs.Aggregating.{aggregate_reply};
-ghost use Rattle.ft_machine.specs.Machine.{State};
-ghost use Rattle.ft_machine.specs.Step.{Does, last_number};
+ghost use Rattle.ft_machine.specs.Step.{last_number};
 ghost use Rattle.ft_meaning.specs.Holds.{found_of};
-ghost use Rattle.ft_meaning.specs.Meaning.{ValuesFit};
 ghost use Rattle.hash_store.specs.Store.{reads_after};
 ghost use Rattle.index_commands.specs.Exactness.{ReadsFound};
+ghost use Rattle.index_commands.specs.Reading.{HandsOut, IsAnswered, IsAnsweredOver, IsReadable, IsReplied};
 ghost use Rattle.indexed_store.specs.Changing.{is_write};
-ghost use Rattle.indexed_store.specs.DefinitionsOf.{definitions_of};
-ghost use Rattle.indexed_store.specs.Holding.{state_of};
 ghost use Rattle.indexed_store.specs.Preparing.{OnlyReads, Prepares};
 ghost use Rattle.indexed_store.specs.Standing.{InStep};
 
+use crate::ids::ids_found;
 use crate::opening::open_cursor;
-use crate::search::ids_found;
 use cmd_parse::AggregateSpec;
 use ft_base::{NoMemory, Query, Reply, Steps};
 use ft_index::FtIndex;
@@ -64,8 +57,7 @@ fn answer_aggregate(held: &mut IndexedStore, aggregate: &AggregateSpec<'_>, repl
     requires number { held.old.next < last_number }
     requires query { length aggregate.now.query.now ≤ MAX_WORD_BYTES }
     requires cursor { aggregate.now.cursor ≡ None }
-    ensures does { Does (Aggregate (aggregate_of aggregate.now)) held.old.next (state_of held.old)
-        reply.new.bytes (state_of held.old) }
+    ensures does { IsAnswered (Aggregate (aggregate_of aggregate.now)) held.old reply.new.bytes }
     ensures stays { OnlyReads held.old held.new }
     // Each document that is found is read once.
     ensures reads { ReadsFound (aggregate_of aggregate.now) reply.new.bytes held.old.reads held.new.reads }
@@ -91,13 +83,9 @@ fn answer_in(
     requires query { length aggregate.now.query.now ≤ MAX_WORD_BYTES }
     requires cursor { aggregate.now.cursor ≡ None }
     requires step { InStep store.old indexes.now last_number }
-    ensures does { (number : ℕ) (state : State) → state.space ≡ store.old.space
-        → state.definitions ≡ definitions_of indexes.now
-        → Does (Aggregate (aggregate_of aggregate.now)) number state reply.new.bytes state }
+    ensures does { IsAnsweredOver (Aggregate (aggregate_of aggregate.now)) store.old.space indexes.now reply.new.bytes }
     ensures reads { ReadsFound (aggregate_of aggregate.now) reply.new.bytes store.old.reads store.new.reads }
-    ensures space { store.new.space ≡ store.old.space }
-    ensures ready { store.new.ready ≡ store.old.ready }
-    ensures last { store.new.last ≡ store.old.last }
+    ensures store { HandsOut store.old store.new }
     ensures room { reply.old.room ≤ reply.new.room }
 {
     let Some(index) = index_named(indexes, aggregate.index) else {
@@ -118,17 +106,10 @@ fn answer_parsed(
     aggregate: &AggregateSpec<'_>,
     reply: &mut ReplyBuffer,
 )
-    requires stands { Indexes index.now store.old.space }
-    requires sound { IsIndex index.now }
-    requires few { index.now.table.last < 2 ^ 62 }
-    requires values { All (λ (doc : Doc). ValuesFit doc.hash) store.old.space }
-    ensures found { (reply.new.bytes
-        ≡ spelling (aggregate_reply (aggregate_of aggregate.now) store.old.space index.now.def query))
-        ⊎ (reply.new.bytes ≡ spelling out_of_memory) }
+    requires readable { IsReadable index.now store.old.space }
+    ensures found { IsReplied (aggregate_reply (aggregate_of aggregate.now) store.old.space index.now.def query) reply.new.bytes }
     ensures reads { ReadsFound (aggregate_of aggregate.now) reply.new.bytes store.old.reads store.new.reads }
-    ensures space { store.new.space ≡ store.old.space }
-    ensures ready { store.new.ready ≡ store.old.ready }
-    ensures last { store.new.last ≡ store.old.last }
+    ensures store { HandsOut store.old store.new }
     ensures room { reply.old.room ≤ reply.new.room }
 {
     let made = rows_in::<Brand>(store, index, alloc, &query, aggregate, Blank::new(1));
@@ -148,19 +129,13 @@ fn rows_in<L: Ledger>(
     requires name { blank.name ≡ L.name }
     requires parts { blank.parts ≡ L.parts }
     requires some { 0 < L.parts }
-    requires stands { Indexes index.now store.old.space }
-    requires sound { IsIndex index.now }
-    requires few { index.now.table.last < 2 ^ 62 }
-    requires values { All (λ (doc : Doc). ValuesFit doc.hash) store.old.space }
+    requires readable { IsReadable index.now store.old.space }
     ensures reply { IfOk result (λ reply. reply
         ≡ aggregate_reply (aggregate_of aggregate.now) store.old.space index.now.def query.now) }
     ensures fits { IfOk result (λ reply. IsTrue (fits_wire reply)) }
-    ensures space { store.new.space ≡ store.old.space }
-    ensures ready { store.new.ready ≡ store.old.ready }
-    ensures last { store.new.last ≡ store.old.last }
+    ensures store { HandsOut store.old store.new }
     ensures reads { OnOk result (store.new.reads ≡ reads_after store.old.reads
         (length (found_of query.now index.now.def store.old.space))) }
-    ensures rises { store.old.reads ≤ store.new.reads }
 {
     let mut counter = Steps::<L>::new(blank);
     let iter = ids_found(store, index, alloc, query, 0, &mut counter)?;

@@ -1,13 +1,10 @@
 //! FT.CURSOR READ and DEL.
 ghost use Rattle.std.specs.Prelude.{◌≡◌, ◌<◌, ◌≤◌, ◌^◌, ℕ, None, false};
-ghost use Rattle.std.specs.List.{All};
 ghost use Rattle.cmd_parse.specs.Asked.{CursorDel, CursorRead};
-ghost use Rattle.ft_base.specs.declared.doc.Doc.{Doc};
-ghost use Rattle.ft_index.specs.Index.{Indexes, IsIndex};
 ghost use Rattle.ft_machine.specs.Machine.{State};
 ghost use Rattle.ft_machine.specs.Step.{Does, last_number};
-ghost use Rattle.ft_meaning.specs.Meaning.{ValuesFit};
 ghost use Rattle.index_commands.specs.Parts.{IsNext};
+ghost use Rattle.index_commands.specs.Reading.{HandsOut, IsReadable};
 ghost use Rattle.indexed_store.specs.Changing.{changed, is_write};
 ghost use Rattle.indexed_store.specs.DefinitionsOf.{definitions_of};
 ghost use Rattle.indexed_store.specs.Preparing.{Prepares};
@@ -65,10 +62,7 @@ fn read_in<'a>(
         → state.cursors ≡ cursors.now
         → Does (CursorRead name.now id count) number state reply.new.bytes (changed result None None state) }
     ensures quiet { is_write result ≡ false }
-    ensures space { store.new.space ≡ store.old.space }
-    ensures ready { store.new.ready ≡ store.old.ready }
-    ensures last { store.new.last ≡ store.old.last }
-    ensures rises { store.old.reads ≤ store.new.reads }
+    ensures store { HandsOut store.old store.new }
     ensures room { reply.old.room ≤ reply.new.room }
 {
     let Some(index) = index_named(indexes, name) else {
@@ -94,15 +88,9 @@ fn read_next<'a>(
     reply: &mut ReplyBuffer,
 ) -> Change<'a>
     requires id { cursor.now.id < 2 ^ 63 }
-    requires stands { Indexes index.now store.old.space }
-    requires sound { IsIndex index.now }
-    requires few { index.now.table.last < 2 ^ 62 }
-    requires values { All (λ (doc : Doc). ValuesFit doc.hash) store.old.space }
+    requires readable { IsReadable index.now store.old.space }
     ensures next { IsNext index.now.def store.old.space count cursor.now result reply.new.bytes }
-    ensures space { store.new.space ≡ store.old.space }
-    ensures ready { store.new.ready ≡ store.old.ready }
-    ensures last { store.new.last ≡ store.old.last }
-    ensures rises { store.old.reads ≤ store.new.reads }
+    ensures store { HandsOut store.old store.new }
     ensures room { reply.old.room ≤ reply.new.room }
 {
     let count = count.unwrap_or(cursor.count);

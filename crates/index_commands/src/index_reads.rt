@@ -1,5 +1,5 @@
 //! FT._LIST and FT.TAGVALS.
-ghost use Rattle.std.specs.Prelude.{◌≡◌, ◌<◌, ◌≤◌, ℕ, length, map, IfOk, IsTrue};
+ghost use Rattle.std.specs.Prelude.{◌≡◌, ◌<◌, ◌≤◌, length, map, IfOk, IsTrue};
 ghost use Rattle.std.specs.List.{All, find};
 ghost use Rattle.std.specs.Option.{option_copied};
 ghost use Rattle.cmd_parse.specs.Read.{Plain};
@@ -9,11 +9,10 @@ ghost use Rattle.ft_base.specs.declared.doc.Doc.{Doc};
 ghost use Rattle.ft_base.specs.declared.reply.Reply.TheVariants.{Array, Bulk};
 ghost use Rattle.ft_index.specs.Index.{Index};
 ghost use Rattle.ft_machine.specs.Indexes.{listed, tag_field};
-ghost use Rattle.ft_machine.specs.Machine.{State};
 ghost use Rattle.ft_machine.specs.Step.{Does};
 ghost use Rattle.ft_machine.specs.TagValues.{tag_values};
+ghost use Rattle.index_commands.specs.Reading.{HandsOut, IsAnswered, IsAnsweredOver};
 ghost use Rattle.indexed_store.specs.DefinitionsOf.{definitions_of};
-ghost use Rattle.indexed_store.specs.Holding.{state_of};
 ghost use Rattle.indexed_store.specs.Preparing.{OnlyReads};
 
 use crate::tag_walk::tag_values;
@@ -26,8 +25,7 @@ use std::alloc::Global;
 
 /// Does FT._LIST, and writes the reply: the names of the indexes, in order of creation.
 pub fn answer_names(held: &mut IndexedStore, _args: &Words<'_>, reply: &mut ReplyBuffer)
-    ensures does { Does (Plain ListIndexes _args.now) held.old.next (state_of held.old)
-        reply.new.bytes (state_of held.old) }
+    ensures does { IsAnswered (Plain ListIndexes _args.now) held.old reply.new.bytes }
     ensures stays { OnlyReads held.old held.new }
     ensures reads { held.new.reads ≡ held.old.reads }
     ensures room { reply.old.room ≤ reply.new.room }
@@ -58,8 +56,7 @@ fn bulks_of_names(indexes: &[FtIndex], alloc: Global) -> Result<ListOf<Reply>, N
 /// Does FT.TAGVALS, and writes the reply.
 pub fn answer_tag_vals(held: &mut IndexedStore, args: &Words<'_>, reply: &mut ReplyBuffer)
     requires words { length args.now ≡ 2 }
-    ensures does { Does (Plain TagVals args.now) held.old.next (state_of held.old)
-        reply.new.bytes (state_of held.old) }
+    ensures does { IsAnswered (Plain TagVals args.now) held.old reply.new.bytes }
     ensures stays { OnlyReads held.old held.new }
     ensures room { reply.old.room ≤ reply.new.room }
 {
@@ -82,12 +79,8 @@ fn answer_tags_in(
 )
     requires words { length args.now ≡ 2 }
     requires ids { All (λ (doc : Doc). 0 < doc.id) store.old.space }
-    ensures does { (number : ℕ) (state : State) → state.space ≡ store.old.space
-        → state.definitions ≡ definitions_of indexes.now
-        → Does (Plain TagVals args.now) number state reply.new.bytes state }
-    ensures space { store.new.space ≡ store.old.space }
-    ensures ready { store.new.ready ≡ store.old.ready }
-    ensures last { store.new.last ≡ store.old.last }
+    ensures does { IsAnsweredOver (Plain TagVals args.now) store.old.space indexes.now reply.new.bytes }
+    ensures store { HandsOut store.old store.new }
     ensures room { reply.old.room ≤ reply.new.room }
 {
     let Some(index) = index_named(indexes, args.word(0)) else {
@@ -111,9 +104,7 @@ fn tags_reply(
     ensures reply { IfOk result (λ reply. reply
         ≡ Array (map Bulk (tag_values def.now field.now store.old.space))) }
     ensures fits { IfOk result (λ reply. IsTrue (fits_wire reply)) }
-    ensures space { store.new.space ≡ store.old.space }
-    ensures ready { store.new.ready ≡ store.old.ready }
-    ensures last { store.new.last ≡ store.old.last }
+    ensures store { HandsOut store.old store.new }
 {
     let tags = tag_values(alloc, store, def, field)?;
     Ok(Reply::Array(tags))

@@ -12,8 +12,8 @@ ghost use Rattle.ft_base.specs.Words.{first};
 ghost use Rattle.ft_machine.specs.Info.{Tells};
 ghost use Rattle.ft_machine.specs.Step.{Does, last_number};
 ghost use Rattle.index_commands.specs.Exactness.{TellsEntries, TellsOf};
+ghost use Rattle.index_commands.specs.Reading.{IsAnswered};
 ghost use Rattle.indexed_store.specs.DefinitionsOf.{defined};
-ghost use Rattle.indexed_store.specs.Holding.{state_of};
 ghost use Rattle.indexed_store.specs.Named.{is_named};
 ghost use Rattle.indexed_store.specs.Preparing.{OnlyReads};
 
@@ -30,8 +30,7 @@ pub fn answer_info(held: &mut IndexedStore, args: &Words<'_>, reply: &mut ReplyB
     requires number { held.old.next < last_number }
     requires words { length args.now ≡ 1 }
     requires none { held.old.opens ≡ None }
-    ensures does { Does (Plain Info args.now) held.old.next (state_of held.old)
-        reply.new.bytes (state_of held.old) }
+    ensures does { IsAnswered (Plain Info args.now) held.old reply.new.bytes }
     // As many records are told as the lists have entries.
     ensures records { TellsOf (find (is_named (first args.now)) held.old.indexes) reply.new.bytes }
     ensures stays { OnlyReads held.old held.new }

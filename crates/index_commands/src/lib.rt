@@ -8,9 +8,11 @@
 
 mod aggregation;
 mod attributes;
+mod bodies;
 mod cursors;
 mod definitions;
 mod filters;
+mod ids;
 mod index_reads;
 mod info;
 mod info_tree;

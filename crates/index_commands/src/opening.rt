@@ -1,42 +1,31 @@
 //! FT.AGGREGATE with WITHCURSOR: the first rows, and a cursor for the others.
-ghost use Rattle.std.specs.Prelude.{◌≡◌, ◌<◌, ◌≤◌, ◌^◌, None, Some, false, length, map, nat_le, true, IfOk};
-ghost use Rattle.std.specs.List.{All, list_all};
-ghost use Rattle.agg_pipeline.specs.Stream.{is_of_rows};
+ghost use Rattle.std.specs.Prelude.{◌≡◌, ◌<◌, ◌≤◌, None, Some, false, length, nat_le};
 ghost use Rattle.cmd_parse.specs.Aggregating.{aggregate_of};
 ghost use Rattle.cmd_parse.specs.Asked.{Aggregate};
 ghost use Rattle.cursor_book.specs.Cursors.{body_left};
-ghost use Rattle.cursor_book.specs.declared.cursor.Body.TheVariants as body;
-ghost use Rattle.ft_base.specs.declared.doc.Doc.{Doc};
 ghost use Rattle.ft_base.specs.declared.limits.TheConstants.{MAX_WORD_BYTES};
-ghost use Rattle.ft_index.specs.Index.{Indexes, IsIndex};
-ghost use Rattle.ft_machine.specs.Aggregating.{aggregate_rows};
 ghost use Rattle.ft_machine.specs.Machine.{State};
-ghost use Rattle.ft_machine.specs.Opening.{body_of, cells_alone, most_cursors};
+ghost use Rattle.ft_machine.specs.Opening.{body_of, most_cursors};
 ghost use Rattle.ft_machine.specs.Parts.{Part};
 ghost use Rattle.ft_machine.specs.Step.{last_number};
-ghost use Rattle.ft_meaning.specs.Holds.{found_of};
-ghost use Rattle.ft_meaning.specs.Meaning.{ValuesFit};
 ghost use Rattle.index_commands.specs.Parts.{DoesFirst, IsFirst, IsKept, first_left};
+ghost use Rattle.index_commands.specs.Reading.{HandsOut, IsReadable};
 ghost use Rattle.indexed_store.specs.Changing.{is_write};
 ghost use Rattle.indexed_store.specs.DefinitionsOf.{definitions_of};
 ghost use Rattle.indexed_store.specs.Preparing.{Prepares};
 ghost use Rattle.indexed_store.specs.Standing.{InStep};
 
+use crate::bodies::new_body;
 use crate::part::{PartTold, tell_part};
-use crate::search::ids_found;
-use agg_pipeline::{StreamSteps, are_of_rows};
 use cmd_parse::{AggregateSpec, CursorSpec};
-use cursor_book::{Body, Cursor, RowsLeft, Taken};
-use ft_base::{NoMemory, Query, Row, Steps};
+use cursor_book::{Body, Cursor, Taken};
+use ft_base::Query;
 use ft_index::FtIndex;
 use hash_store::HashStore;
 use indexed_store::{Change, IndexedStore, index_named};
 use query_parse::parse;
 use reply_buffer::ReplyBuffer;
-use search_exec::found_rows;
 use std::alloc::Global;
-use std::marker::Brand;
-use std::sync::ledger::{Blank, Ledger};
 
 /// The most cursors of an index.
 const MOST_CURSORS: usize = 128;
@@ -136,10 +125,7 @@ fn read_first(
     requires step { InStep store.old indexes.now last_number }
     ensures does { (state : State) → state.space ≡ store.old.space → state.definitions ≡ definitions_of indexes.now
         → DoesFirst (aggregate_of asked.entry) cursor number state result reply.new.bytes }
-    ensures space { store.new.space ≡ store.old.space }
-    ensures ready { store.new.ready ≡ store.old.ready }
-    ensures last { store.new.last ≡ store.old.last }
-    ensures rises { store.old.reads ≤ store.new.reads }
+    ensures store { HandsOut store.old store.new }
     ensures room { reply.old.room ≤ reply.new.room }
 {
     let Some(index) = index_named(indexes, asked.index) else {
@@ -178,16 +164,10 @@ fn read_new(
     reply: &mut ReplyBuffer,
 ) -> Option<First>
     requires number { number < last_number }
-    requires stands { Indexes index.now store.old.space }
-    requires sound { IsIndex index.now }
-    requires few { index.now.table.last < 2 ^ 62 }
-    requires values { All (λ (doc : Doc). ValuesFit doc.hash) store.old.space }
+    requires readable { IsReadable index.now store.old.space }
     ensures first { IsFirst index.now.def (body_of (aggregate_of asked.entry) index.now.def query store.old.space) store.old.space
         count number result reply.new.bytes }
-    ensures space { store.new.space ≡ store.old.space }
-    ensures ready { store.new.ready ≡ store.old.ready }
-    ensures last { store.new.last ≡ store.old.last }
-    ensures rises { store.old.reads ≤ store.new.reads }
+    ensures store { HandsOut store.old store.new }
     ensures room { reply.old.room ≤ reply.new.room }
 {
     match new_body(store, index, alloc, query, asked) {
@@ -210,15 +190,9 @@ fn read_of(
     reply: &mut ReplyBuffer,
 ) -> Option<First>
     requires number { number < last_number }
-    requires stands { Indexes index.now store.old.space }
-    requires sound { IsIndex index.now }
-    requires few { index.now.table.last < 2 ^ 62 }
-    requires values { All (λ (doc : Doc). ValuesFit doc.hash) store.old.space }
+    requires readable { IsReadable index.now store.old.space }
     ensures first { IsFirst index.now.def body store.old.space count number result reply.new.bytes }
-    ensures space { store.new.space ≡ store.old.space }
-    ensures ready { store.new.ready ≡ store.old.ready }
-    ensures last { store.new.last ≡ store.old.last }
-    ensures rises { store.old.reads ≤ store.new.reads }
+    ensures store { HandsOut store.old store.new }
     ensures room { reply.old.room ≤ reply.new.room }
 {
     match tell_part(store, index, alloc, &body, count, number, reply) {
@@ -251,123 +225,4 @@ fn body_left(body: Body, taken: Taken) -> Body
     let mut body = body;
     body.take(taken);
     body
-}
-
-/// What a new cursor is read from: documents one by one, or rows that are made at once.
-fn new_body(
-    store: &mut HashStore,
-    index: &FtIndex,
-    alloc: Global,
-    query: Query,
-    asked: AggregateSpec<'_>,
-) -> Result<Body, NoMemory>
-    requires stands { Indexes index.now store.old.space }
-    requires sound { IsIndex index.now }
-    requires few { index.now.table.last < 2 ^ 62 }
-    requires values { All (λ (doc : Doc). ValuesFit doc.hash) store.old.space }
-    ensures body { IfOk result (λ made. made ≡ body_of (aggregate_of asked.entry) index.now.def query store.old.space) }
-    ensures space { store.new.space ≡ store.old.space }
-    ensures ready { store.new.ready ≡ store.old.ready }
-    ensures last { store.new.last ≡ store.old.last }
-    ensures rises { store.old.reads ≤ store.new.reads }
-{
-    if are_of_rows(asked.steps.as_slice()) {
-        return Ok(stream_body(alloc, query, asked));
-    }
-    let body = rows_body(store, index, alloc, &query, &asked);
-    drop(query);
-    drop(asked);
-    body
-}
-
-/// A stream that begins with the first document.
-fn stream_body(alloc: Global, query: Query, asked: AggregateSpec<'_>) -> Body
-    requires { list_all is_of_rows asked.steps ≡ true }
-    ensures { result ≡ body.Stream query (asked.entry.load, asked.entry.steps) 0 }
-{
-    let steps = StreamSteps::new(alloc, asked.load, asked.steps).unwrap();
-    Body::Stream {
-        query,
-        steps,
-        after: 0,
-    }
-}
-
-/// The rows that all steps make of the documents found, for a cursor to keep.
-fn rows_body(
-    store: &mut HashStore,
-    index: &FtIndex,
-    alloc: Global,
-    query: &Query,
-    asked: &AggregateSpec<'_>,
-) -> Result<Body, NoMemory>
-    requires stands { Indexes index.now store.old.space }
-    requires sound { IsIndex index.now }
-    requires few { index.now.table.last < 2 ^ 62 }
-    requires values { All (λ (doc : Doc). ValuesFit doc.hash) store.old.space }
-    ensures body { IfOk result (λ made. made ≡ body.Rows (map cells_alone
-        (aggregate_rows asked.now.load asked.now.steps index.now.def (found_of query.now index.now.def store.old.space)))) }
-    ensures space { store.new.space ≡ store.old.space }
-    ensures ready { store.new.ready ≡ store.old.ready }
-    ensures last { store.new.last ≡ store.old.last }
-    ensures rises { store.old.reads ≤ store.new.reads }
-{
-    let mut rows = all_rows::<Brand>(store, index, alloc, query, asked, Blank::new(1))?;
-    keep_cells(rows.as_mut_slice());
-    Ok(Body::Rows(RowsLeft::new(rows)))
-}
-
-/// The rows that all steps make of the documents found.
-fn all_rows<L: Ledger>(
-    store: &mut HashStore,
-    index: &FtIndex,
-    alloc: Global,
-    query: &Query,
-    asked: &AggregateSpec<'_>,
-    blank: Blank,
-) -> Result<Vec<Row>, NoMemory>
-    requires name { blank.name ≡ L.name }
-    requires parts { blank.parts ≡ L.parts }
-    requires some { 0 < L.parts }
-    requires stands { Indexes index.now store.old.space }
-    requires sound { IsIndex index.now }
-    requires few { index.now.table.last < 2 ^ 62 }
-    requires values { All (λ (doc : Doc). ValuesFit doc.hash) store.old.space }
-    ensures rows { IfOk result (λ rows. rows.items
-        ≡ aggregate_rows asked.now.load asked.now.steps index.now.def (found_of query.now index.now.def store.old.space)) }
-    ensures space { store.new.space ≡ store.old.space }
-    ensures ready { store.new.ready ≡ store.old.ready }
-    ensures last { store.new.last ≡ store.old.last }
-    ensures rises { store.old.reads ≤ store.new.reads }
-{
-    let mut counter = Steps::<L>::new(blank);
-    let mut iter = ids_found(store, index, alloc, query, 0, &mut counter)?;
-    let rows = found_rows(
-        alloc,
-        index.def(),
-        index,
-        store,
-        &mut iter,
-        &asked.load,
-        asked.steps.as_slice(),
-        &mut counter,
-    );
-    drop(iter);
-    drop(counter);
-    rows
-}
-
-/// Lets the documents of rows go: a row that waits to be read is kept for its cells alone.
-fn keep_cells(rows: &mut [Row])
-    ensures { rows.new ≡ map cells_alone rows.old }
-{
-    for row in rows.iter_mut() {
-        keep_row(row);
-    }
-}
-
-fn keep_row(row: &mut Row)
-    ensures { row.new ≡ cells_alone row.old }
-{
-    row.doc = None;
 }

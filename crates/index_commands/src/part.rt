@@ -1,17 +1,15 @@
 //! A read of a cursor: the next of the rows that it kept, or those of the next documents that its query finds now.
 ghost use Rattle.std.specs.Prelude.{◌≡◌, ◌<◌, ◌≤◌, ◌∷◌, ◌^◌, [], if◌then◌else◌, pos, take, IfOk, IsTrue};
-ghost use Rattle.std.specs.List.{All, filter_map};
+ghost use Rattle.std.specs.List.{filter_map};
 ghost use Rattle.cursor_book.specs.declared.cursor.Taken.TheVariants as taken;
 ghost use Rattle.ft_base.specs.Reply.{fits_wire};
-ghost use Rattle.ft_base.specs.declared.doc.Doc.{Doc};
 ghost use Rattle.ft_base.specs.declared.reply.Reply.TheVariants.{Array, Number};
-ghost use Rattle.ft_index.specs.Index.{Indexes, IsIndex};
 ghost use Rattle.ft_machine.specs.Parts.{Part, last_id, part, part_of, stream_part, stream_row, stream_taken};
 ghost use Rattle.ft_meaning.specs.Holds.{found_of};
-ghost use Rattle.ft_meaning.specs.Meaning.{ValuesFit};
 ghost use Rattle.index_commands.specs.Parts.{IsRead, IsTold};
+ghost use Rattle.index_commands.specs.Reading.{HandsOut, IsReadable};
 
-use crate::search::ids_found;
+use crate::ids::ids_found;
 use agg_pipeline::StreamSteps;
 use cursor_book::{Body, RowsLeft, Taken};
 use ft_base::{ListOf, NoMemory, Query, Reply, Steps};
@@ -42,15 +40,9 @@ fn read_body(
     body: &Body,
     count: u32,
 ) -> Result<PartRead, NoMemory>
-    requires stands { Indexes index.now store.old.space }
-    requires sound { IsIndex index.now }
-    requires few { index.now.table.last < 2 ^ 62 }
-    requires values { All (λ (doc : Doc). ValuesFit doc.hash) store.old.space }
+    requires readable { IsReadable index.now store.old.space }
     ensures read { IfOk result (λ read. IsRead (part_of index.now.def store.old.space count body.now) read) }
-    ensures space { store.new.space ≡ store.old.space }
-    ensures ready { store.new.ready ≡ store.old.ready }
-    ensures last { store.new.last ≡ store.old.last }
-    ensures rises { store.old.reads ≤ store.new.reads }
+    ensures store { HandsOut store.old store.new }
 {
     match body {
         Body::Rows(rows) => read_rows(alloc, rows, count),
@@ -85,16 +77,10 @@ fn read_found(
     after: u64,
     count: u32,
 ) -> Result<PartRead, NoMemory>
-    requires stands { Indexes index.now store.old.space }
-    requires sound { IsIndex index.now }
-    requires few { index.now.table.last < 2 ^ 62 }
-    requires values { All (λ (doc : Doc). ValuesFit doc.hash) store.old.space }
+    requires readable { IsReadable index.now store.old.space }
     ensures read { IfOk result (λ read. IsRead (stream_part index.now.def steps.now after count
         (stream_taken index.now.def steps.now after count (found_of query.now index.now.def store.old.space))) read) }
-    ensures space { store.new.space ≡ store.old.space }
-    ensures ready { store.new.ready ≡ store.old.ready }
-    ensures last { store.new.last ≡ store.old.last }
-    ensures rises { store.old.reads ≤ store.new.reads }
+    ensures store { HandsOut store.old store.new }
 {
     let blank = Blank::new(1);
     let read = next_rows::<Brand>(store, index, alloc, query, steps, after, count, blank)?;
@@ -127,18 +113,12 @@ fn next_rows<L: Ledger>(
     requires name { blank.name ≡ L.name }
     requires parts { blank.parts ≡ L.parts }
     requires some { 0 < L.parts }
-    requires stands { Indexes index.now store.old.space }
-    requires sound { IsIndex index.now }
-    requires few { index.now.table.last < 2 ^ 62 }
-    requires values { All (λ (doc : Doc). ValuesFit doc.hash) store.old.space }
+    requires readable { IsReadable index.now store.old.space }
     ensures rows { IfOk result (λ read. read.rows.items ≡ filter_map (stream_row index.now.def steps.now)
         (stream_taken index.now.def steps.now after count (found_of query.now index.now.def store.old.space))) }
     ensures after { IfOk result (λ read. read.after ≡ last_id after
         (stream_taken index.now.def steps.now after count (found_of query.now index.now.def store.old.space))) }
-    ensures space { store.new.space ≡ store.old.space }
-    ensures ready { store.new.ready ≡ store.old.ready }
-    ensures last { store.new.last ≡ store.old.last }
-    ensures rises { store.old.reads ≤ store.new.reads }
+    ensures store { HandsOut store.old store.new }
 {
     let mut counter = Steps::<L>::new(blank);
     let iter = ids_found(store, index, alloc, query, after, &mut counter)?;
@@ -175,15 +155,9 @@ pub fn tell_part(
     reply: &mut ReplyBuffer,
 ) -> Option<PartTold>
     requires id { id < 2 ^ 63 }
-    requires stands { Indexes index.now store.old.space }
-    requires sound { IsIndex index.now }
-    requires few { index.now.table.last < 2 ^ 62 }
-    requires values { All (λ (doc : Doc). ValuesFit doc.hash) store.old.space }
+    requires readable { IsReadable index.now store.old.space }
     ensures told { IsTold (part_of index.now.def store.old.space count body.now) id result reply.new.bytes }
-    ensures space { store.new.space ≡ store.old.space }
-    ensures ready { store.new.ready ≡ store.old.ready }
-    ensures last { store.new.last ≡ store.old.last }
-    ensures rises { store.old.reads ≤ store.new.reads }
+    ensures store { HandsOut store.old store.new }
     ensures room { reply.old.room ≤ reply.new.room }
 {
     match read_body(store, index, alloc, body, count) {

@@ -1,9 +1,11 @@
 -- What a change needs, and that it changes something.
 use Rattle.std.specs.Prelude.{◌≡◌, ◌≢◌, ◌<◌, ◌+◌, ℕ, Bool, true, false, List, [], ◌∷◌, ◌++◌, Option, None, Some, IfSome, IsTrue, cond, is_some, length, take, drop, map, refl}
 use Rattle.std.proofs.Common.{sym, ap, ◌∙◌, subst, inl, inr, arith, All}
+use Rattle.std.specs.List.{AllPairs}
 use Rattle.std.specs.Str.{bytes_eq}
 use Rattle.std.proofs.lemmas.Bool.{cases_Bool}
 use Rattle.std.proofs.lemmas.List.{append-nil, length-append, length-map, map-append, take_at}
+use Rattle.std.proofs.lemmas.List.Elements.{All-nil}
 use Rattle.std.proofs.lemmas.Slice.Eq.{bytes_eq-Decides}
 use Rattle.cursor_book.specs.declared.cursor.Cursor.{Cursor}
 use Rattle.ft_base.specs.Hash.{Hash}
@@ -18,12 +20,11 @@ use Rattle.ft_machine.specs.Step.{last_number, next_number}
 use Rattle.indexed_store.specs.declared.change.Change.{Change}
 use Rattle.indexed_store.specs.declared.change.Change.TheVariants.{Alter, CloseCursor, CloseCursors, Create, Drop, DropMembers, EraseKey, EraseKeys, Flush, Move, Nothing, OpenCursor, ReadCursor, Write}
 use Rattle.ft_index.proofs.IndexLaws.{last-push}
-use Rattle.ft_index.proofs.AliveLaws.{row_of}
 use Rattle.ft_index.specs.Index.{Index}
 use Rattle.hash_store.specs.Store.{Store}
 use Rattle.inverted_list.specs.Listing.{last_id}
 use Rattle.indexed_store.proofs.CursorsLaws.{AreBelow, below-filter, below-read}
-use Rattle.indexed_store.proofs.StepLaws.{erase-there, in_step-more}
+use Rattle.indexed_store.proofs.StepLaws.{erase-there, in_step-more, row_of, written-none}
 
 -- below the last number the next one is one more
 pub next-below : (number : ℕ) → number < last_number → next_number number ≡ number + 1
@@ -41,6 +42,15 @@ lent-step store lent items n m same at step = subst (InStep store lent) at (subs
 pub whole-step : (store : Store) (len : ℕ) (items now : List Index) (n m : ℕ) → length now ≡ len → n ≡ m → InStep store now m → InStep store (take len (now ++ drop (length now) items)) n
 whole-step store len items now n m whole at step =
     subst (λ (is : List Index). InStep store is n) (sym (take_at now (drop (length now) items) len whole)) (subst (InStep store now) (sym at) step)
+
+-- where nothing is left, there is nothing to stand for
+pub flushed-step : (old new : Store) (indexes now : List Index) (n : ℕ) → new.space ≡ [] → new.last ≡ old.last → now ≡ [] → InStep old indexes n → InStep new now n
+flushed-step old new indexes now n space last none step = record {
+  last = subst (λ m. m < n) (sym last) step.last;
+  documents = subst (λ (docs : List Doc). AreWritten docs n) (sym space) (written-none n (omega (arith, step.last)));
+  stand = subst (All (IndexStands new.space n (markers_at n))) (sym none) (All-nil (IndexStands new.space n (markers_at n)));
+  apart = subst (AllPairs AreApart) (sym none) (λ i j d before within. absurd (omega (arith, within)));
+}
 
 -- the index of a creation goes last
 pub created-step : (store : Store) (change : Change) (index : Index) (number : ℕ) (waits : Option Doc) (indexes now : List Index) → change ≡ Create index → (IsTrue (is_change change) → number < last_number)

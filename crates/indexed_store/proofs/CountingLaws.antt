@@ -5,7 +5,6 @@ use Rattle.std.specs.List.{AllByRecursion, IsDistinct, dedup, dedup_from, list_a
 use Rattle.std.specs.List.Retain.{DiffersFromLast, IsFiltered}
 use Rattle.std.specs.List.Sorted.{IsPermutation, IsSorted, IsStrictlyIncreasing}
 use Rattle.std.specs.Ordering.{eq_by_cmp, nat_cmp}
-use Rattle.std.specs.Map.{keys_of}
 use Rattle.std.specs.Option.{option_map}
 use Rattle.std.specs.Str.{bytes_eq}
 use Rattle.std.proofs.Math.Dec.{eqb}
@@ -15,13 +14,14 @@ use Rattle.std.proofs.lemmas.Cmp.{eq_by_cmp_equiv, nat_cmp_total}
 use Rattle.std.proofs.lemmas.List.{append-nil, length-append, length-map, take_more}
 use Rattle.std.proofs.lemmas.List.Filters.{dedup_is, length-filter_both}
 use Rattle.std.proofs.lemmas.List.Sorted.{list_any-IsPermutation}
-use Rattle.std.proofs.lemmas.Map.Keys.{IsDistinct-from_sorted, IsDistinct-head, IsDistinct-tail, IsStrictlyIncreasing-dedup, sorted_from_strictly_increasing}
-use Rattle.std.proofs.lemmas.Map.Made.{IsDistinct-keys_filter, length-from_keys}
+use Rattle.std.proofs.lemmas.Map.Keys.{IsDistinct-from_sorted, IsStrictlyIncreasing-dedup, sorted_from_strictly_increasing}
+use Rattle.std.proofs.lemmas.Map.Made.{length-from_keys}
 use Rattle.std.proofs.lemmas.Slice.Eq.{bytes_eq-Decides}
 use Rattle.ft_base.specs.Space.{doc_of, erase}
 use Rattle.ft_base.specs.declared.doc.Doc.{Doc}
 use Rattle.indexed_store.specs.Counting.{before, ids_of}
 use Rattle.ft_machine.specs.Definitions.{without_keys}
+use Rattle.indexed_store.proofs.KeysLaws.{KeysDiffer, distinct-filter, erase-filter, key-apart, others-differ}
 use Rattle.indexed_store.proofs.StepLaws.{id_of}
 
 before-append : (doc : Option Doc) (front back : List ℕ) → before doc (front ++ back) ≡ before doc front ++ back
@@ -59,50 +59,6 @@ noted-none docs keys i key old within is noted found =
 -- whether a document's key is among these
 abbrev named : List (List ℕ) → Doc → Bool
 named keys doc = list_any (λ key. bytes_eq key doc.key) keys
-
--- no two documents have one key
-abbrev KeysDiffer : List Doc → Type 0
-KeysDiffer docs = IsDistinct bytes_eq (map (λ (doc : Doc). doc.key) docs)
-
--- documents as entries, each under what a function gives of it
-abbrev entries : {K : Type 0} → (Doc → K) → List Doc → List (K × Doc)
-entries f docs = map (λ (doc : Doc). (f doc, doc)) docs
-
-keys-entries : {K : Type 0} (f : Doc → K) (docs : List Doc) → keys_of (entries f docs) ≡ map f docs
-keys-entries f [] = refl
-keys-entries f (doc ∷ docs) = ap (λ rest. f doc ∷ rest) (keys-entries f docs)
-
-filter-entries : {K : Type 0} (f : Doc → K) (test : Doc → Bool) (docs : List Doc) → filter (λ (e : K × Doc). test e.1) (entries f docs) ≡ entries f (filter test docs)
-filter-entries f test [] = refl
-filter-entries f test (doc ∷ docs) = elim (cases_Bool (test doc)) [
-  | inl y ↦ rw y (ap (λ rest. (f doc, doc) ∷ rest) (filter-entries f test docs))
-  | inr n ↦ rw n (filter-entries f test docs)
-]
-
-distinct-filter : {K : Type 0} (eq : K → K → Bool) (f : Doc → K) (test : Doc → Bool) (docs : List Doc) → IsDistinct eq (map f docs) → IsDistinct eq (map f (filter test docs))
-distinct-filter {K} eq f test docs distinct =
-    subst (IsDistinct eq) (ap keys_of (filter-entries f test docs) ∙ keys-entries f (filter test docs))
-    (IsDistinct-keys_filter eq (λ (e : K × Doc). test e.1) (entries f docs) (subst (IsDistinct eq) (sym (keys-entries f docs)) distinct))
-
-key-apart : (doc : Doc) (docs : List Doc) → KeysDiffer (doc ∷ docs) → AllByRecursion (λ k. bytes_eq doc.key k ≡ false) (map (λ (doc : Doc). doc.key) docs)
-key-apart doc docs differ = IsDistinct-head bytes_eq doc.key (map (λ (doc : Doc). doc.key) docs) differ
-
-others-differ : (doc : Doc) (docs : List Doc) → KeysDiffer (doc ∷ docs) → KeysDiffer docs
-others-differ doc docs differ = IsDistinct-tail bytes_eq doc.key (map (λ (doc : Doc). doc.key) docs) differ
-
--- all documents pass where none has the key
-none-has : (key : List ℕ) (docs : List Doc) → AllByRecursion (λ k. bytes_eq key k ≡ false) (map (λ (doc : Doc). doc.key) docs) → filter (λ (doc : Doc). not (bytes_eq key doc.key)) docs ≡ docs
-none-has key [] each = refl
-none-has key (doc ∷ docs) each = rw each.0 (ap (λ rest. doc ∷ rest) (none-has key docs each.1))
-
-erase-filter : (docs : List Doc) (key : List ℕ) → KeysDiffer docs → erase docs key ≡ filter (λ (doc : Doc). not (bytes_eq key doc.key)) docs
-erase-filter [] key differ = refl
-erase-filter (doc ∷ docs) key differ = elim (cases_Bool (bytes_eq key doc.key)) [
-  | inl y ↦
-      let same : key ≡ doc.key = (bytes_eq-Decides key doc.key).0 y in
-      rw y (sym (none-has key docs (subst (λ (k : List ℕ). AllByRecursion (λ other. bytes_eq k other ≡ false) (map (λ (doc : Doc). doc.key) docs)) (sym same) (key-apart doc docs differ))))
-  | inr n ↦ rw n (ap (λ rest. doc ∷ rest) (erase-filter docs key (others-differ doc docs differ)))
-]
 
 all-pass : (docs : List Doc) → filter (λ (doc : Doc). true) docs ≡ docs
 all-pass [] = refl

@@ -8,8 +8,9 @@ use Rattle.std.proofs.lemmas.Bool.Decides.{nat_tests}
 use Rattle.ft_base.specs.declared.doc.Doc.{Doc}
 use Rattle.hash_store.specs.Store.{reads_after}
 use Rattle.indexed_store.specs.Filling.{beyond, upto}
-use Rattle.ft_index.proofs.AliveLaws.{last_id-low, row_of}
+use Rattle.ft_index.proofs.AliveLaws.{last_id-low}
 use Rattle.inverted_list.specs.Listing.{RisesAbove, last_id}
+use Rattle.indexed_store.proofs.StepLaws.{row_of}
 
 -- all ids are above
 pub upto-none : (low after : ℕ) (docs : List Doc) → RisesAbove low (map row_of docs) → after ≤ low → upto after docs ≡ []

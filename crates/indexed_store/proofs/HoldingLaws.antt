@@ -22,6 +22,7 @@ pub written-until : (docs : List Doc) (n m : ℕ) → n ≤ m → AreWritten doc
 written-until docs n m more written = record {
   rise = written.rise;
   earlier = omega (arith, more, written.earlier);
+  keys = written.keys;
   fit = written.fit;
   filled = written.filled;
 }

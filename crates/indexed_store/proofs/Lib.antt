@@ -6,6 +6,7 @@ pub mod DroppingLaws
 pub mod FillingLaws
 pub mod HoldingLaws
 pub mod IndexingLaws
+pub mod KeysLaws
 pub mod NamedLaws
 pub mod PreparingLaws
 pub mod ReadsLaws

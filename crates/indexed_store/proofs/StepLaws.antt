@@ -8,10 +8,11 @@ use Rattle.std.specs.Str.{bytes_eq}
 use Rattle.std.proofs.lemmas.Bool.{cases_Bool}
 use Rattle.std.proofs.lemmas.List.{map-append}
 use Rattle.std.proofs.lemmas.List.Elements.{All-map, All-append, All-cons, All-filter, All-head, All-nil, All-tail, filter-append}
+use Rattle.doc_table.specs.Table.{Vector}
 use Rattle.ft_base.specs.Space.{doc_of, erase, write}
 use Rattle.ft_base.specs.declared.doc.Doc.{Doc}
 use Rattle.ft_index.proofs.IndexLaws.{last-push, last-removed, rises-push, rises-removed}
-use Rattle.ft_index.proofs.AliveLaws.{above-no, below-no, last_id-low, row_of, rows-without, same-yes, without-below}
+use Rattle.ft_index.proofs.AliveLaws.{above-no, below-no, last_id-low, rows-without, same-yes, without-below}
 use Rattle.ft_index.proofs.MemberLaws.{commits-is, index-committed, index-gone, indexes-gone}
 use Rattle.ft_index.specs.Fits.{fit_of}
 use Rattle.ft_index.specs.Index.{Index, Indexes, IsIndex, commits, commits_as, commits_ready, committed}
@@ -22,6 +23,7 @@ use Rattle.ft_index.specs.declared.ready.Fit.TheVariants.{Member, NoPrefix, Fail
 use Rattle.ft_index.specs.declared.ready.Ready.{Ready}
 use Rattle.ft_meaning.specs.Meaning.{ValuesFit}
 use Rattle.ft_meaning.specs.Member.{numbers_read, one_more, takes_key}
+use Rattle.hash_store.specs.Erasing.{erase_id}
 use Rattle.hash_store.specs.Store.{Store}
 use Rattle.inverted_list.specs.Listing.{RisesAbove, last_id}
 use Rattle.inverted_list.specs.declared.marker.Markers.{Markers}
@@ -32,6 +34,11 @@ use Rattle.indexed_store.specs.Standing.{AreApart, AreWritten, IndexStands, InSt
 use Rattle.indexed_store.specs.Writing.{Waits}
 use Rattle.indexed_store.proofs.ApartLaws.{apart-mapped, apart-more}
 use Rattle.indexed_store.proofs.IndexingLaws.{stands-later}
+use Rattle.indexed_store.proofs.KeysLaws.{KeysDiffer, differ-written, distinct-filter, erase_id-without, none-differ}
+
+-- the row of a document: its id and its key
+abbrev pub row_of : Doc → ℕ × List ℕ
+row_of doc = (doc.id, doc.key)
 
 -- the documents but that of an id, where there is an id
 abbrev pub kept : Option ℕ → List Doc → List Doc
@@ -65,7 +72,7 @@ erase-kept low (doc ∷ docs) key rises =
   where
     by_test : (here : Bool) → doc ∷ erase docs key ≡ kept (id_of docs key) (doc ∷ docs)
         → cond here docs (doc ∷ erase docs key) ≡ kept (option_map (λ (d : Doc). d.id) (cond here (Some doc) (doc_of docs key))) (doc ∷ docs)
-    by_test true others = rw (same-yes doc.id) (sym (without-below doc.id doc.id docs rises.1 (omega arith)))
+    by_test true others = rw (same-yes doc.id) (sym (without-below (λ (doc : Doc). doc.key) doc.id doc.id docs rises.1 (omega arith)))
     by_test false others = others
 
 -- a row taken out, where there is one
@@ -75,7 +82,7 @@ kept_rows (Some id) rows = remove_entry (nat_eq id) rows
 
 rows-kept : (replaced : Option ℕ) (docs : List Doc) → RisesAbove 0 (map row_of docs) → map row_of (kept replaced docs) ≡ kept_rows replaced (map row_of docs)
 rows-kept None docs rises = refl
-rows-kept (Some id) docs rises = sym (rows-without 0 id docs rises)
+rows-kept (Some id) docs rises = sym (rows-without (λ (doc : Doc). doc.key) 0 id docs rises)
 
 kept_rows-rise : (replaced : Option ℕ) (rows : List (ℕ × List ℕ)) → RisesAbove 0 rows → RisesAbove 0 (kept_rows replaced rows)
 kept_rows-rise None rows rises = rises
@@ -89,8 +96,16 @@ kept-all : (P : Doc → Type 0) (replaced : Option ℕ) (docs : List Doc) → Al
 kept-all P None docs each = each
 kept-all P (Some id) docs each = All-filter (λ (doc : Doc). not (nat_eq id doc.id)) P docs each
 
+kept-differ : (replaced : Option ℕ) (docs : List Doc) → KeysDiffer docs → KeysDiffer (kept replaced docs)
+kept-differ None docs differ = differ
+kept-differ (Some id) docs differ = distinct-filter bytes_eq (λ (doc : Doc). doc.key) (λ (doc : Doc). not (nat_eq id doc.id)) docs differ
+
 one-more : (P : Doc → Type 0) (replaced : Option ℕ) (docs : List Doc) (doc : Doc) → All P docs → P doc → All P (kept replaced docs ++ doc ∷ [])
 one-more P replaced docs doc each here = All-append P (kept replaced docs) (doc ∷ []) (kept-all P replaced docs each) (All-cons P doc [] here (All-nil P))
+
+-- no document is of any event
+pub written-none : (next : ℕ) → 0 < next → AreWritten [] next
+written-none next above = record { rise = tt; earlier = above; keys = none-differ; fit = All-nil (λ (doc : Doc). ValuesFit doc.hash); filled = All-nil (λ (doc : Doc). 0 < length doc.hash) }
 
 -- the documents once one of them is written
 pub space-written : (docs : List Doc) (doc : Doc) → AreWritten docs doc.id → ValuesFit doc.hash → 0 < length doc.hash → AreWritten (kept (id_of docs doc.key) docs ++ doc ∷ []) (doc.id + 1)
@@ -102,13 +117,14 @@ space-written docs doc written fits filled =
     record {
       rise = subst (RisesAbove 0) (sym rows) (rises-push 0 (row_of doc) (kept_rows replaced (map row_of docs)) (kept_rows-rise replaced (map row_of docs) written.rise) end);
       earlier = subst (λ (rows : List (ℕ × List ℕ)). last_id 0 rows < doc.id + 1) (sym rows) (rw (last-push 0 (row_of doc) (kept_rows replaced (map row_of docs))) (omega arith));
+      keys = subst (λ (left : List Doc). KeysDiffer (left ++ doc ∷ [])) (erase-kept 0 docs doc.key written.rise) (differ-written doc docs written.keys);
       fit = one-more (λ (doc : Doc). ValuesFit doc.hash) replaced docs doc written.fit fits;
       filled = one-more (λ (doc : Doc). 0 < length doc.hash) replaced docs doc written.filled filled;
     }
 
 -- where nothing is written, the documents are still of earlier events
 pub space-later : (docs : List Doc) (next : ℕ) → AreWritten docs next → AreWritten docs (next + 1)
-space-later docs next written = record { rise = written.rise; earlier = omega (arith, written.earlier); fit = written.fit; filled = written.filled }
+space-later docs next written = record { rise = written.rise; earlier = omega (arith, written.earlier); keys = written.keys; fit = written.fit; filled = written.filled }
 
 not-later : (replaced : Option ℕ) (docs : List Doc) (doc : Doc) → IfSome replaced (λ id. id < doc.id) → kept replaced (docs ++ doc ∷ []) ≡ kept replaced docs ++ doc ∷ []
 not-later None docs doc earlier = refl
@@ -127,7 +143,7 @@ found-earlier low last (doc ∷ docs) key rises earlier = by_test (bytes_eq key 
 last-commits : (fit : Fit) (index : Index) → (commits_as fit index).table.last ≡ index.table.last
 last-commits Member index = by_row index.table.ready
   where
-    by_row : (row : Option (ℕ × List ℕ)) → (commits row index.table).last ≡ index.table.last
+    by_row : (row : Option (ℕ × Vector)) → (commits row index.table).last ≡ index.table.last
     by_row None = refl
     by_row (Some row) = refl
 last-commits NoPrefix index = refl
@@ -270,23 +286,32 @@ pub space-kept : (replaced : Option ℕ) (docs : List Doc) (next : ℕ) → AreW
 space-kept replaced docs next written = record {
   rise = subst (RisesAbove 0) (sym (rows-kept replaced docs written.rise)) (kept_rows-rise replaced (map row_of docs) written.rise);
   earlier = subst (λ (rows : List (ℕ × List ℕ)). last_id 0 rows < next) (sym (rows-kept replaced docs written.rise)) (omega (arith, kept_rows-end replaced (map row_of docs) written.rise, written.earlier));
+  keys = kept-differ replaced docs written.keys;
   fit = kept-all (λ (doc : Doc). ValuesFit doc.hash) replaced docs written.fit;
   filled = kept-all (λ (doc : Doc). 0 < length doc.hash) replaced docs written.filled;
 }
 
 -- a document was taken out of the store and of each index
+pub in_step-gone : (old new : Store) (id : ℕ) (indexes : List Index) (next : ℕ) → new.space ≡ kept (Some id) old.space → new.last ≡ old.last → InStep old indexes next → InStep new (map (killed (Some id)) indexes) next
+in_step-gone old new id indexes next whole last step = record {
+  last = subst (λ n. n < next) (sym last) step.last;
+  documents = subst (λ (docs : List Doc). AreWritten docs next) (sym whole) (space-kept (Some id) old.space next step.documents);
+  stand = subst (λ (docs : List Doc). All (IndexStands docs next (markers_at next)) (map (killed (Some id)) indexes)) (sym whole)
+      (All-map (IndexStands (kept (Some id) old.space) next (markers_at next)) (killed (Some id)) indexes
+      (λ k d short. index-killed old.space id next (markers_at next) (slice_index_or indexes k d) (step.stand k d short)));
+  apart = apart-mapped (killed (Some id)) indexes (λ index. refl) step.apart;
+}
+
+-- by its key
 pub in_step-erased : (old new : Store) (key : List ℕ) (id : ℕ) (indexes : List Index) (next : ℕ) → new.space ≡ erase old.space key → new.last ≡ old.last → Some id ≡ id_of old.space key
     → InStep old indexes next → InStep new (map (killed (Some id)) indexes) next
 in_step-erased old new key id indexes next space last was step =
-    let whole : new.space ≡ kept (Some id) old.space = space ∙ (erase-kept 0 old.space key step.documents.rise ∙ ap (λ (r : Option ℕ). kept r old.space) (sym was)) in
-    record {
-      last = subst (λ n. n < next) (sym last) step.last;
-      documents = subst (λ (docs : List Doc). AreWritten docs next) (sym whole) (space-kept (Some id) old.space next step.documents);
-      stand = subst (λ (docs : List Doc). All (IndexStands docs next (markers_at next)) (map (killed (Some id)) indexes)) (sym whole)
-          (All-map (IndexStands (kept (Some id) old.space) next (markers_at next)) (killed (Some id)) indexes
-          (λ k d short. index-killed old.space id next (markers_at next) (slice_index_or indexes k d) (step.stand k d short)));
-      apart = apart-mapped (killed (Some id)) indexes (λ index. refl) step.apart;
-    }
+    in_step-gone old new id indexes next (space ∙ (erase-kept 0 old.space key step.documents.rise ∙ ap (λ (r : Option ℕ). kept r old.space) (sym was))) last step
+
+-- or by its id
+pub in_step-erased_id : (old new : Store) (id : ℕ) (indexes : List Index) (next : ℕ) → new ≡ record old { space = erase_id old.space id } → InStep old indexes next → InStep new (map (killed (Some id)) indexes) next
+in_step-erased_id old new id indexes next gone step =
+    in_step-gone old new id indexes next (ap (λ (s : Store). s.space) gone ∙ erase_id-without 0 id old.space step.documents.rise step.documents.keys) (ap (λ (s : Store). s.last) gone) step
 
 -- no document has the key
 pub in_step-absent : (old new : Store) (key : List ℕ) (indexes : List Index) (next : ℕ) → new.space ≡ erase old.space key → new.last ≡ old.last → None ≡ id_of old.space key

@@ -1,6 +1,7 @@
 -- How indexes stand for the documents of a store.
 use Rattle.std.specs.Prelude.{◌≡◌, ◌<◌, ℕ, List, map, length}
-use Rattle.std.specs.List.{All, AllPairs}
+use Rattle.std.specs.List.{All, AllPairs, IsDistinct}
+use Rattle.std.specs.Str.{bytes_eq}
 use Rattle.ft_base.specs.declared.doc.Doc.{Doc}
 use Rattle.ft_index.specs.Index.{Index, Indexes, IsIndex}
 use Rattle.ft_index.specs.Markers.{AreBefore, HasMarker}
@@ -22,10 +23,11 @@ pub record IndexStands (space : List Doc) (next : ℕ) (markers : Markers) (inde
   pub earlier : index.table.last < next
   pub before : AreBefore markers index.lists
 
--- The ids of the documents rise, and are those of earlier events. No hash is without fields.
+-- The ids of the documents rise, and are those of earlier events. No two keys are the same, and no hash is without fields.
 pub record AreWritten (space : List Doc) (next : ℕ) : Type 0 where
   pub rise : RisesAbove 0 (map (λ (doc : Doc). (doc.id, doc.key)) space)
   pub earlier : last_id 0 (map (λ (doc : Doc). (doc.id, doc.key)) space) < next
+  pub keys : IsDistinct bytes_eq (map (λ (doc : Doc). doc.key) space)
   pub fit : All (λ (doc : Doc). ValuesFit doc.hash) space
   pub filled : All (λ (doc : Doc). 0 < length doc.hash) space
 

@@ -1,12 +1,13 @@
 //! An index is dropped. It takes no memory.
-ghost use Rattle.std.specs.Prelude.{◌≡◌, ◌≤◌, ℕ, map, length, vec_capacity};
+ghost use Rattle.std.specs.Prelude.{◌≡◌, ◌≤◌, ℕ, fold, map, length, vec_capacity};
+ghost use Rattle.hash_store.specs.Erasing.{erase_id};
 ghost use Rattle.hash_store.specs.Store.{Store};
-ghost use Rattle.ft_machine.specs.Definitions.{index_of, without_index, without_keys, without_members};
+ghost use Rattle.ft_machine.specs.Definitions.{index_of, without_index, without_members};
 ghost use Rattle.indexed_store.specs.DefinitionsOf.{definitions_of};
 ghost use Rattle.indexed_store.specs.Standing.{InStep};
 
 use crate::index_list::take_index;
-use crate::removals::remove;
+use crate::removals::remove_id;
 use ft_index::FtIndex;
 use hash_store::HashStore;
 
@@ -43,15 +44,13 @@ pub fn drop_members(store: &mut HashStore, indexes: &mut Vec<FtIndex>, name: &[u
 /// Takes the documents of an index's live rows out.
 fn remove_live(store: &mut HashStore, indexes: &mut [FtIndex], dropped: &mut FtIndex)
     ensures space { store.new.space
-        ≡ without_keys store.old.space (map (λ row. row.1) dropped.old.table.live) }
+        ≡ fold erase_id store.old.space (map (λ row. row.0) dropped.old.table.live) }
     ensures rest { store.new ≡ record store.old { space = store.new.space } }
     ensures kept { (next : ℕ) → InStep store.old indexes.old next → InStep store.new indexes.new next }
     ensures definitions { definitions_of indexes.new ≡ definitions_of indexes.old }
 {
     'removing: while let Some(id) = dropped.table().next_live(0) {
-        if let Some(key) = dropped.table().key_of(id) {
-            remove(store, indexes, key);
-        }
+        remove_id(store, indexes, id);
         dropped.kill(id);
     }
 }

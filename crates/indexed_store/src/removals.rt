@@ -1,6 +1,7 @@
 //! Documents leave the store and each index. It takes no memory.
 ghost use Rattle.std.specs.Prelude.{◌≡◌, ℕ};
 ghost use Rattle.ft_base.specs.Space.{erase};
+ghost use Rattle.hash_store.specs.Erasing.{erase_id};
 ghost use Rattle.indexed_store.specs.DefinitionsOf.{definitions_of};
 ghost use Rattle.ft_machine.specs.Definitions.{without_keys};
 ghost use Rattle.indexed_store.specs.Standing.{InStep};
@@ -34,4 +35,16 @@ pub fn remove(store: &mut HashStore, indexes: &mut [FtIndex], key: &[u8])
     if let Some(id) = store.erase(key) {
         kill_all(indexes, id);
     }
+}
+
+/// Takes the document of an id out of the store and of each index.
+pub fn remove_id(store: &mut HashStore, indexes: &mut [FtIndex], id: u64)
+    ensures space { store.new.space ≡ erase_id store.old.space id }
+    // Nothing else of the store changes.
+    ensures rest { store.new ≡ record store.old { space = store.new.space } }
+    ensures kept { (next : ℕ) → InStep store.old indexes.old next → InStep store.new indexes.new next }
+    ensures definitions { definitions_of indexes.new ≡ definitions_of indexes.old }
+{
+    store.erase_id(id);
+    kill_all(indexes, id);
 }

@@ -14,7 +14,7 @@ use ft_meaning::{failed, field_tokens, member};
 use query_match::matches;
 use query_parse::QueryFault;
 use std::alloc::Global;
-use token_text::Token;
+use token_text::TextTokens;
 
 /// The options of an index without stop words.
 const NO_STOPS: &[u8] = b"STOPWORDS 0";
@@ -98,18 +98,18 @@ fn put_tokens_of(
 ) -> Result<(), NoMemory> {
     if values_fit(&doc.hash) {
         let found = field_tokens(alloc, def, doc, field)?;
-        put_tokens(field, found.as_slice(), out);
+        put_tokens(field, &found, out);
     }
     Ok(())
 }
 
-fn put_tokens(field: &Field, found: &[Token], out: &mut Answer) {
+fn put_tokens(field: &Field, found: &TextTokens, out: &mut Answer) {
     out.put(b" ");
     out.put_word(field.name.as_slice());
-    out.put(if found.is_empty() { b": none" } else { b":" });
-    for token in found {
+    out.put(if found.len() == 0 { b": none" } else { b":" });
+    for i in 0..found.len() {
         out.put(b" ");
-        out.put_word(token.word.as_slice());
+        out.put_word(found.word(i));
     }
 }
 

@@ -4,7 +4,7 @@
 //! names, and a text stands in quotes. Of the pairs behind `value`, `:FIELD KIND` and `:ALIAS=FIELD KIND` are
 //! fields of the index, `.NAME VALUE` is a cell, and each other one is a field of the row's document, which the
 //! row has where there is one. A cell's value is `null`, a number, a text, or a list, as `[1 a`.
-use expr_eval::{Expr, ExprFault, Func, Op, eval, parse_expr};
+use expr_eval::{Expr, ExprFault, Func, LentRow, Op, eval, parse_expr};
 use ft_base::{
     Bytes, Cell, Doc, Field, FieldKind, HashRec, IndexDef, ListOf, NoMemory, Row, StopWords, Value,
     put_int, read_int,
@@ -96,7 +96,7 @@ fn put_in(
     def: &IndexDef,
     out: &mut Vec<u8>,
 ) -> Result<(), NoMemory> {
-    let value = eval(alloc, tree, row, def)?;
+    let value = eval(alloc, tree, LentRow::of(row), def)?;
     put_value(&value, out)
 }
 

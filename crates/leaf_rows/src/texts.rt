@@ -2,9 +2,9 @@
 use crate::answer::Answer;
 use crate::arguments::{count_of, list_of_words, rest, word};
 use field_text::{number, tags};
-use ft_base::{ListOf, MAX_WORD_BYTES, NoMemory, StopWords, is_separator};
+use ft_base::{MAX_WORD_BYTES, NoMemory, StopWords, is_separator};
 use std::alloc::Global;
-use token_text::{Token, tokens};
+use token_text::{TextTokens, tokens};
 
 /// Writes the answer of a call, and tells whether it is of this file.
 pub fn put(alloc: Global, call: &str, words: &[Vec<u8>], out: &mut Answer) -> bool {
@@ -23,9 +23,9 @@ pub fn put(alloc: Global, call: &str, words: &[Vec<u8>], out: &mut Answer) -> bo
 }
 
 // The tokens of a text, of which none is one of the stop words.
-fn found(alloc: Global, text: &[u8], stops: &[Vec<u8>]) -> Result<ListOf<Token>, NoMemory> {
+fn found(alloc: Global, text: &[u8], stops: &[Vec<u8>]) -> Result<TextTokens, NoMemory> {
     if MAX_WORD_BYTES < text.len() {
-        return Ok(ListOf::new(alloc));
+        return Ok(TextTokens::new(alloc));
     }
     let words = list_of_words(alloc, stops)?;
     tokens(alloc, text, &StopWords { words })
@@ -42,23 +42,25 @@ fn put_tokens(
     if found.len() == 0 {
         out.put(b"none");
     }
-    for token in found.as_slice() {
+    for i in 0..found.len() {
         out.put(b" ");
-        out.put_int(i64::from(token.place));
+        out.put_int(i as i64 + 1);
         out.put(b":");
-        out.put_word(token.word.as_slice());
+        out.put_word(found.word(i));
     }
     Ok(())
 }
 
-// Of a text of so many words of one byte, how many tokens it has, and the place of the last.
+// Of a text of so many words of one byte, how many tokens it has, and the last one.
 fn put_many(alloc: Global, count: usize, out: &mut Answer) -> Result<(), NoMemory> {
     let text = repeated(alloc, b"x ", count)?;
     let found = found(alloc, text.as_slice(), &[])?;
-    let last = found.as_slice().last().map(|token| i64::from(token.place));
     out.put_count(found.len());
     out.put(b" ");
-    out.put_number(last);
+    match found.len().checked_sub(1) {
+        Some(last) => out.put_word(found.word(last)),
+        None => out.put(b"none"),
+    }
     Ok(())
 }
 
@@ -119,22 +121,20 @@ fn joins(alloc: Global, byte: u8) -> Result<bool, NoMemory> {
     )
 }
 
-// Whether the tokens of a text are these words, at the places from 1 on.
+// Whether the tokens of a text are these words.
 fn are_tokens(alloc: Global, text: &[u8], words: &[&[u8]]) -> Result<bool, NoMemory> {
     let found = found(alloc, text, &[])?;
-    Ok(are_numbered(found.as_slice(), words))
+    Ok(are_words(&found, words))
 }
 
-fn are_numbered(found: &[Token], words: &[&[u8]]) -> bool {
+fn are_words(found: &TextTokens, words: &[&[u8]]) -> bool {
     if found.len() != words.len() {
         return false;
     }
-    let mut place = 1;
-    for (token, word) in found.iter().zip(words) {
-        if token.place != place || token.word.as_slice() != *word {
+    for i in 0..found.len() {
+        if found.word(i) != words[i] {
             return false;
         }
-        place = token.place.saturating_add(1);
     }
     true
 }

@@ -45,7 +45,7 @@ fn field_has(
         ≡ is_met wanted.entry (field_tokens def.now doc.now field.now)) }
 {
     let found = field_tokens(alloc, def, doc, field)?;
-    Ok(is_met(alloc, wanted, found.as_slice())?)
+    Ok(is_met(alloc, wanted, &found)?)
 }
 
 fn is_searched(fields: &Fields, number: usize, field: &Field) -> bool

@@ -8,7 +8,7 @@ ghost use Rattle.query_match.specs.Wanted.{is_met};
 use ft_base::{Bytes, ListOf, NoMemory};
 use phrase_match::within;
 use std::alloc::Global;
-use token_text::Token;
+use token_text::TextTokens;
 
 /// A part of a query that asks for words.
 #[derive(Clone, Copy)]
@@ -24,7 +24,7 @@ pub enum Wanted<'a> {
 }
 
 /// Whether it is met by the tokens of a field.
-pub fn is_met(alloc: Global, wanted: Wanted, found: &[Token]) -> Result<bool, NoMemory>
+pub fn is_met(alloc: Global, wanted: Wanted, found: &TextTokens) -> Result<bool, NoMemory>
     requires { PlacesRise found.now }
     ensures { IfOk result (λ met. met ≡ is_met wanted.entry found.now) }
 {
@@ -39,23 +39,31 @@ pub fn is_met(alloc: Global, wanted: Wanted, found: &[Token]) -> Result<bool, No
     }
 }
 
-fn has_word(found: &[Token], text: &[u8]) -> bool
+fn has_word(found: &TextTokens, text: &[u8]) -> bool
     ensures { result ≡ has_word text.now found.now }
 {
-    found.iter().any(|token| text == token.word.as_slice())
+    for i in 0..found.len() {
+        if text == found.word(i) {
+            return true;
+        }
+    }
+    false
 }
 
-fn has_prefix(found: &[Token], text: &[u8]) -> bool
+fn has_prefix(found: &TextTokens, text: &[u8]) -> bool
     ensures { result ≡ has_prefix text.now found.now }
 {
-    found
-        .iter()
-        .any(|token| token.word.as_slice().starts_with(text))
+    for i in 0..found.len() {
+        if found.word(i).starts_with(text) {
+            return true;
+        }
+    }
+    false
 }
 
 fn has_phrase(
     alloc: Global,
-    found: &[Token],
+    found: &TextTokens,
     words: &[Bytes],
     slop: Option<u32>,
     in_order: bool,
@@ -74,13 +82,13 @@ fn has_phrase(
     Ok(within(&lists, slop, in_order))
 }
 
-fn places_of(alloc: Global, found: &[Token], word: &[u8]) -> Result<ListOf<u32>, NoMemory>
+fn places_of(alloc: Global, found: &TextTokens, word: &[u8]) -> Result<ListOf<u32>, NoMemory>
     ensures { IfOk result (λ places. places ≡ places_of found.now word.now) }
 {
     let mut places = ListOf::new(alloc);
-    'tokens: for token in found {
-        if word == token.word.as_slice() {
-            places.push(token.place)?;
+    for i in 0..found.len() {
+        if word == found.word(i) {
+            places.push(i as u32 + 1)?;
         }
     }
     Ok(places)

@@ -22,7 +22,7 @@ use ft_base::{Bytes, Fields, ListOf, MAX_WORD_BYTES, NoMemory, Query, StopWords}
 use query_grammar::QueryFault;
 use query_lex::{LexKind, Lexeme, Sign};
 use std::alloc::Global;
-use token_text::{Token, tokens};
+use token_text::{TextTokens, tokens};
 
 /// The union that a group holds, at its end.
 pub fn closed<'a>(sides: Vec<Query>, lexemes: &'a [Lexeme]) -> Read<'a, Option<Query>>
@@ -183,16 +183,16 @@ fn quote_part(parser: &Parser<'_>, fields: &Fields, text: &[u8]) -> Result<Optio
         return Err(NoMemory);
     }
     let found = tokens(parser.alloc, text, &parser.def.stops)?;
-    let words = words_of(parser.alloc, found)?;
+    let words = words_of(parser.alloc, &found)?;
     quoted(parser.alloc, fields, words)
 }
 
-fn words_of(alloc: Global, tokens: ListOf<Token>) -> Result<Vec<Bytes>, NoMemory>
-    ensures { IfOk result (λ words. words.items ≡ map (λ (token : Token). token.word) tokens) }
+fn words_of(alloc: Global, found: &TextTokens) -> Result<Vec<Bytes>, NoMemory>
+    ensures { IfOk result (λ words. words.items ≡ map (λ (token : Token). token.word) found.now) }
 {
-    let mut words = Vec::with_capacity(alloc, tokens.len())?;
-    for token in tokens.into_vec() {
-        words.push(token.word)?;
+    let mut words = Vec::with_capacity(alloc, found.len())?;
+    for i in 0..found.len() {
+        words.push(Bytes::from_slice(alloc, found.word(i))?)?;
     }
     Ok(words)
 }

@@ -6,41 +6,44 @@ use Rattle.std.specs.Map.{lookup}
 use Rattle.std.proofs.Math.Bool.{or-false}
 use Rattle.std.proofs.lemmas.Bool.{cases_Bool, false≢true}
 use Rattle.std.proofs.lemmas.Bool.Decides.{nat_tests, eqb_tells}
+use Rattle.ft_base.specs.declared.definition.IndexDef.{IndexDef}
 use Rattle.ft_base.specs.declared.doc.Doc.{Doc}
 use Rattle.ft_meaning.specs.Meaning.{ValuesFit}
+use Rattle.ft_meaning.specs.Sortable.{sorting_vector}
 use Rattle.id_iters.specs.Entries.{has_entry, wanted}
 use Rattle.id_iters.proofs.EntryLaws.{has_at_low}
 use Rattle.ft_index.specs.Has.{alive}
-use Rattle.ft_index.specs.Lists.{has_id}
+use Rattle.ft_index.specs.Lists.{Vector, has_id}
 use Rattle.inverted_list.specs.Listing.{RisesAbove, last_id}
 use Rattle.numeric_ranges.proofs.HalfLaws.{rises_low}
 use Rattle.query_plan.specs.Plans.{IsIn}
 
-abbrev pub row_of : Doc → ℕ × List ℕ
-row_of doc = (doc.id, doc.key)
+-- the row of a document
+abbrev pub row_of : IndexDef → Doc → ℕ × Vector
+row_of def doc = (doc.id, sorting_vector def doc)
 
 -- ids rise, from above a number on
 abbrev pub Rise : ℕ → List Doc → Type 0
 Rise low [] = Unit {0}
 Rise low (doc ∷ docs) = (low < doc.id) × Rise doc.id docs
 
-pub rise_from : (low : ℕ) (docs : List Doc) → RisesAbove low (map row_of docs) → Rise low docs
-rise_from low [] rises = tt
-rise_from low (doc ∷ docs) rises = (rises.0, rise_from doc.id docs rises.1)
+pub rise_from : (def : IndexDef) (low : ℕ) (docs : List Doc) → RisesAbove low (map (row_of def) docs) → Rise low docs
+rise_from def low [] rises = tt
+rise_from def low (doc ∷ docs) rises = (rises.0, rise_from def doc.id docs rises.1)
 
 pub above : (low : ℕ) (doc : Doc) (docs : List Doc) → Rise low docs → IsIn doc docs → low < doc.id
 above low doc [] rise among = absurd among
 above low doc (first ∷ docs) rise (inl same) = omega (arith, rise.0, ap (λ (d : Doc). d.id) same)
 above low doc (first ∷ docs) rise (inr among) = omega (arith, rise.0, above first.id doc docs rise.1 among)
 
-pub upto : (low : ℕ) (doc : Doc) (docs : List Doc) → Rise low docs → IsIn doc docs → doc.id ≤ last_id low (map row_of docs)
-upto low doc [] rise among = absurd among
-upto low doc (first ∷ docs) rise (inl same) = omega (arith, ap (λ (d : Doc). d.id) same, last_above first.id docs rise.1)
+pub upto : (def : IndexDef) (low : ℕ) (doc : Doc) (docs : List Doc) → Rise low docs → IsIn doc docs → doc.id ≤ last_id low (map (row_of def) docs)
+upto def low doc [] rise among = absurd among
+upto def low doc (first ∷ docs) rise (inl same) = omega (arith, ap (λ (d : Doc). d.id) same, last_above first.id docs rise.1)
   where
-    last_above : (n : ℕ) (ds : List Doc) → Rise n ds → n ≤ last_id n (map row_of ds)
+    last_above : (n : ℕ) (ds : List Doc) → Rise n ds → n ≤ last_id n (map (row_of def) ds)
     last_above n [] r = omega arith
     last_above n (d ∷ ds) r = omega (arith, r.0, last_above d.id ds r.1)
-upto low doc (first ∷ docs) rise (inr among) = upto first.id doc docs rise.1 among
+upto def low doc (first ∷ docs) rise (inr among) = upto def first.id doc docs rise.1 among
 
 pub fits : (doc : Doc) (docs : List Doc) → All (λ (d : Doc). ValuesFit d.hash) docs → IsIn doc docs → ValuesFit doc.hash
 fits doc [] all among = absurd among
@@ -50,26 +53,26 @@ fits doc (first ∷ docs) all (inr among) = fits doc docs (λ k d less. all (suc
 pub eqb_itself : (n : ℕ) → eqb n n ≡ true
 eqb_itself n = grind (arith, nat_tests)
 
-pub is_live : (doc : Doc) (docs : List Doc) → IsIn doc docs → has_id (map row_of docs) doc.id ≡ true
-is_live doc [] among = absurd among
-is_live doc (first ∷ docs) (inl same) =
+pub is_live : (def : IndexDef) (doc : Doc) (docs : List Doc) → IsIn doc docs → has_id (map (row_of def) docs) doc.id ≡ true
+is_live def doc [] among = absurd among
+is_live def doc (first ∷ docs) (inl same) =
     let here : eqb doc.id first.id ≡ true = rw same (eqb_itself first.id) in
     rw here refl
-is_live doc (first ∷ docs) (inr among) =
+is_live def doc (first ∷ docs) (inr among) =
     elim (cases_Bool (eqb doc.id first.id)) [
       | inl y ↦ rw y refl
-      | inr n ↦ rw n (is_live doc docs among)
+      | inr n ↦ rw n (is_live def doc docs among)
     ]
 
 -- a live id is that of a document
-pub live_doc : (id : ℕ) (docs : List Doc) → has_id (map row_of docs) id ≡ true → (doc : Doc) × IsIn doc docs × (doc.id ≡ id)
-live_doc id [] live = absurd (false≢true live)
-live_doc id (first ∷ docs) live =
+pub live_doc : (def : IndexDef) (id : ℕ) (docs : List Doc) → has_id (map (row_of def) docs) id ≡ true → (doc : Doc) × IsIn doc docs × (doc.id ≡ id)
+live_doc def id [] live = absurd (false≢true live)
+live_doc def id (first ∷ docs) live =
     elim (eqb_tells id first.id) [
       | inl i ↦ (first, inl refl, sym i.1)
       | inr i ↦
-          let rest : has_id (map row_of docs) id ≡ true = rw i.0 at live in
-          let found = live_doc id docs rest in (found.0, inr found.1, found.2)
+          let rest : has_id (map (row_of def) docs) id ≡ true = rw i.0 at live in
+          let found = live_doc def id docs rest in (found.0, inr found.1, found.2)
     ]
 
 -- ---- the document of an id
@@ -92,22 +95,22 @@ one_finds test low doc (first ∷ docs) rise (inr among) =
     let other : eqb doc.id first.id ≡ false = grind (arith, nat_tests, behind) in
     rw other (one_finds test first.id doc docs rise.1 among)
 
-pub none_finds : (test : Doc → Bool) (id : ℕ) (docs : List Doc) → has_id (map row_of docs) id ≡ false
+pub none_finds : (def : IndexDef) (test : Doc → Bool) (id : ℕ) (docs : List Doc) → has_id (map (row_of def) docs) id ≡ false
     → list_any (λ (d : Doc). nat_eq id d.id && test d) docs ≡ false
-none_finds test id [] dead = refl
-none_finds test id (first ∷ docs) dead =
+none_finds def test id [] dead = refl
+none_finds def test id (first ∷ docs) dead =
     elim (cases_Bool (eqb id first.id)) [
       | inl y ↦
           let live : true ≡ false = rw y at dead in
           absurd (false≢true (sym live))
       | inr n ↦
-          let rest : has_id (map row_of docs) id ≡ false = rw n at dead in
-          rw n (none_finds test id docs rest)
+          let rest : has_id (map (row_of def) docs) id ≡ false = rw n at dead in
+          rw n (none_finds def test id docs rest)
     ]
 
 -- ---- entries that are live
 
-module _ {P : Type 0} (live : List (ℕ × List ℕ)) where
+module _ {P : Type 0} (live : List (ℕ × Vector)) where
   -- at a live id the live entries have what all have
   pub lookup_alive : (id : ℕ) (es : List (ℕ × P)) → has_id live id ≡ true → lookup (nat_eq id) (alive live es) ≡ lookup (nat_eq id) es
   lookup_alive id [] there = refl

@@ -107,7 +107,7 @@ module _ (query : Query) (def : IndexDef) (docs : List Doc) (rise : Rise 0 docs)
 module _ (query : Query) (def : IndexDef) (held : Held) (named : Named) (docs : List Doc) (are : AreOf def held named docs)
     (ids : ℕ → Bool) (same : (id : ℕ) → ids id ≡ finds query def docs id) where
   rise : Rise 0 docs
-  rise = rise_from 0 docs (subst (RisesAbove 0) are.has.live are.kept.rise)
+  rise = rise_from def 0 docs (subst (RisesAbove 0) are.has.live are.kept.rise)
 
   pub asked_next : (from n : ℕ) → IsLeastAt ids from n → found_from from query def docs ≡ n ∷ found_from (n + 1) query def docs
   asked_next from n least =

@@ -1,8 +1,7 @@
 -- What lists have at the id of a document is what the document has.
-use Rattle.std.proofs.Common.{◌≡◌, ◌≢◌, ℕ, ℤ, ◌<◌, ◌≤◌, ◌^◌, Bool, true, false, ◌&&◌, List, [], ◌∷◌, map, length, Option, Some, None, IsTrue, ◌↔◌, refl, sym, ap, ◌∙◌, subst, inl, inr, arith}
+use Rattle.std.proofs.Common.{◌≡◌, ◌≢◌, ℕ, ℤ, ◌<◌, ◌≤◌, ◌^◌, Bool, true, false, ◌&&◌, List, [], ◌∷◌, map, Option, Some, None, refl, sym, ap, ◌∙◌, subst, inl, inr, arith}
 use Rattle.std.specs.Prelude.{is_some, int_le, negsuc}
 use Rattle.std.specs.List.{flat_map, list_any, slice_get}
-use Rattle.std.specs.Map.{keys_of}
 use Rattle.std.specs.Str.{bytes_eq}
 use Rattle.std.proofs.lemmas.Bool.{cases_Bool, false≢true}
 use Rattle.ft_base.specs.declared.definition.Field.{Field}
@@ -19,7 +18,7 @@ use Rattle.id_iters.specs.Held.{Held, AreLists, codes_of, entries_of}
 use Rattle.id_iters.specs.Named.{Named, lies_at}
 use Rattle.ft_index.specs.Entries.{codes, has_tag}
 use Rattle.ft_index.specs.Has.{NumbersHave}
-use Rattle.ft_index.specs.Lists.{has_id, list_from, lows_of, rows_of}
+use Rattle.ft_index.specs.Lists.{Vector, has_id, list_from, lows_of, rows_of}
 use Rattle.inverted_list.specs.Listing.{Listing, RisesAbove, last_id}
 use Rattle.numeric_ranges.specs.Ranges.{Rows, list_at}
 use Rattle.phrase_match.specs.Phrase.{has, rises}
@@ -132,14 +131,14 @@ module _ (def : IndexDef) (held : Held) (named : Named) (docs : List Doc) (are :
 
 module _ (def : IndexDef) (held : Held) (named : Named) (docs : List Doc) (are : AreOf def held named docs) where
   rise : entry.Rise 0 docs
-  rise = entry.rise_from 0 docs (subst (RisesAbove 0) are.has.live are.kept.rise)
+  rise = entry.rise_from def 0 docs (subst (RisesAbove 0) are.has.live are.kept.rise)
 
-  live_is : (id : ℕ) → held.live id ≡ has_id (map entry.row_of docs) id
-  live_is id = ap (λ (h : Held). h.live id) are.same ∙ ap (λ (rows : List (ℕ × List ℕ)). has_id rows id) are.has.live
+  live_is : (id : ℕ) → held.live id ≡ has_id (map (entry.row_of def) docs) id
+  live_is id = ap (λ (h : Held). h.live id) are.same ∙ ap (λ (rows : List (ℕ × Vector)). has_id rows id) are.has.live
 
   -- a live id is that of a document
   doc_at : (id : ℕ) → held.live id ≡ true → (doc : Doc) × IsIn doc docs × (doc.id ≡ id)
-  doc_at id live = entry.live_doc id docs (sym (live_is id) ∙ live)
+  doc_at id live = entry.live_doc def id docs (sym (live_is id) ∙ live)
 
   rising_at : (w : List ℕ) (id : ℕ) (doc : Doc) → IsIn doc docs → doc.id ≡ id → rises (codes_of held w id) ≡ true
   rising_at w id doc among same =
@@ -161,8 +160,8 @@ module _ (def : IndexDef) (held : Held) (named : Named) (docs : List Doc) (are :
     above = λ id live. let at = doc_at id live in omega (arith, entry.above 0 at.0 docs rise at.1, at.2);
     below = λ id live.
         let at = doc_at id live in
-        let last : last_id 0 (map entry.row_of docs) < 2 ^ 62 = subst (λ (rows : List (ℕ × List ℕ)). last_id 0 rows < 2 ^ 62) are.has.live are.kept.end in
-        omega (arith, entry.upto 0 at.0 docs rise at.1, at.2, last);
+        let last : last_id 0 (map (entry.row_of def) docs) < 2 ^ 62 = subst (λ (rows : List (ℕ × Vector)). last_id 0 rows < 2 ^ 62) are.has.live are.kept.end in
+        omega (arith, entry.upto def 0 at.0 docs rise at.1, at.2, last);
     rising = λ w id live. let at = doc_at id live in rising_at w id at.0 at.1 at.2;
     apart = λ w other id live differ. let at = doc_at id live in apart_at w other id at.0 at.1 at.2 differ;
   }
@@ -175,5 +174,5 @@ module _ (def : IndexDef) (held : Held) (named : Named) (docs : List Doc) (are :
         | inl y ↦ rw y (let at = doc_at id y in
             ap ids (sym at.2) ∙ tells.at docs at.0 are at.1
             ∙ sym (ap (finds query def docs) (sym at.2) ∙ entry.one_finds (λ (doc : Doc). holds query def doc) 0 at.0 docs rise at.1))
-        | inr n ↦ rw n (sym (entry.none_finds (λ (doc : Doc). holds query def doc) id docs (sym (live_is id) ∙ n)))
+        | inr n ↦ rw n (sym (entry.none_finds def (λ (doc : Doc). holds query def doc) id docs (sym (live_is id) ∙ n)))
       ]

@@ -1,5 +1,5 @@
 -- Parts put together.
-use Rattle.std.proofs.Common.{◌≡◌, ◌+◌, ◌<◌, take, slice_index_or, ℕ, Bool, true, false, ◌&&◌, ◌||◌, List, [], ◌∷◌, ◌++◌, map, length, IsSome, Option, refl, sym, ap, ◌∙◌, subst, append-nil, arith}
+use Rattle.std.proofs.Common.{◌≡◌, ◌+◌, ◌<◌, take, slice_index_or, ℕ, Bool, true, false, ◌&&◌, ◌||◌, List, [], ◌∷◌, ◌++◌, map, length, IsSome, Option, refl, sym, ap, ◌∙◌, subst, arith}
 use Rattle.std.specs.Cmp.{both_ways}
 use Rattle.std.specs.List.{All, AllByRecursion, flat_map, list_all, list_any}
 use Rattle.std.specs.List.Sorted.{IsPermutation}
@@ -102,14 +102,6 @@ joins_none made set ready leaves = record {
 
 abbrev has_part : Held → ℕ → Ahead → Bool
 has_part held id part = (about_ahead held part).has id
-
-pub gathers_none : (left : List Planned) (parts : List Ahead) → Gathers left parts left parts
-gathers_none left parts = record {
-  set = λ held id. refl;
-  ready = λ held from all each. (all, each);
-  placed = λ held after all each. (all, each);
-  known = λ known all each. (all, each);
-}
 
 one_went : (a b p : Bool) → (a || (b || (p || false))) ≡ ((a || (p || false)) || b)
 one_went true b p = refl

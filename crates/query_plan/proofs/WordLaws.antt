@@ -12,7 +12,7 @@ use Rattle.id_iters.specs.Held.{Held, entries_of, codes_of}
 use Rattle.id_iters.specs.Named.{Named}
 use Rattle.ft_index.specs.Entries.{codes, entry, word_entries, has_tag, tag_entries, number_entries, searched_number}
 use Rattle.ft_index.specs.Has.{alive}
-use Rattle.ft_index.specs.Lists.{has_id}
+use Rattle.ft_index.specs.Lists.{Vector, has_id}
 use Rattle.inverted_list.specs.Listing.{Listing, RisesAbove}
 use Rattle.posting_block.specs.declared.hits.NumHit.{NumHit}
 use Rattle.posting_block.specs.declared.hits.TagHit.{TagHit}
@@ -76,10 +76,10 @@ entries_are (Some list) = refl
 module _ (def : IndexDef) (held : Held) (named : Named) (docs : List Doc) (are : AreOf def held named docs)
     (doc : Doc) (among : IsIn doc docs) where
   rise : Rise 0 docs
-  rise = rise_from 0 docs (subst (RisesAbove 0) are.has.live are.kept.rise)
+  rise = rise_from def 0 docs (subst (RisesAbove 0) are.has.live are.kept.rise)
 
   lives : has_id are.live doc.id ≡ true
-  lives = ap (λ (rows : List (ℕ × List ℕ)). has_id rows doc.id) are.has.live ∙ is_live doc docs among
+  lives = ap (λ (rows : List (ℕ × Vector)). has_id rows doc.id) are.has.live ∙ is_live def doc docs among
 
   -- entries of which the live ones come of the documents
   pub has_at : {P : Type 0} (of : Doc → Option P) (wants : P → Bool) (es : List (ℕ × P)) → alive are.live es ≡ all_entries of docs

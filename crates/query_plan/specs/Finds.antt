@@ -9,7 +9,7 @@ use Rattle.ft_meaning.specs.Meaning.{ValuesFit}
 use Rattle.id_iters.specs.Held.{Held}
 use Rattle.id_iters.specs.Named.{Named}
 use Rattle.ft_index.specs.Has.{Has}
-use Rattle.ft_index.specs.Lists.{AllLists, held_of, named_of}
+use Rattle.ft_index.specs.Lists.{AllLists, Vector, held_of, named_of}
 use Rattle.inverted_list.specs.Listing.{RisesAbove, last_id}
 
 -- whether the document of an id is there and meets the query
@@ -25,7 +25,7 @@ abbrev pub found_from : ℕ → Query → IndexDef → List Doc → List ℕ
 found_from from query def docs = map (λ (doc : Doc). doc.id) (filter (λ (doc : Doc). nat_le from doc.id && holds query def doc) docs)
 
 -- The live ids rise from 1 on and are below 2^62, and each value of the documents came as a word of a command.
-pub record IsKept (live : List (ℕ × List ℕ)) (docs : List Doc) : Type 0 where
+pub record IsKept (live : List (ℕ × Vector)) (docs : List Doc) : Type 0 where
   pub rise : RisesAbove 0 live
   pub end : last_id 0 live < 2 ^ 62
   pub fit : All (λ (doc : Doc). ValuesFit doc.hash) docs
@@ -33,7 +33,7 @@ pub record IsKept (live : List (ℕ × List ℕ)) (docs : List Doc) : Type 0 whe
 -- What is read is the lists of an index that has just these documents, and their names.
 pub record AreOf (def : IndexDef) (held : Held) (named : Named) (docs : List Doc) : Type 0 where
   pub lists : AllLists
-  pub live : List (ℕ × List ℕ)
+  pub live : List (ℕ × Vector)
   pub same : held ≡ held_of lists live
   pub names : named ≡ named_of lists live
   pub kept : IsKept live docs

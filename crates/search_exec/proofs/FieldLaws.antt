@@ -22,7 +22,7 @@ use Rattle.search_exec.specs.declared.shape.Shape.{Shape}
 use Rattle.search_exec.specs.declared.shape.SortKey.{SortKey}
 
 -- where nothing comes later, the first decides
-then-alone : (order : Ordering) → ordering_then order Equal ≡ order
+pub then-alone : (order : Ordering) → ordering_then order Equal ≡ order
 then-alone Less = refl
 then-alone Equal = refl
 then-alone Greater = refl

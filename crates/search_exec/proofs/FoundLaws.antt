@@ -1,7 +1,7 @@
 -- What an index knows of its documents is what a search by an iterator asks for, and what the iterator finds is what
 -- the query finds.
 use Rattle.std.proofs.Common.{◌≡◌, ◌<◌, ℕ, Bool, true, false, ◌&&◌, List, [], ◌∷◌, map, filter, refl, sym, ap, ◌∙◌, subst, inl, inr, arith}
-use Rattle.std.specs.Prelude.{Option, None, Some, IsSome, is_some, nat_eq}
+use Rattle.std.specs.Prelude.{ℤ, Option, None, Some, IsSome, is_some, nat_eq}
 use Rattle.std.specs.List.{AllByRecursion, list_any}
 use Rattle.std.specs.List.Sorted.{IsStrictlyIncreasing, IsStrictlySortedBy}
 use Rattle.std.specs.Map.{lookup}
@@ -16,11 +16,12 @@ use Rattle.ft_base.specs.declared.doc.Doc.{Doc}
 use Rattle.ft_base.specs.declared.query.Query.{Query}
 use Rattle.ft_meaning.specs.Holds.{found_of, holds}
 use Rattle.ft_meaning.specs.Member.{member, members}
+use Rattle.ft_meaning.specs.Sortable.{number_at, sorting_vector}
 use Rattle.id_iters.specs.Held.{Held}
 use Rattle.id_iters.specs.Sets.{in_set}
 use Rattle.id_iters.specs.declared.iter.Iter.{Iter}
 use Rattle.search_exec.proofs.AskLaws.{live-first}
-use Rattle.search_exec.specs.Ids.{AreKnown, doc_at, docs_in}
+use Rattle.search_exec.specs.Ids.{AreKnown, AreNumbered, doc_at, docs_in}
 
 abbrev ids : List Doc → List ℕ
 ids docs = map (λ (doc : Doc). doc.id) docs
@@ -28,10 +29,6 @@ ids docs = map (λ (doc : Doc). doc.id) docs
 -- whether one of the documents has an id
 abbrev has_doc : List Doc → ℕ → Bool
 has_doc docs id = list_any (λ (doc : Doc). nat_eq id doc.id) docs
-
--- documents as rows of ids and keys
-abbrev rows_of : List Doc → List (ℕ × List ℕ)
-rows_of docs = map (λ (doc : Doc). (doc.id, doc.key)) docs
 
 eq-no : (a b : ℕ) → a < b → nat_eq a b ≡ false
 eq-no a b h = grind (arith, nat_tests)
@@ -132,53 +129,78 @@ docs-found query def has docs rise set =
     (λ id. set id ∙ (found-any query def (members def docs) id ∙ ap (λ (found : List Doc). has_doc found id) (filter-both (member def) (holds query def) docs)))
     ∙ sym (filter-both (member def) (holds query def) docs)
 
--- no row of those that pass has an id below all
-no-row : (low id : ℕ) (keep : Doc → Bool) (docs : List Doc) → id ≡ low → AllByRecursion (λ id. nat_cmp low id ≡ Less) (ids docs) → lookup (nat_eq id) (rows_of (filter keep docs)) ≡ None
-no-row low id keep [] same less = refl
-no-row low id keep (doc ∷ docs) same less =
-    let first : nat_cmp low doc.id ≡ Less = less.0 in
-    let over : low < doc.id = grind (arith, nat_tests) in
-    let others = no-row low id keep docs same less.1 in
-    elim (cases_Bool (keep doc)) [
-      | inl kept ↦ rw (kept, eq-no id doc.id (omega (arith, over))) others
-      | inr out ↦ rw out others
-    ]
+-- ---- what an index knows of its documents, by their ids
 
--- where the rows of those that pass have an id, they have the key of its document
-key-of : (keep : Doc → Bool) (docs : List Doc) (id : ℕ) → IsStrictlySortedBy nat_cmp (ids docs) → IsSome (lookup (nat_eq id) (rows_of (filter keep docs)))
-    → lookup (nat_eq id) (rows_of (filter keep docs)) ≡ option_map (λ (doc : Doc). doc.key) (doc_at id docs)
-key-of keep [] id rise some = refl
-key-of keep (doc ∷ docs) id rise some =
-    elim (cases_Bool (nat_eq id doc.id)) [
-      | inl here ↦
-          elim (cases_Bool (keep doc)) [
-            | inl kept ↦ rw (kept, here) refl
-            | inr out ↦
-                let gone : lookup (nat_eq id) (rows_of (filter keep docs)) ≡ None = no-row doc.id id keep docs (eqb-true id doc.id here) (sorted_head nat_cmp doc.id (ids docs) rise) in
-                let left : IsSome (lookup (nat_eq id) (rows_of (filter keep docs))) = rw out at some in
-                absurd (false≢true (subst (λ (row : Option (List ℕ)). IsSome row) gone left))
-          ]
-      | inr away ↦
-          elim (cases_Bool (keep doc)) [
-            | inl kept ↦ rw (kept, away) (key-of keep docs id (sorted_tail nat_cmp doc.id (ids docs) rise) (rw (kept, away) at some))
-            | inr out ↦ rw (out, away) (key-of keep docs id (sorted_tail nat_cmp doc.id (ids docs) rise) (rw out at some))
-          ]
-    ]
+module _ {V : Type 0} (of : Doc → V) where
+  -- documents as rows of ids and what is known of them
+  abbrev rows_of : List Doc → List (ℕ × V)
+  rows_of docs = map (λ (doc : Doc). (doc.id, of doc)) docs
 
-some-inside : (found : Option Doc) → IsSome (option_map (λ (doc : Doc). doc.key) found) → IsSome found
-some-inside None some = some
-some-inside (Some doc) some = refl
+  -- no row of those that pass has an id below all
+  no-row : (low id : ℕ) (keep : Doc → Bool) (docs : List Doc) → id ≡ low → AllByRecursion (λ id. nat_cmp low id ≡ Less) (ids docs) → lookup (nat_eq id) (rows_of (filter keep docs)) ≡ None
+  no-row low id keep [] same less = refl
+  no-row low id keep (doc ∷ docs) same less =
+      let first : nat_cmp low doc.id ≡ Less = less.0 in
+      let over : low < doc.id = grind (arith, nat_tests) in
+      let others = no-row low id keep docs same less.1 in
+      elim (cases_Bool (keep doc)) [
+        | inl kept ↦ rw (kept, eq-no id doc.id (omega (arith, over))) others
+        | inr out ↦ rw out others
+      ]
 
--- Where the live rows of an index are those of its members, an iterator has ids of documents that are known.
-pub members-known : (held : Held) (iter : Iter) (rows : List (ℕ × List ℕ)) (def : IndexDef) (docs : List Doc) → IsStrictlyIncreasing (map (λ (doc : Doc). doc.id) docs)
-    → rows ≡ map (λ (doc : Doc). (doc.id, doc.key)) (members def docs) → ((id : ℕ) → held.live id ≡ true → is_some (lookup (nat_eq id) rows) ≡ true)
-    → AreKnown (in_set held iter) (λ id. lookup (nat_eq id) rows) docs
-members-known held iter rows def docs rise are live =
-    let key : (id : ℕ) → in_set held iter id ≡ true → lookup (nat_eq id) rows ≡ option_map (λ (doc : Doc). doc.key) (doc_at id docs) =
-    λ id has_it.
-    let some : IsSome (lookup (nat_eq id) (rows_of (members def docs))) = subst (λ (rows : List (ℕ × List ℕ)). IsSome (lookup (nat_eq id) rows)) are (live id (live-first held iter id has_it)) in
-    ap (λ (rows : List (ℕ × List ℕ)). lookup (nat_eq id) rows) are ∙ key-of (member def) docs id (sorted_from_strictly_increasing (ids docs) rise) some in
-    record {
-      stored = λ id has_it. some-inside (doc_at id docs) (subst (λ (row : Option (List ℕ)). IsSome row) (key id has_it) (live id (live-first held iter id has_it)));
-      key = key;
-    }
+  -- where the rows of those that pass have an id, they have what is known of its document
+  row-of : (keep : Doc → Bool) (docs : List Doc) (id : ℕ) → IsStrictlySortedBy nat_cmp (ids docs) → IsSome (lookup (nat_eq id) (rows_of (filter keep docs)))
+      → lookup (nat_eq id) (rows_of (filter keep docs)) ≡ option_map of (doc_at id docs)
+  row-of keep [] id rise some = refl
+  row-of keep (doc ∷ docs) id rise some =
+      elim (cases_Bool (nat_eq id doc.id)) [
+        | inl here ↦
+            elim (cases_Bool (keep doc)) [
+              | inl kept ↦ rw (kept, here) refl
+              | inr out ↦
+                  let gone : lookup (nat_eq id) (rows_of (filter keep docs)) ≡ None = no-row doc.id id keep docs (eqb-true id doc.id here) (sorted_head nat_cmp doc.id (ids docs) rise) in
+                  let left : IsSome (lookup (nat_eq id) (rows_of (filter keep docs))) = rw out at some in
+                  absurd (false≢true (subst (λ (row : Option V). IsSome row) gone left))
+            ]
+        | inr away ↦
+            elim (cases_Bool (keep doc)) [
+              | inl kept ↦ rw (kept, away) (row-of keep docs id (sorted_tail nat_cmp doc.id (ids docs) rise) (rw (kept, away) at some))
+              | inr out ↦ rw (out, away) (row-of keep docs id (sorted_tail nat_cmp doc.id (ids docs) rise) (rw out at some))
+            ]
+      ]
+
+  some-inside : (found : Option Doc) → IsSome (option_map of found) → IsSome found
+  some-inside None some = some
+  some-inside (Some doc) some = refl
+
+  -- what the rows of an index's members have at an id of an iterator, whose ids are live
+  member-row : (held : Held) (iter : Iter) (rows : List (ℕ × V)) (def : IndexDef) (docs : List Doc) → IsStrictlyIncreasing (map (λ (doc : Doc). doc.id) docs)
+      → rows ≡ map (λ (doc : Doc). (doc.id, of doc)) (members def docs) → ((id : ℕ) → held.live id ≡ true → is_some (lookup (nat_eq id) rows) ≡ true)
+      → (id : ℕ) → in_set held iter id ≡ true → lookup (nat_eq id) rows ≡ option_map of (doc_at id docs)
+  member-row held iter rows def docs rise are live id has_it =
+      let some : IsSome (lookup (nat_eq id) (rows_of (members def docs))) = subst (λ (rows : List (ℕ × V)). IsSome (lookup (nat_eq id) rows)) are (live id (live-first held iter id has_it)) in
+      ap (λ (rows : List (ℕ × V)). lookup (nat_eq id) rows) are ∙ row-of (member def) docs id (sorted_from_strictly_increasing (ids docs) rise) some
+
+  -- Where the live rows of an index are those of its members, an iterator has ids of documents that are known.
+  pub members-known : (held : Held) (iter : Iter) (rows : List (ℕ × V)) (def : IndexDef) (docs : List Doc) → IsStrictlyIncreasing (map (λ (doc : Doc). doc.id) docs)
+      → rows ≡ map (λ (doc : Doc). (doc.id, of doc)) (members def docs) → ((id : ℕ) → held.live id ≡ true → is_some (lookup (nat_eq id) rows) ≡ true)
+      → AreKnown (in_set held iter) docs
+  members-known held iter rows def docs rise are live = record {
+    stored =
+        λ id has_it.
+        some-inside (doc_at id docs) (subst (λ (row : Option V). IsSome row) (member-row held iter rows def docs rise are live id has_it) (live id (live-first held iter id has_it)));
+  }
+
+-- Where the live rows of an index have the sorting vectors of its members, the numbers in them are those of the documents of an
+-- iterator.
+pub members-numbered : (held : Held) (iter : Iter) (rows : List (ℕ × List (Option ℤ))) (numbers : ℕ → ℕ → Option ℤ) (def : IndexDef) (docs : List Doc)
+    → IsStrictlyIncreasing (map (λ (doc : Doc). doc.id) docs) → rows ≡ map (λ (doc : Doc). (doc.id, sorting_vector def doc)) (members def docs)
+    → ((id : ℕ) → held.live id ≡ true → is_some (lookup (nat_eq id) rows) ≡ true)
+    → ((id place : ℕ) (vector : List (Option ℤ)) → lookup (nat_eq id) rows ≡ Some vector → numbers id place ≡ number_at vector place)
+    → AreNumbered (in_set held iter) numbers def docs
+members-numbered held iter rows numbers def docs rise are live told = record {
+  kept =
+      λ id place doc has_it found.
+      told id place (sorting_vector def doc)
+      (member-row (sorting_vector def) held iter rows def docs rise are live id has_it ∙ ap (λ (found : Option Doc). option_map (sorting_vector def) found) found);
+}

@@ -1,8 +1,10 @@
 pub mod AggregateLaws
 pub mod AskLaws
 pub mod CandidatesLaws
+pub mod ColumnLaws
 pub mod FieldLaws
 pub mod FoundLaws
+pub mod KeyLaws
 pub mod PageLaws
 pub mod RowsReplyLaws
 pub mod SearchLaws

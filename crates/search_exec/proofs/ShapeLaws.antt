@@ -1,5 +1,5 @@
 -- A shape shows what the search asks that it is of, in the order that the search asks for, and what it shows fits the wire.
-use Rattle.std.proofs.Common.{◌≡◌, ℕ, Bool, true, false, List, [], ◌∷◌, ◌++◌, length, map, take, drop, Option, None, Some, is_some, cond, ◌||◌, refl, sym, ap, ◌∙◌}
+use Rattle.std.proofs.Common.{◌≡◌, ℕ, Bool, true, false, List, [], ◌∷◌, ◌++◌, length, map, take, drop, Option, None, Some, cond, ◌||◌, refl, sym, ap, ◌∙◌}
 use Rattle.std.specs.Prelude.{pos, IsTrue, option_map, not, if◌then◌else◌}
 use Rattle.std.specs.List.{find, flat_map, list_all, list_any}
 use Rattle.std.specs.Str.{bytes_eq}
@@ -103,14 +103,6 @@ unsorted-seen what fields (Some sort) none is known = absurd (cc (none-found (ke
 -- A shape without a key is of a search that is not sorted.
 pub unsorted : (what : Searching) (def : IndexDef) (shape : Shape) → IsShapeOf what def shape → shape.sort ≡ None → SortsBy def.fields what → what.sort ≡ None
 unsorted what def shape s none known = unsorted-seen what def.fields what.sort (sym s.sort ∙ ap (option_map key_seen) none) refl known
-
-seen-some : (sort : Option Sort) (fields : List Field) (key : List ℕ × (Bool × Direction)) → key_for sort fields ≡ Some key → is_some sort ≡ true
-seen-some None fields key same = absurd cc
-seen-some (Some sort) fields key same = refl
-
--- One with a key is of a search that is sorted.
-pub sorted-some : (what : Searching) (def : IndexDef) (shape : Shape) (key : SortKey) → IsShapeOf what def shape → shape.sort ≡ Some key → is_some what.sort ≡ true
-sorted-some what def shape key s is = seen-some what.sort def.fields (key_seen key) (sym s.sort ∙ ap (option_map key_seen) is)
 
 -- as many documents as before
 pub order-length : (key : SortKey) (docs : List Doc) → length (order_by key docs) ≡ length docs

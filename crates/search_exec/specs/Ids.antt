@@ -1,9 +1,13 @@
 -- What the ids of a set find among documents, what has to be known of these, and how many of them are read.
-use Rattle.std.specs.Prelude.{◌≡◌, ℕ, min, nat_eq, Bool, true, List, filter, find, is_some, Option, IsSome, ◌-◌, ◌==◌, if◌then◌else◌}
-use Rattle.std.specs.Option.{option_map}
+use Rattle.std.specs.Prelude.{◌≡◌, ℕ, ℤ, min, nat_eq, not, Bool, true, false, List, filter, find, Option, None, Some, IsSome, ◌-◌, ◌==◌, if◌then◌else◌}
+use Rattle.std.specs.Str.{bytes_eq}
+use Rattle.cmd_parse.specs.Options.{Sort}
 use Rattle.cmd_parse.specs.Searching.{Searching}
+use Rattle.ft_base.specs.declared.definition.Field.{Field}
+use Rattle.ft_base.specs.declared.definition.IndexDef.{IndexDef}
 use Rattle.ft_base.specs.declared.doc.Doc.{Doc}
 use Rattle.ft_machine.specs.Counted.{is_among}
+use Rattle.ft_meaning.specs.Sortable.{keeps_number, number_at, sorting_vector}
 
 -- the documents whose ids a set has
 abbrev pub docs_in : (ℕ → Bool) → List Doc → List Doc
@@ -17,13 +21,28 @@ docs_of keys docs = filter (λ (doc : Doc). is_among keys doc.key) docs
 abbrev pub doc_at : ℕ → List Doc → Option Doc
 doc_at id docs = find (λ (doc : Doc). nat_eq id doc.id) docs
 
--- Each id of a set is that of a document, whose key is known by the id.
-pub record AreKnown (has : ℕ → Bool) (keys : ℕ → Option (List ℕ)) (docs : List Doc) : Type 0 where
+-- Each id of a set is that of a document.
+pub record AreKnown (has : ℕ → Bool) (docs : List Doc) : Type 0 where
   pub stored : (id : ℕ) → has id ≡ true → IsSome (doc_at id docs)
-  pub key : (id : ℕ) → has id ≡ true → keys id ≡ option_map (λ (doc : Doc). doc.key) (doc_at id docs)
 
--- How many documents are read where so many count. Sorted, each is read once, unless none is shown; else only those that are
--- shown with their fields.
-abbrev pub reads_for : Searching → ℕ → ℕ
-reads_for what count =
-    if is_some what.sort then (if what.num == 0 then 0 else count) else (if what.no_content then 0 else min what.num (count - what.offset))
+-- The numbers that are known by the id of a document of a set are those of its sorting vector.
+pub record AreNumbered (has : ℕ → Bool) (numbers : ℕ → ℕ → Option ℤ) (def : IndexDef) (docs : List Doc) : Type 0 where
+  pub kept : (id place : ℕ) (doc : Doc) → has id ≡ true → doc_at id docs ≡ Some doc
+      → numbers id place ≡ number_at (sorting_vector def doc) place
+
+-- the field that a search is sorted by
+abbrev pub sort_field : Option Sort → IndexDef → Option Field
+sort_field None def = None
+sort_field (Some sort) def = find (λ (field : Field). bytes_eq sort.field field.alias) def.fields
+
+-- whether documents are read to be sorted: by a field whose numbers the index does not keep
+abbrev pub reads_to_sort : Option Field → Bool
+reads_to_sort None = false
+reads_to_sort (Some field) = not (keeps_number field)
+
+-- How many documents are read where so many count. Where they are read to be sorted, each is read once, unless none is shown;
+-- else only those that are shown with their fields.
+abbrev pub reads_for : Searching → IndexDef → ℕ → ℕ
+reads_for what def count =
+    if reads_to_sort (sort_field what.sort def) then (if what.num == 0 then 0 else count)
+    else (if what.no_content then 0 else min what.num (count - what.offset))

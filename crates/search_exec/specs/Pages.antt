@@ -17,15 +17,24 @@ pub record Shows (shape : Shape) (docs : List Doc) (page : Page) : Type 0 where
 abbrev pub in_window : Shape → ℕ → Bool
 in_window shape place = nat_le shape.offset place && nat_lt (place - shape.offset) shape.num
 
--- how many of so many documents are read in order of their ids: those of the window, unless the keys alone are shown
+-- how many are read where so many are shown: none where the keys alone are shown
+abbrev pub reads_shown : Shape → ℕ → ℕ
+reads_shown shape count = if shape.no_content then 0 else count
+
+-- how many of so many documents are read where no order has to be read: those of the window that are shown
 abbrev pub reads_of : Shape → ℕ → ℕ
-reads_of shape count = if shape.no_content then 0 else min shape.num (count - shape.offset)
+reads_of shape count = reads_shown shape (min shape.num (count - shape.offset))
 
 -- documents in the order of a key, and without one in order of their ids
 abbrev pub ordered_by : Option SortKey → List Doc → List Doc
 ordered_by None docs = docs
 ordered_by (Some key) docs = order_by key docs
 
--- how many of so many documents are read: sorted each, unless none is shown
-abbrev pub reads_by : Shape → ℕ → ℕ
-reads_by shape count = if is_some shape.sort then (if shape.num == 0 then 0 else count) else reads_of shape count
+-- how many of so many documents are read in the order of a key: those of the window where the key has a column, else each
+abbrev pub reads_sorted : Shape → SortKey → ℕ → ℕ
+reads_sorted shape key count = if is_some key.column then reads_of shape count else count
+
+-- and in the order that a shape asks for: none where no row is shown
+abbrev pub reads_by : Shape → Option SortKey → ℕ → ℕ
+reads_by shape None count = reads_of shape count
+reads_by shape (Some key) count = if shape.num == 0 then 0 else reads_sorted shape key count

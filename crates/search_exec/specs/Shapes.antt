@@ -1,5 +1,5 @@
 -- What a search shows, once its names are looked up in the index's definition.
-use Rattle.std.specs.Prelude.{◌≡◌, ℕ, pos, List, [], ◌∷◌, length, map, take, drop, Bool, true, not, Option, None, Some, option_map, if◌then◌else◌}
+use Rattle.std.specs.Prelude.{◌≡◌, ℕ, suc, ℤ, pos, List, [], ◌∷◌, length, map, take, drop, Bool, true, not, Option, None, Some, option_map, option_and_then, if◌then◌else◌}
 use Rattle.std.specs.List.{find, flat_map, list_any}
 use Rattle.std.specs.Str.{bytes_eq}
 use Rattle.cmd_parse.specs.Options.{Sort}
@@ -15,10 +15,12 @@ use Rattle.ft_base.specs.declared.row.Value.{Value}
 use Rattle.ft_base.specs.declared.row.Value.TheVariants as value
 use Rattle.ft_machine.specs.Counted.{num_or_null}
 use Rattle.ft_machine.specs.Shown.{bare_name, field_named, with_value}
+use Rattle.ft_meaning.specs.Sortable.{keeps_number}
 use Rattle.field_text.specs.Numbers.{number_of}
 use Rattle.row_sort.specs.Order.{value_order}
 use Rattle.row_sort.specs.Sorting.{sorted}
 use Rattle.row_sort.specs.declared.order.Direction.{Direction}
+use Rattle.search_exec.specs.Ids.{doc_at}
 use Rattle.search_exec.specs.declared.shape.Shape.{Shape}
 use Rattle.search_exec.specs.declared.shape.ShownField.{ShownField}
 use Rattle.search_exec.specs.declared.shape.SortKey.{SortKey}
@@ -44,11 +46,24 @@ abbrev pub key_for : Option Sort → List Field → Option (List ℕ × (Bool ×
 key_for None fields = None
 key_for (Some sort) fields = option_map (key_of_field sort.descending) (find (λ (field : Field). bytes_eq sort.field field.alias) fields)
 
+-- The place in sorting vectors of the numbers of the field with an alias, if these are kept. The first field of the alias is meant.
+abbrev pub column_named : List ℕ → List Field → Option ℕ
+column_named alias [] = None
+column_named alias (field ∷ fields) =
+    if bytes_eq alias field.alias then (if keeps_number field then Some 0 else None)
+    else option_map (λ place. if keeps_number field then suc place else place) (column_named alias fields)
+
+-- the place of the numbers that a search is sorted by
+abbrev pub column_for : Option Sort → List Field → Option ℕ
+column_for None fields = None
+column_for (Some sort) fields = column_named sort.field fields
+
 -- A shape is that of a search in an index.
 pub record IsShapeOf (what : Searching) (def : IndexDef) (shape : Shape) : Type 0 where
   pub no_content : shape.no_content ≡ what.no_content
   pub fields : option_map (λ shown. map pair_of shown.items) shape.fields ≡ option_map (map (resolved def.fields)) what.fields
   pub sort : option_map key_seen shape.sort ≡ key_for what.sort def.fields
+  pub column : option_and_then (λ key. key.column) shape.sort ≡ column_for what.sort def.fields
   pub offset : shape.offset ≡ what.offset
   pub num : shape.num ≡ what.num
 
@@ -81,6 +96,11 @@ value_seen numeric (Some text) = if numeric then num_or_null (number_of text) el
 -- what it sees of a document
 abbrev pub value_by : SortKey → Doc → Value
 value_by key doc = value_seen key.numeric (get_field doc.hash key.field.now)
+
+-- Where a key has a column, the numbers there are what it sees of the documents of a set.
+pub record AreSeen (has : ℕ → Bool) (numbers : ℕ → ℕ → Option ℤ) (key : SortKey) (docs : List Doc) : Type 0 where
+  pub each : (id place : ℕ) (doc : Doc) → key.column ≡ Some place → has id ≡ true → doc_at id docs ≡ Some doc
+      → num_or_null (numbers id place) ≡ value_by key doc
 
 -- documents in the order of a key
 abbrev pub order_by : SortKey → List Doc → List Doc

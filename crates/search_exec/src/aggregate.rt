@@ -36,7 +36,7 @@ pub fn aggregate_reply<T: Lists, L: Ledger>(
 ) -> Result<Reply, NoMemory>
     requires lists { AreLists (T.held lists.now) }
     requires ready { Ready (T.held lists.now) iter 1 }
-    requires known { AreKnown (in_set (T.held lists.now) iter) (T.named lists.now).keys store.old.space }
+    requires known { AreKnown (in_set (T.held lists.now) iter) store.old.space }
     ensures reply { IfOk result (λ reply. reply ≡ rows_reply (aggregate_rows load.now steps.now def.now
         (docs_in (in_set (T.held lists.now) iter) store.old.space))) }
     ensures fits { IfOk result (λ reply. IsTrue (fits_wire reply)) }
@@ -70,7 +70,7 @@ pub fn found_rows<T: Lists, L: Ledger>(
 ) -> Result<Vec<Row>, NoMemory>
     requires lists { AreLists (T.held lists.now) }
     requires ready { Ready (T.held lists.now) iter.old 1 }
-    requires known { AreKnown (in_set (T.held lists.now) iter.old) (T.named lists.now).keys store.old.space }
+    requires known { AreKnown (in_set (T.held lists.now) iter.old) store.old.space }
     ensures rows { IfOk result (λ rows. rows.items ≡ aggregate_rows load.now steps.now def.now
         (docs_in (in_set (T.held lists.now) iter.old) store.old.space)) }
 
@@ -108,7 +108,7 @@ fn note_all<T: Lists, L: Ledger>(
 ) -> Result<(), NoMemory>
     requires lists { AreLists (T.held lists.now) }
     requires ready { Ready (T.held lists.now) iter.old 1 }
-    requires known { AreKnown (in_set (T.held lists.now) iter.old) (T.named lists.now).keys store.old.space }
+    requires known { AreKnown (in_set (T.held lists.now) iter.old) store.old.space }
     ensures noted { OnOk result ((def : IndexDef) (load : Load) (steps : List AStep)
         → Holds def load steps [] feed.old
         → Holds def load steps (docs_in (in_set (T.held lists.now) iter.old) store.old.space) feed.new) }

@@ -1,5 +1,5 @@
-//! A search that is sorted: each of its documents is read once, and of all only the first rows are held, up to the
-//! end of the window.
+//! A search that is sorted by what stands in its documents: each is read once, and of all only the first rows are held, up to
+//! the end of the window.
 ghost use Rattle.std.specs.Prelude.{◌≡◌, ◌<◌, ◌≤◌, ◌+◌, ◌^◌, ◌∷◌, ◌++◌, [], Some, pos, IfOk, IsOk, IsSome, OnOk, drop, length, map, take};
 ghost use Rattle.std.specs.List.{flat_map};
 ghost use Rattle.std.specs.List.Sorted.{IsStrictlyIncreasing};
@@ -39,7 +39,7 @@ pub fn page_by_field<T: Lists, L: Ledger>(
 ) -> Result<Reply, NoMemory>
     requires lists { AreLists (T.held lists.now) }
     requires ready { MayAsk (T.held lists.now) candidates.old 1 }
-    requires known { AreKnown (in_candidates (T.held lists.now) candidates.old) (T.named lists.now).keys store.old.space }
+    requires known { AreKnown (in_candidates (T.held lists.now) candidates.old) store.old.space }
     requires window { shape.now.offset + shape.now.num < 2 ^ 64 }
     ensures reply { IfOk result (λ reply. reply ≡ page_by shape.now
         (order_by key.entry (docs_in (in_candidates (T.held lists.now) candidates.old) store.old.space))) }
@@ -80,7 +80,7 @@ fn offer_all<T: Lists, L: Ledger>(
     requires bits { store.old.reads < 2 ^ 64 }
     requires lists { AreLists (T.held lists.now) }
     requires ready { MayAsk (T.held lists.now) candidates.old 1 }
-    requires known { AreKnown (in_candidates (T.held lists.now) candidates.old) (T.named lists.now).keys store.old.space }
+    requires known { AreKnown (in_candidates (T.held lists.now) candidates.old) store.old.space }
     ensures rows { OnOk result (first.new.rows ≡ first_ranked shape.now key.entry first.old.most
         (docs_in (in_candidates (T.held lists.now) candidates.old) store.old.space)) }
     ensures total { IfOk result (λ total. total

@@ -1,6 +1,5 @@
 //! A search that isn't sorted: its documents in order of their ids. All are counted, and those of the window are shown.
-ghost use Rattle.std.specs.Prelude.{◌≡◌, ◌<◌, ◌≤◌, ◌+◌, ◌-◌, ◌^◌, ◌∷◌, ◌++◌, [], ℕ, Some, List, IfOk, IsSome, OnOk, length, min, if◌then◌else◌};
-ghost use Rattle.std.specs.Option.{option_map};
+ghost use Rattle.std.specs.Prelude.{◌≡◌, ◌<◌, ◌≤◌, ◌+◌, ◌^◌, ◌∷◌, ◌++◌, [], ℕ, Some, List, IfOk, IsSome, OnOk, length};
 ghost use Rattle.ft_base.specs.declared.doc.Doc.{Doc};
 ghost use Rattle.hash_store.specs.Store.{reads_after};
 ghost use Rattle.id_iters.specs.Held.{AreLists};
@@ -20,7 +19,7 @@ use std::alloc::Global;
 use std::sync::ledger::Ledger;
 
 /// The reply of the documents of some ids, in order of the ids. Only those that are shown with their fields are read,
-/// each once; the keys alone come from the index.
+/// each once; keys alone are had without a read.
 pub fn page_by_ids<T: Lists, L: Ledger>(
     alloc: Global,
     lists: &T,
@@ -31,13 +30,13 @@ pub fn page_by_ids<T: Lists, L: Ledger>(
 ) -> Result<Reply, NoMemory>
     requires lists { AreLists (T.held lists.now) }
     requires ready { MayAsk (T.held lists.now) candidates.old 1 }
-    requires known { AreKnown (in_candidates (T.held lists.now) candidates.old) (T.named lists.now).keys store.old.space }
+    requires known { AreKnown (in_candidates (T.held lists.now) candidates.old) store.old.space }
     ensures reply { IfOk result (λ reply. reply
         ≡ page_by shape.now (docs_in (in_candidates (T.held lists.now) candidates.old) store.old.space)) }
 
     // What is read.
-    ensures reads { OnOk result (store.new.reads ≡ reads_after store.old.reads (if shape.now.no_content then 0 else
-        min shape.now.num (length (docs_in (in_candidates (T.held lists.now) candidates.old) store.old.space) - shape.now.offset))) }
+    ensures reads { OnOk result (store.new.reads ≡ reads_after store.old.reads (reads_of shape.now
+        (length (docs_in (in_candidates (T.held lists.now) candidates.old) store.old.space)))) }
     ensures rises { store.old.reads ≤ store.new.reads }
 
     ensures space { store.new.space ≡ store.old.space }
@@ -63,7 +62,7 @@ fn note_all<T: Lists, L: Ledger>(
     requires none { Shows shape.now [] page.old }
     requires lists { AreLists (T.held lists.now) }
     requires ready { MayAsk (T.held lists.now) candidates.old 1 }
-    requires known { AreKnown (in_candidates (T.held lists.now) candidates.old) (T.named lists.now).keys store.old.space }
+    requires known { AreKnown (in_candidates (T.held lists.now) candidates.old) store.old.space }
     ensures shown { OnOk result
         (Shows shape.now (docs_in (in_candidates (T.held lists.now) candidates.old) store.old.space) page.new) }
     ensures few { OnOk result (page.new.total < 2 ^ 63) }
@@ -80,17 +79,16 @@ fn note_all<T: Lists, L: Ledger>(
     tell(store);
     let mut from = 1;
     'asking: while let Some(id) = candidates.seek(lists, from, steps)? {
-        note_id(page, alloc, lists, store, shape, id)?;
+        note_id(page, alloc, store, shape, id)?;
         from = id + 1;
     }
     Ok(())
 }
 
 /// Notes the document of an id. Outside the window it is counted, and neither its key nor the document is asked for.
-fn note_id<T: Lists>(
+fn note_id(
     page: &mut Page,
     alloc: Global,
-    lists: &T,
     store: &mut HashStore,
     shape: &Shape<'_>,
     id: u64,
@@ -98,8 +96,6 @@ fn note_id<T: Lists>(
     requires few { page.old.total < 2 ^ 62 }
     requires bits { store.old.reads < 2 ^ 64 }
     requires stored { IsSome (doc_at id store.old.space) }
-    requires key { (T.named lists.now).keys id
-        ≡ option_map (λ doc. doc.key) (doc_at id store.old.space) }
     ensures shown { OnOk result ((docs : List Doc) (doc : Doc) → doc_at id store.old.space ≡ Some doc
         → Shows shape.now docs page.old → Shows shape.now (docs ++ doc ∷ []) page.new) }
     ensures total { OnOk result (page.new.total ≡ page.old.total + 1) }
@@ -118,7 +114,7 @@ fn note_id<T: Lists>(
         return Ok(());
     }
     if shape.no_content {
-        let key = lists.key_of(id).unwrap();
+        let key = store.key_of(id).unwrap();
         return page.note_key(alloc, key);
     }
     let doc = store.get_by_id(id).unwrap();

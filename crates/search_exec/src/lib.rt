@@ -1,14 +1,16 @@
 //! The replies of FT.SEARCH and FT.AGGREGATE: which of the documents that a query finds count, in which order, and how they
 //! are shown; and the rows that steps make of them.
 //!
-//! A search asks the iterator of a query for its ids, counts them all, and reads the documents that it shows or sorts.
-//! What is answered is defined in `ft_machine`, `specs/Counted.antt` and `specs/Shown.antt`; read `search.rt` first, then
-//! `candidates.rt`, `shape.rt`, and the two orders `by_ids.rt` and `by_field.rt`. An aggregate reads each document that the
+//! A search asks the iterator of a query for its ids, counts them all, and reads the documents that it shows; and all of them
+//! where it sorts by a field whose numbers the index does not keep. What is answered is defined in `ft_machine`,
+//! `specs/Counted.antt` and `specs/Shown.antt`; read `search.rt` first, then `candidates.rt`, `shape.rt`, and the three orders
+//! `by_ids.rt`, `by_column.rt` and `by_field.rt`. An aggregate reads each document that the
 //! iterator finds, and its steps make rows of them: `aggregate.rt` and `replied_rows.rt`, defined in `specs/Aggregating.antt`
 //! of `ft_machine`. A stream is read from an id on, document by document: `stream.rt`, defined in `specs/Parts.antt`.
 #![tactic(auto)]
 
 mod aggregate;
+mod by_column;
 mod by_field;
 mod by_ids;
 mod candidates;

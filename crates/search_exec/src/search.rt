@@ -1,5 +1,5 @@
 //! What a search answers: which of the documents that an iterator finds count, in which order, and how they are shown.
-ghost use Rattle.std.specs.Prelude.{◌≡◌, ◌<◌, ◌≤◌, ◌+◌, ◌^◌, IfOk, IsTrue, OnOk, length};
+ghost use Rattle.std.specs.Prelude.{◌≡◌, ◌<◌, ◌≤◌, ◌+◌, ◌^◌, Some, IfOk, IsTrue, OnOk, length};
 ghost use Rattle.cmd_parse.specs.Seen.{search_of};
 ghost use Rattle.ft_base.specs.Reply.{fits_wire};
 ghost use Rattle.ft_machine.specs.Counted.{in_order};
@@ -9,14 +9,16 @@ ghost use Rattle.id_iters.specs.Held.{AreLists};
 ghost use Rattle.id_iters.specs.Ready.{Ready};
 ghost use Rattle.id_iters.specs.Sets.{in_set};
 ghost use Rattle.search_exec.specs.Candidates.{in_candidates, MayAsk};
-ghost use Rattle.search_exec.specs.Ids.{AreKnown, docs_in, docs_of, reads_for};
-ghost use Rattle.search_exec.specs.Pages.{ordered_by, reads_by};
-ghost use Rattle.search_exec.specs.Shapes.{SortsBy, page_by};
+ghost use Rattle.search_exec.specs.Ids.{AreKnown, AreNumbered, docs_in, docs_of, reads_for};
+ghost use Rattle.search_exec.specs.Pages.{ordered_by, reads_by, reads_sorted};
+ghost use Rattle.search_exec.specs.Shapes.{AreSeen, SortsBy, order_by, page_by};
+ghost use Rattle.search_exec.specs.declared.shape.SortKey.{SortKey as Key};
 
+use crate::by_column::page_by_column;
 use crate::by_field::page_by_field;
 use crate::by_ids::page_by_ids;
 use crate::candidates::Candidates;
-use crate::shape::Shape;
+use crate::shape::{Shape, SortKey};
 use cmd_parse::SearchSpec;
 use ft_base::{IndexDef, NoMemory, Reply, Steps};
 use hash_store::HashStore;
@@ -24,8 +26,9 @@ use id_iters::{Iter, Lists};
 use std::alloc::Global;
 use std::sync::ledger::Ledger;
 
-/// What a search answers that finds the ids of an iterator in an index. Sorted, each document that counts is read
-/// once; else those that are shown with their fields, and no other. The query's text and its FILTERs are in the iterator.
+/// What a search answers that finds the ids of an iterator in an index. Sorted by a field whose numbers the index does not
+/// keep, each document that counts is read once; else those that are shown with their fields, and no other. The query's
+/// text and its FILTERs are in the iterator.
 pub fn search_reply<T: Lists, L: Ledger>(
     alloc: Global,
     def: &IndexDef,
@@ -37,7 +40,8 @@ pub fn search_reply<T: Lists, L: Ledger>(
 ) -> Result<Reply, NoMemory>
     requires lists { AreLists (T.held lists.now) }
     requires ready { Ready (T.held lists.now) iter 1 }
-    requires known { AreKnown (in_set (T.held lists.now) iter) (T.named lists.now).keys store.old.space }
+    requires known { AreKnown (in_set (T.held lists.now) iter) store.old.space }
+    requires numbered { AreNumbered (in_set (T.held lists.now) iter) (T.named lists.now).numbers def.now store.old.space }
     requires sorts { SortsBy def.now.fields (search_of search.now) }
     ensures reply { IfOk result (λ reply. reply ≡ found_reply (search_of search.now) def.now
         (in_order (search_of search.now).sort def.now
@@ -45,7 +49,7 @@ pub fn search_reply<T: Lists, L: Ledger>(
     ensures fits { IfOk result (λ reply. IsTrue (fits_wire reply)) }
 
     // What is read.
-    ensures reads { OnOk result (store.new.reads ≡ reads_after store.old.reads (reads_for (search_of search.now)
+    ensures reads { OnOk result (store.new.reads ≡ reads_after store.old.reads (reads_for (search_of search.now) def.now
         (length (docs_of (search_of search.now).keys (docs_in (in_set (T.held lists.now) iter) store.old.space))))) }
     ensures rises { store.old.reads ≤ store.new.reads }
 
@@ -72,7 +76,8 @@ fn reply_of<T: Lists, L: Ledger>(
 ) -> Result<Reply, NoMemory>
     requires lists { AreLists (T.held lists.now) }
     requires ready { MayAsk (T.held lists.now) candidates.old 1 }
-    requires known { AreKnown (in_candidates (T.held lists.now) candidates.old) (T.named lists.now).keys store.old.space }
+    requires known { AreKnown (in_candidates (T.held lists.now) candidates.old) store.old.space }
+    requires numbered { AreNumbered (in_candidates (T.held lists.now) candidates.old) (T.named lists.now).numbers def.now store.old.space }
     requires sorts { SortsBy def.now.fields (search_of search.now) }
     ensures reply { IfOk result (λ reply. reply ≡ found_reply (search_of search.now) def.now
         (in_order (search_of search.now).sort def.now
@@ -80,7 +85,7 @@ fn reply_of<T: Lists, L: Ledger>(
     ensures fits { IfOk result (λ reply. IsTrue (fits_wire reply)) }
 
     // What is read.
-    ensures reads { OnOk result (store.new.reads ≡ reads_after store.old.reads (reads_for (search_of search.now)
+    ensures reads { OnOk result (store.new.reads ≡ reads_after store.old.reads (reads_for (search_of search.now) def.now
         (length (docs_in (in_candidates (T.held lists.now) candidates.old) store.old.space)))) }
     ensures rises { store.old.reads ≤ store.new.reads }
 
@@ -108,13 +113,15 @@ fn page_by_shape<T: Lists, L: Ledger>(
 ) -> Result<Reply, NoMemory>
     requires lists { AreLists (T.held lists.now) }
     requires ready { MayAsk (T.held lists.now) candidates.old 1 }
-    requires known { AreKnown (in_candidates (T.held lists.now) candidates.old) (T.named lists.now).keys store.old.space }
+    requires known { AreKnown (in_candidates (T.held lists.now) candidates.old) store.old.space }
+    requires seen { (key : Key) → shape.now.sort ≡ Some key
+        → AreSeen (in_candidates (T.held lists.now) candidates.old) (T.named lists.now).numbers key store.old.space }
     requires window { shape.now.offset + shape.now.num < 2 ^ 64 }
     ensures reply { IfOk result (λ reply. reply ≡ page_by shape.now
         (ordered_by shape.now.sort (docs_in (in_candidates (T.held lists.now) candidates.old) store.old.space))) }
 
     // What is read.
-    ensures reads { OnOk result (store.new.reads ≡ reads_after store.old.reads (reads_by shape.now
+    ensures reads { OnOk result (store.new.reads ≡ reads_after store.old.reads (reads_by shape.now shape.now.sort
         (length (docs_in (in_candidates (T.held lists.now) candidates.old) store.old.space)))) }
     ensures rises { store.old.reads ≤ store.new.reads }
 
@@ -125,8 +132,43 @@ fn page_by_shape<T: Lists, L: Ledger>(
 {
     match shape.sort {
         Some(key) if shape.num > 0 => {
-            page_by_field(alloc, lists, store, candidates, shape, key, steps)
+            page_by_key(alloc, lists, store, candidates, shape, key, steps)
         }
         _ => page_by_ids(alloc, lists, store, candidates, shape, steps),
+    }
+}
+
+/// The reply of the documents of some ids in the order of a key: by the numbers that the index keeps, if it keeps the
+/// field's, else by what stands in the documents.
+fn page_by_key<T: Lists, L: Ledger>(
+    alloc: Global,
+    lists: &T,
+    store: &mut HashStore,
+    candidates: &mut Candidates,
+    shape: &Shape<'_>,
+    key: SortKey<'_>,
+    steps: &mut Steps<L>,
+) -> Result<Reply, NoMemory>
+    requires lists { AreLists (T.held lists.now) }
+    requires ready { MayAsk (T.held lists.now) candidates.old 1 }
+    requires known { AreKnown (in_candidates (T.held lists.now) candidates.old) store.old.space }
+    requires seen { AreSeen (in_candidates (T.held lists.now) candidates.old) (T.named lists.now).numbers key store.old.space }
+    requires window { shape.now.offset + shape.now.num < 2 ^ 64 }
+    ensures reply { IfOk result (λ reply. reply ≡ page_by shape.now
+        (order_by key.entry (docs_in (in_candidates (T.held lists.now) candidates.old) store.old.space))) }
+
+    // What is read.
+    ensures reads { OnOk result (store.new.reads ≡ reads_after store.old.reads (reads_sorted shape.now key.entry
+        (length (docs_in (in_candidates (T.held lists.now) candidates.old) store.old.space)))) }
+    ensures rises { store.old.reads ≤ store.new.reads }
+
+    ensures space { store.new.space ≡ store.old.space }
+    ensures ready { store.new.ready ≡ store.old.ready }
+    ensures last { store.new.last ≡ store.old.last }
+    ensures counts { steps.old ≤ steps.new }
+{
+    match key.column {
+        Some(place) => page_by_column(alloc, lists, store, candidates, shape, key, place, steps),
+        None => page_by_field(alloc, lists, store, candidates, shape, key, steps),
     }
 }

@@ -1,15 +1,16 @@
 //! What a search shows, once its names are looked up in the index's definition: so none is looked up for a document.
-ghost use Rattle.std.specs.Prelude.{◌≡◌, ◌++◌, map, IfOk, OnOk};
+ghost use Rattle.std.specs.Prelude.{◌≡◌, ◌++◌, map, option_and_then, Some, IfOk, OnOk};
 ghost use Rattle.std.specs.List.{find, flat_map};
 ghost use Rattle.std.specs.Option.{option_copied, option_map};
 ghost use Rattle.std.specs.Str.{bytes_eq};
 ghost use Rattle.cmd_parse.specs.Seen.{search_of, sort_of};
 ghost use Rattle.ft_base.specs.declared.reply.Reply.TheVariants.{Array};
 ghost use Rattle.ft_machine.specs.Shown.{bare_name, field_named};
-ghost use Rattle.search_exec.specs.Shapes.{IsShapeOf, fields_with, key_for, key_of_field, key_seen, pair_of, resolved, row_by, shown_in};
+ghost use Rattle.search_exec.specs.Shapes.{IsShapeOf, column_for, column_named, fields_with, key_for, key_of_field, key_seen, pair_of, resolved, row_by, shown_in};
 
 use cmd_parse::{SearchSpec, SortSpec};
 use ft_base::{Bytes, Doc, Field, HashRec, IndexDef, ListOf, NoMemory, Reply, Words, in_turn};
+use ft_meaning::keeps_number;
 use row_sort::Direction;
 use std::alloc::Global;
 
@@ -29,6 +30,8 @@ pub struct SortKey<'a> {
     pub field: &'a [u8],
     /// Whether values are compared as numbers.
     pub numeric: bool,
+    /// The place of its numbers in sorting vectors, if the index keeps them.
+    pub column: Option<usize>,
     pub by: Direction,
 }
 
@@ -115,24 +118,51 @@ fn with_alias<'a>(fields: &'a [Field], alias: &[u8]) -> Option<&'a Field>
 
 /// The key by which documents are sorted, where a search names one of the index's fields.
 fn sort_key<'a>(fields: &'a [Field], sort: &Option<SortSpec<'a>>) -> Option<SortKey<'a>>
-    ensures { option_map key_seen result ≡ key_for (option_map sort_of sort.now) fields.now }
+    ensures seen { option_map key_seen result ≡ key_for (option_map sort_of sort.now) fields.now }
+    ensures column { option_and_then (λ key. key.column) result ≡ column_for (option_map sort_of sort.now) fields.now }
 {
     match sort {
-        Some(sort) => match with_alias(fields, sort.field) {
-            Some(field) => Some(key_of_field(field, sort.descending)),
-            None => None,
-        },
+        Some(sort) => key_named(fields, sort),
         None => None,
     }
 }
 
+/// The key by which a field of the index sorts.
+fn key_named<'a>(fields: &'a [Field], sort: &SortSpec<'a>) -> Option<SortKey<'a>>
+    ensures seen { option_map key_seen result ≡ key_for (Some (sort_of sort.now)) fields.now }
+    ensures column { option_and_then (λ key. key.column) result ≡ column_named sort.now.field.now fields.now }
+{
+    let column = column_named(fields, sort.field);
+    match with_alias(fields, sort.field) {
+        Some(field) => Some(key_of_field(field, column, sort.descending)),
+        None => None,
+    }
+}
+
+/// The place in sorting vectors of the numbers of the field with an alias, if the index keeps them.
+fn column_named(fields: &[Field], alias: &[u8]) -> Option<usize>
+    ensures { result ≡ column_named alias.now fields.now }
+{
+    let mut place = 0;
+    'fields: for field in fields {
+        let kept = keeps_number(field);
+        if alias == field.alias.as_slice() {
+            return if kept { Some(place) } else { None };
+        }
+        place += usize::from(kept);
+    }
+    None
+}
+
 /// A field as a key. Texts are compared with A to Z lowered unless the field is UNF.
-fn key_of_field(field: &Field, descending: bool) -> SortKey<'_>
-    ensures { key_seen result ≡ key_of_field descending field.now }
+fn key_of_field(field: &Field, column: Option<usize>, descending: bool) -> SortKey<'_>
+    ensures seen { key_seen result ≡ key_of_field descending field.now }
+    ensures column { result.column ≡ column }
 {
     SortKey {
         field: field.name.as_slice(),
         numeric: field.kind.is_numeric(),
+        column,
         by: Direction {
             descending,
             lower: !field.unf,

@@ -42,7 +42,7 @@ pub fn read_stream<T: Lists, L: Ledger>(
 ) -> Result<StreamRead, NoMemory>
     requires lists { AreLists (T.held lists.now) }
     requires ready { Ready (T.held lists.now) iter (after + 1) }
-    requires known { AreKnown (in_set (T.held lists.now) iter) (T.named lists.now).keys store.old.space }
+    requires known { AreKnown (in_set (T.held lists.now) iter) store.old.space }
     ensures rows { IfOk result (λ read. read.rows.items ≡ filter_map (stream_row def.now steps.now)
         (stream_taken def.now steps.now after count (docs_in (in_set (T.held lists.now) iter) store.old.space))) }
     ensures after { IfOk result (λ read. read.after ≡ last_id after
@@ -91,7 +91,7 @@ fn take_docs<T: Lists, L: Ledger>(
 ) -> Result<u64, NoMemory>
     requires lists { AreLists (T.held lists.now) }
     requires ready { Ready (T.held lists.now) iter.old (after + 1) }
-    requires known { AreKnown (in_set (T.held lists.now) iter.old) (T.named lists.now).keys store.old.space }
+    requires known { AreKnown (in_set (T.held lists.now) iter.old) store.old.space }
     requires rising { IsStrictlyIncreasing (map (λ doc. doc.id) store.old.space) }
     requires bits { store.old.reads < 2 ^ 64 }
     requires none { rows.old.items ≡ [] }

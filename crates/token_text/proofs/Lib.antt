@@ -1,1 +1,3 @@
 pub mod TokensLaws
+pub mod SlicesLaws
+pub mod StepLaws

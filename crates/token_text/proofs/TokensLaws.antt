@@ -1,5 +1,5 @@
 -- How a reader that keeps an open run and goes through a text's units from the front comes to the tokens.
-use Rattle.std.proofs.Common.{◌≡◌, ℕ, ◌+◌, List, [], ◌∷◌, ◌++◌, map, length, Option, Some, None, refl, sym, ap, append_assoc, length-append, append-nil, add-zero, add-one, arith}
+use Rattle.std.proofs.Common.{◌≡◌, ℕ, ◌+◌, ◌<◌, List, [], ◌∷◌, ◌++◌, map, length, Option, Some, None, refl, sym, ap, append_assoc, length-append, append-nil, add-zero, add-one, arith}
 use Rattle.std.specs.Char.{to_ascii_lowercase}
 use Rattle.token_text.specs.declared.token.Token.{Token}
 use Rattle.token_text.specs.Tokens.{units, split, before, lowered, numbered, tokens}
@@ -46,11 +46,17 @@ coming-none stops place run units =
     rw (append-nil run, map-before (split units).0 (split units).1) (numbered-before stops place run _)
 
 -- the same where the run's token, if it is one, went to those found
-pub coming-closed : (stops : List (List ℕ)) (run : List ℕ) (units : List (Option ℕ)) (found new : List Token)
-    → new ≡ found ++ numbered stops (length found + 1) (before run [])
-    → found ++ coming stops (length found + 1) run (None ∷ units) ≡ new ++ coming stops (length new + 1) [] units
-coming-closed stops run units found new same =
-    let more : List Token = numbered stops (length found + 1) (before run []) in
+pub coming-closed : (stops : List (List ℕ)) (run : List ℕ) (units : List (Option ℕ)) (found new : List Token) (place next : ℕ)
+    → place ≡ length found + 1 → next ≡ length new + 1
+    → new ≡ found ++ numbered stops place (before run [])
+    → found ++ coming stops place run (None ∷ units) ≡ new ++ coming stops next [] units
+coming-closed stops run units found new place next at behind same =
+    let more : List Token = numbered stops place (before run []) in
     let counted : length new ≡ length found + length more = simp (length-append) at (ap length same) in
-    let place : length new + 1 ≡ length found + 1 + length more = omega arith in
+    let place : next ≡ place + length more = omega arith in
     rw (coming-none, place, same, append_assoc) refl
+
+-- a run that is a token has a byte
+pub some_bytes : (stops : List (List ℕ)) (place : ℕ) (run : List ℕ) (token : Token) → numbered stops place (before run []) ≡ token ∷ [] → 0 < length run
+some_bytes stops place [] token one = absurd (let no : ⊥ = cc in no)
+some_bytes stops place (b ∷ run) token one = omega arith

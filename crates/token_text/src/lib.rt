@@ -6,8 +6,11 @@
 //! Read first `specs/Tokens.antt`, then `token.rt`.
 #![tactic(auto)]
 
+mod text_tokens;
 mod token;
 mod units;
 
-/// The tokens of a text.
+/// The tokens of a text, held and lent.
+pub use text_tokens::TextTokens;
+/// The tokens of a text, and what a contract sees of one.
 pub use token::{Token, tokens};

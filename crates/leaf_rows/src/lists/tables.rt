@@ -1,15 +1,17 @@
 //! Tables of documents, step by step: `table STEP..`. The steps that ask are answered in their order.
 //!
-//! `put:ID:KEY` prepares and commits a document, `wait:ID:KEY` only prepares it, `commit:` commits the one that waits,
-//! `compact:` gives it up. `kill:ID` takes a document out and tells whether it was live, `live:ID` tells whether it is.
-//! `key:ID` gives a document's key, `next:ID` the least live id from there on, `ids:` how many live ids there are, and
+//! `put:ID:NUMBERS` prepares and commits a document, `wait:ID:NUMBERS` only prepares it, `commit:` commits the one that
+//! waits, `compact:` gives it up. The numbers stand with commas between them, `none` for one that is missing.
+//! `kill:ID` takes a document out and tells whether it was live, `live:ID` tells whether it is. `number:ID:PLACE` gives
+//! a document's number at a place, `next:ID` the least live id from there on, `ids:` how many live ids there are, and
 //! these.
 ghost use Rattle.std.specs.Prelude.{◌≡◌, ◌<◌, Some};
 ghost use Rattle.std.specs.Option.{option_map};
 
-use super::numbers::{number, parted, put_found, put_name, put_truth};
+use super::numbers::{number, parted, put_found, put_truth};
 use crate::answer::Answer;
-use doc_table::DocTable;
+use crate::arguments::{count_of, number_of};
+use doc_table::{DocTable, SortingVector};
 use ft_base::NoMemory;
 use std::alloc::Global;
 
@@ -38,29 +40,42 @@ pub fn put(
         last: 0,
         waiting: 0,
     };
+    // Where the number before was found: one walk goes through all that are asked for.
+    let mut near = 0;
     for word in words {
-        let (verb, rest) = parted(word.as_slice());
-        let verb = std::str::from_utf8(verb).unwrap_or("");
-        change(&mut documents, verb, rest, out)?;
-        ask(&documents.table, verb, rest, out)?;
+        step(alloc, word.as_slice(), &mut documents, &mut near, out)?;
     }
     Ok(true)
 }
 
+fn step(
+    alloc: Global,
+    word: &[u8],
+    documents: &mut Documents,
+    near: &mut usize,
+    out: &mut Answer,
+) -> Result<(), NoMemory> {
+    let (verb, rest) = parted(word);
+    let verb = std::str::from_utf8(verb).unwrap_or("");
+    change(alloc, documents, verb, rest, out)?;
+    ask(&documents.table, verb, rest, near, out)
+}
+
 fn change(
+    alloc: Global,
     documents: &mut Documents,
     verb: &str,
     rest: &[u8],
     out: &mut Answer,
 ) -> Result<(), NoMemory> {
-    let (id, key) = parted(rest);
+    let (id, numbers) = parted(rest);
     let id = number(id);
     match verb {
         "put" => {
-            prepare(documents, id, key)?;
+            prepare(alloc, documents, id, numbers)?;
             commit(documents);
         }
-        "wait" => prepare(documents, id, key)?,
+        "wait" => prepare(alloc, documents, id, numbers)?,
         "commit" => commit(documents),
         "compact" => compact(documents),
         "kill" => put_truth(documents.table.kill(id), out),
@@ -69,15 +84,33 @@ fn change(
     Ok(())
 }
 
-fn prepare(documents: &mut Documents, id: u64, key: &[u8]) -> Result<(), NoMemory> {
+fn prepare(
+    alloc: Global,
+    documents: &mut Documents,
+    id: u64,
+    numbers: &[u8],
+) -> Result<(), NoMemory> {
     if id <= documents.last {
         return Ok(());
     }
+    let vector = vector_of(alloc, numbers)?;
     documents.waiting = 0;
-    documents.table.prepare(id, key)?;
+    documents.table.prepare(id, vector)?;
     documents.last = id;
     documents.waiting = id;
     Ok(())
+}
+
+// The numbers that stand with commas between them; what spells no number is one that is missing.
+fn vector_of(alloc: Global, numbers: &[u8]) -> Result<SortingVector, NoMemory> {
+    let mut vector = SortingVector::new();
+    if numbers.is_empty() {
+        return Ok(vector);
+    }
+    for number in numbers.split(|byte| *byte == b',') {
+        vector.push(alloc, number_of(number))?;
+    }
+    Ok(vector)
 }
 
 fn commit(documents: &mut Documents) {
@@ -93,16 +126,28 @@ fn compact(documents: &mut Documents) {
     documents.table.compact();
 }
 
-fn ask(table: &DocTable, verb: &str, rest: &[u8], out: &mut Answer) -> Result<(), NoMemory> {
-    let id = number(rest);
+fn ask(
+    table: &DocTable,
+    verb: &str,
+    rest: &[u8],
+    near: &mut usize,
+    out: &mut Answer,
+) -> Result<(), NoMemory> {
+    let (id, place) = parted(rest);
+    let id = number(id);
     match verb {
         "live" => put_truth(table.is_live(id), out),
-        "key" => put_name(table.key_of(id), out),
+        "number" => put_number_near(table, id, count_of(place), near, out),
         "next" => put_found(table.next_live(id), out),
         "ids" => put_ids(table, out)?,
         _ => {}
     }
     Ok(())
+}
+
+fn put_number_near(table: &DocTable, id: u64, place: usize, near: &mut usize, out: &mut Answer) {
+    out.put(b" ");
+    out.put_number(table.number_near(id, place, near));
 }
 
 fn put_ids(table: &DocTable, out: &mut Answer) -> Result<(), NoMemory> {

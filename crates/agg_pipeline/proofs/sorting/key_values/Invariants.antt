@@ -1,5 +1,5 @@
 use Rattle.std.specs.Prelude.{◌≡◌, ◌++◌, drop}
-use Rattle.agg_pipeline.specs.LentRow.{row_of}
+use Rattle.expr_eval.specs.Lending.{row_of}
 use Rattle.agg_pipeline.specs.Steps.{key_values}
 use Rattle.agg_pipeline.proofs.sorting.key_values.Given as goal
 

@@ -1,5 +1,5 @@
 use Rattle.std.proofs.Common.{◌≡◌, ◌++◌, drop}
-use Rattle.agg_pipeline.specs.LentRow.{row_of}
+use Rattle.expr_eval.specs.Lending.{row_of}
 use Rattle.agg_pipeline.specs.Equal.{spelled_all}
 use Rattle.agg_pipeline.specs.Grouping.{tuple_of}
 use Rattle.agg_pipeline.proofs.spelling.spell_tuple.Given as goal

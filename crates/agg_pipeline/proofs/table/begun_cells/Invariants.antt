@@ -1,5 +1,5 @@
 use Rattle.std.proofs.Common.{◌≡◌, [], drop}
-use Rattle.agg_pipeline.specs.LentRow.{row_of}
+use Rattle.expr_eval.specs.Lending.{row_of}
 use Rattle.agg_pipeline.specs.Grouping.{tuple_cells}
 use Rattle.agg_pipeline.specs.Rows.{set_cells}
 use Rattle.agg_pipeline.proofs.table.begun_cells.Given as goal

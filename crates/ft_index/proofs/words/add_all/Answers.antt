@@ -1,10 +1,8 @@
-use Rattle.std.proofs.Common.{◌≡◌, ◌∷◌, ◌++◌, [], if◌then◌else◌, List, ℕ, sym, subst, rules}
+use Rattle.std.proofs.Common.{refl, sym, subst, rules}
 use Rattle.std.specs.List.{IsDistinct}
 use Rattle.std.specs.Map.{keys_of}
 use Rattle.ft_index.specs.Collected.{AreAddedBut, AreMet, Collected, GrowBy}
 use Rattle.ft_index.specs.Markers.{word_marker}
-use Rattle.std.specs.Str.{bytes_eq}
-use Rattle.term_dict.specs.Terms.{entries_of}
 use Rattle.ft_index.proofs.AddingLaws.{grown, added-next, rest-distinct, front-later}
 use Rattle.ft_index.proofs.CollectedLaws.{same_key}
 use Rattle.ft_index.proofs.TakingLaws.{before-taken, takes-again, takes-none}
@@ -34,9 +32,7 @@ loop-word-preserved c =
       distinct = rest-distinct c.in-Some.word c.in-Some.codes c.next.new.self distinct;
       met = met.1;
       added = added-next c.in-Some.word c.in-Some.codes c.next.new.self c.args.found.entries c.args.id c.args.terms.now c.loop-word.terms c.add.new.terms distinct met added
-          (subst (λ (word : List ℕ). (other : List ℕ) → entries_of c.add.new.terms other ≡ (if bytes_eq word other
-          then entries_of c.loop-word.terms other ++ (c.args.id, record { places = c.in-Some.codes }) ∷ [] else entries_of c.loop-word.terms other))
-          c.as_slice.ensures.value c.in_ok-add.ensures.ok);
+          c.in_ok-add.ensures.ok;
       up_to = c.add.ensures.up_to;
       takes = takes-again c.args.markers.now c.loop-word.markers c.add.new.markers (word_marker c.args.terms.now) (word_marker c.loop-word.terms) (word_marker c.add.new.terms)
           c.requires.before c.loop-word.invariant.takes c.add.ensures.takes;
@@ -45,7 +41,7 @@ loop-word-preserved c =
 pub add-requires-clause-later : goal.add-requires-clause-later
 add-requires-clause-later c =
     let added = subst (λ (left : Collected). AreAddedBut left c.args.found.entries c.args.id c.args.terms.now c.loop-word.terms) c.in-Some.ensures.steps c.loop-word.invariant.added in
-    front-later c.in-Some.word c.in-Some.codes c.next.new.self c.args.found.entries c.args.id c.args.terms.now c.loop-word.terms _ c.as_slice.ensures.value added c.requires.later
+    front-later c.in-Some.word c.in-Some.codes c.next.new.self c.args.found.entries c.args.id c.args.terms.now c.loop-word.terms _ refl added c.requires.later
 
 pub returns-in_err-add-clause-takes : goal.returns-in_err-add-clause-takes
 returns-in_err-add-clause-takes c =

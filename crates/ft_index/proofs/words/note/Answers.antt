@@ -20,12 +20,12 @@ returns-in-Some-clause-met c =
 pub returns-clause-codes : goal.returns-clause-codes
 returns-clause-codes c other =
     ap (λ (es : Collected). codes_of es other) c.in_ok-insert.ensures.entries
-    ∙ codes_of-first c.in_ok-name.name c.args.word.now other c.args.code c.in_ok-name.places _ c.args.found.now.entries
-    (ap (λ m. m.entries) c.get_mut.follows.holds-at-none) c.in_ok-name.ensures.word
-    c.in_ok-name.ensures.code (sym c.in_default.ensures.value)
+    ∙ codes_of-first c.args.word other c.args.code c.in_ok-places.places _ c.args.found.now.entries
+    (ap (λ m. m.entries) c.get_mut.follows.holds-at-none)
+    c.in_ok-places.ensures (sym c.in_default.ensures.value)
 
 pub returns-clause-met : goal.returns-clause-met
 returns-clause-met c met =
     subst AreMet (sym c.in_ok-insert.ensures.entries)
-    (met-first c.in_ok-name.name c.args.code c.in_ok-name.places _ c.args.found.now.entries (ap (λ m. m.entries) c.get_mut.follows.holds-at-none)
-    c.in_ok-name.ensures.code met)
+    (met-first c.args.word c.args.code c.in_ok-places.places _ c.args.found.now.entries (ap (λ m. m.entries) c.get_mut.follows.holds-at-none)
+    c.in_ok-places.ensures met)

@@ -8,7 +8,7 @@ use Rattle.id_iters.proofs.UnionLaws.{marked_more}
 use Rattle.id_iters.specs.Sets.{About, in_set, about, about_ahead}
 use Rattle.id_iters.proofs.Layers.{about_inner}
 use Rattle.id_iters.proofs.PartLaws.{depth_in, tries}
-use Rattle.id_iters.proofs.SeekLaws.{kept_answers, not_kept_ready, ahead_asked, leaf_sound, leaf_ready, phrase_sound, phrase_ready, and_parts_at, or_union_at, not_part_at, deep_and, deep_or, deep_not, not_same, if_answer, on_same, ready_later, ahead_later, and_ready, or_ready, not_ready}
+use Rattle.id_iters.proofs.SeekLaws.{kept_answers, not_kept_ready, ahead_asked, leaf_sound, leaf_ready, phrase_sound, phrase_ready, and_parts_at, or_union_at, not_part_at, deep_and, deep_or, deep_not, not_same, if_answer, on_same, ready_later, and_ready, or_ready, not_ready}
 use Rattle.std.specs.Box.{with_value}
 use Rattle.id_iters.specs.declared.iter.Iter.TheVariants as variant
 use Rattle.std.specs.List.{All}

@@ -8,4 +8,4 @@ returns-clause-reads c =
     let def = c.args.index.now.def in
     let docs = found_of c.args.query def c.args.store.now.space in
     reads-made (aggregate_of c.args.aggregate.now) def docs c.set_made.new.self.bytes c.rows_in-made.result c.args.store.now.reads c.rows_in-made.new.store.reads
-    c.rows_in-made.ensures.reply c.rows_in-made.ensures.reads c.rows_in-made.ensures.rises c.set_made.ensures.told
+    c.rows_in-made.ensures.reply c.rows_in-made.ensures.reads c.rows_in-made.ensures.store.rises c.set_made.ensures.told

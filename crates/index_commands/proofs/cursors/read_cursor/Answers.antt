@@ -32,7 +32,7 @@ returns-clause-prepares c =
     (sym (ap (λ (h : Holding). h.cursors) is) ∙ seen-all inside.opens inside.cursors inside.next c.held.invariant.kept none) in
     let same = quiet-waits change c.read_in.new.store.ready None state c.read_in.ensures.quiet ∙ ap (λ (o : Option Cursor). changed change c.read_in.new.store.ready o state) (sym none) in
     prepares-quiet _ held _ _ change c.read_in.ensures.quiet (record {
-      space = c.read_in.ensures.space ∙ ap (λ (h : Holding). h.space) is;
+      space = c.read_in.ensures.store.space ∙ ap (λ (h : Holding). h.space) is;
       definitions = ap (λ (h : Holding). definitions_of h.indexes) is;
       cursors = ap (λ (h : Holding). h.cursors) is;
       latest = ap (λ (h : Holding). h.latest) is;

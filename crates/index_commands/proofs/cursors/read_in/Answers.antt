@@ -1,12 +1,10 @@
 use Rattle.std.proofs.Common.{◌∙◌, ap, sym, arith}
 use Rattle.cursor_book.specs.Cursors.{cursor_of}
 use Rattle.ft_base.specs.declared.definition.IndexDef.{IndexDef}
-use Rattle.ft_machine.specs.Step.{last_number}
 use Rattle.index_commands.proofs.CursorLaws.{found-place, reads-next, reads-none, reads-unknown}
 use Rattle.index_commands.proofs.IndexCommandLaws.{named-none, named-some}
-use Rattle.indexed_store.proofs.NamedLaws.{named-has}
 use Rattle.indexed_store.specs.DefinitionsOf.{defined}
-use Rattle.indexed_store.specs.Standing.{IndexStands, markers_at}
+use Rattle.index_commands.proofs.SearchLaws.{readable}
 use Rattle.index_commands.proofs.cursors.read_in.Goals as goal
 
 pub returns-in_default-clause-does : goal.returns-in_default-clause-does
@@ -18,13 +16,8 @@ read_next-requires-clause-id c =
     let place = found-place c.def.result.now.serial c.args.id c.args.cursors.now c.in-Some-find.cursor.now (sym c.in-Some-find.ensures) in
     omega (arith, place.1, c.requires.id)
 
-pub read_next-requires-clause-stands : goal.read_next-requires-clause-stands
-read_next-requires-clause-stands c =
-    (named-has (IndexStands c.args.store.now.space last_number (markers_at last_number)) c.args.indexes.now c.args.name.now c.in-Some.index.now c.requires.step.stand (sym c.in-Some.ensures)).documents
-
-pub read_next-requires-clause-few : goal.read_next-requires-clause-few
-read_next-requires-clause-few c =
-    (named-has (IndexStands c.args.store.now.space last_number (markers_at last_number)) c.args.indexes.now c.args.name.now c.in-Some.index.now c.requires.step.stand (sym c.in-Some.ensures)).earlier
+pub read_next-requires-clause-readable : goal.read_next-requires-clause-readable
+read_next-requires-clause-readable c = readable c.args.store.now c.args.indexes.now c.args.name.now c.in-Some.index.now c.requires.step c.in-Some.ensures
 
 pub returns-in-Some-find-clause-does : goal.returns-in-Some-find-clause-does
 returns-in-Some-find-clause-does c number state space same cursors =

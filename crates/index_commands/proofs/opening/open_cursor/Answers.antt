@@ -26,11 +26,11 @@ returns-in-Some-clause-prepares c =
     let what = aggregate_of c.args.asked in
     let does = c.in-Some.ensures.does (state_of held) (sym (ap (λ (h : Holding). h.space) is)) (ap definitions_of (sym (ap (λ (h : Holding). h.indexes) is) ∙ sym c.as_slice.ensures.value)) in
     opens-prepares what c.args.cursor held _ c.keep.new.held c.in-Some.first c.read_first-first.new.reply.bytes c.keep.new.reply.bytes c.keep.result (record {
-      space = c.in-Some.ensures.space ∙ ap (λ (h : Holding). h.space) is;
+      space = c.in-Some.ensures.store.space ∙ ap (λ (h : Holding). h.space) is;
       indexes = ap (λ (h : Holding). h.indexes) is;
       cursors = ap (λ (h : Holding). h.cursors) is;
       latest = ap (λ (h : Holding). h.latest) is;
-      waits = c.in-Some.ensures.ready ∙ ap (λ (h : Holding). h.waits) is;
+      waits = c.in-Some.ensures.store.ready ∙ ap (λ (h : Holding). h.waits) is;
       opens = ap (λ (h : Holding). h.opens) is;
       next = ap (λ (h : Holding). h.next) is;
     }) (subst (λ (n : ℕ). DoesFirst what c.args.cursor n (state_of held) (Some c.in-Some.first) c.read_first-first.new.reply.bytes) (ap (λ (h : Holding). h.next) is) does) c.keep.ensures.kept
@@ -42,7 +42,7 @@ returns-in-None-clause-prepares c =
     let what = aggregate_of c.args.asked in
     let does = c.in-None.ensures.does (state_of held) (sym (ap (λ (h : Holding). h.space) is)) (ap definitions_of (sym (ap (λ (h : Holding). h.indexes) is) ∙ sym c.as_slice.ensures.value)) in
     prepares-quiet _ held _ _ _ refl (record {
-      space = c.in-None.ensures.space ∙ ap (λ (h : Holding). h.space) is;
+      space = c.in-None.ensures.store.space ∙ ap (λ (h : Holding). h.space) is;
       definitions = ap (λ (h : Holding). definitions_of h.indexes) is;
       cursors = ap (λ (h : Holding). h.cursors) is;
       latest = ap (λ (h : Holding). h.latest) is;

@@ -1,20 +1,13 @@
 use Rattle.std.proofs.Common.{sym}
 use Rattle.cmd_parse.specs.Aggregating.{aggregate_of}
-use Rattle.ft_machine.specs.Step.{last_number}
 use Rattle.index_commands.proofs.AggregateLaws.{aggregate_query, is-aggregate}
 use Rattle.index_commands.proofs.AnsweringLaws.{queries-fault_of, queries-given, queries-none}
 use Rattle.index_commands.proofs.OpeningLaws.{first-does, gives-opened}
-use Rattle.indexed_store.proofs.NamedLaws.{named-has}
-use Rattle.indexed_store.specs.Standing.{IndexStands, markers_at}
+use Rattle.index_commands.proofs.SearchLaws.{readable}
 use Rattle.index_commands.proofs.opening.read_first.Goals as goal
 
-pub read_new-requires-clause-stands : goal.read_new-requires-clause-stands
-read_new-requires-clause-stands c =
-    (named-has (IndexStands c.args.store.now.space last_number (markers_at last_number)) c.args.indexes.now c.args.asked.index.now c.in-Some.index.now c.requires.step.stand (sym c.in-Some.ensures)).documents
-
-pub read_new-requires-clause-few : goal.read_new-requires-clause-few
-read_new-requires-clause-few c =
-    (named-has (IndexStands c.args.store.now.space last_number (markers_at last_number)) c.args.indexes.now c.args.asked.index.now c.in-Some.index.now c.requires.step.stand (sym c.in-Some.ensures)).earlier
+pub read_new-requires-clause-readable : goal.read_new-requires-clause-readable
+read_new-requires-clause-readable c = readable c.args.store.now c.args.indexes.now c.args.asked.index.now c.in-Some.index.now c.requires.step c.in-Some.ensures
 
 pub returns-in_default-clause-does : goal.returns-in_default-clause-does
 returns-in_default-clause-does c state all same =

@@ -2,21 +2,13 @@ use Rattle.std.proofs.Common.{inl, inr, refl, sym}
 use Rattle.cmd_parse.specs.Seen.{search_of}
 use Rattle.ft_machine.specs.Indexes.{unknown_index}
 use Rattle.ft_machine.specs.Searching.{search_reply}
-use Rattle.ft_machine.specs.Step.{last_number}
 use Rattle.index_commands.proofs.AnsweringLaws.{queries-fault_of, queries-found, queries-none}
-use Rattle.index_commands.proofs.SearchLaws.{gives-shown, is-search, search_query}
-use Rattle.indexed_store.proofs.NamedLaws.{named-has}
-use Rattle.indexed_store.specs.Standing.{IndexStands, markers_at}
+use Rattle.index_commands.proofs.SearchLaws.{gives-shown, is-search, readable, search_query}
 use Rattle.query_grammar.specs.Refusals.{query_refusal}
 use Rattle.index_commands.proofs.search.answer_in.Goals as goal
 
-pub answer_parsed-requires-clause-stands : goal.answer_parsed-requires-clause-stands
-answer_parsed-requires-clause-stands c =
-    (named-has (IndexStands c.args.store.now.space last_number (markers_at last_number)) c.args.indexes.now c.args.search.now.index.now c.in-Some.index.now c.requires.step.stand (sym c.in-Some.ensures)).documents
-
-pub answer_parsed-requires-clause-few : goal.answer_parsed-requires-clause-few
-answer_parsed-requires-clause-few c =
-    (named-has (IndexStands c.args.store.now.space last_number (markers_at last_number)) c.args.indexes.now c.args.search.now.index.now c.in-Some.index.now c.requires.step.stand (sym c.in-Some.ensures)).earlier
+pub answer_parsed-requires : goal.answer_parsed-requires
+answer_parsed-requires c = record { readable = readable c.args.store.now c.args.indexes.now c.args.search.now.index.now c.in-Some.index.now c.requires.step c.in-Some.ensures }
 
 pub returns-in_default-clause-does : goal.returns-in_default-clause-does
 returns-in_default-clause-does c number state all same =

@@ -9,4 +9,4 @@ returns-clause-reads c =
     let def = c.args.index.now.def in
     let docs = counted what c.args.query def c.args.store.now.space in
     reads-found what def docs c.set_made.new.self.bytes c.found_joined-found.result c.args.store.now.reads c.found_joined-found.new.store.reads
-    c.found_joined-found.ensures.reply c.found_joined-found.ensures.reads c.found_joined-found.ensures.rises c.set_made.ensures.told
+    c.found_joined-found.ensures.shows c.found_joined-found.ensures.store.rises c.set_made.ensures.told

@@ -11,7 +11,7 @@ use Rattle.indexed_store.proofs.dropping.drop_members.Goals as goal
 
 pub returns-in-Some-clause-space : goal.returns-in-Some-clause-space
 returns-in-Some-clause-space c next step =
-    c.remove_live.ensures.space ∙ members-removed c.args.store.now.space next c.args.indexes.now.items c.args.name.now c.in-Some.index step.stand (sym c.in-Some.ensures.taken)
+    c.remove_live.ensures.space ∙ members-removed c.args.store.now.space next c.args.indexes.now.items c.args.name.now c.in-Some.index step.documents step.stand (sym c.in-Some.ensures.taken)
 
 pub returns-in-Some-clause-definitions : goal.returns-in-Some-clause-definitions
 returns-in-Some-clause-definitions c =

@@ -1,13 +1,13 @@
-use Rattle.std.specs.Prelude.{◌≡◌, ℕ, map, length}
+use Rattle.std.specs.Prelude.{◌≡◌, ℕ, fold, map, length}
 use Rattle.indexed_store.specs.DefinitionsOf.{definitions_of}
-use Rattle.ft_machine.specs.Definitions.{without_keys}
+use Rattle.hash_store.specs.Erasing.{erase_id}
 use Rattle.indexed_store.specs.Standing.{InStep}
 use Rattle.indexed_store.proofs.dropping.remove_live.Given as goal
 
 -- what is left to remove are the rows that are still live
 abbrev pub invariant-removing : goal.invariant-removing
 invariant-removing l = record {
-  left : without_keys l.store.space (map (λ row. row.1) l.dropped.table.live) ≡ without_keys l.fn.store.space (map (λ row. row.1) l.fn.dropped.table.live);
+  left : fold erase_id l.store.space (map (λ row. row.0) l.dropped.table.live) ≡ fold erase_id l.fn.store.space (map (λ row. row.0) l.fn.dropped.table.live);
   rest : l.store ≡ record l.fn.store { space = l.store.space };
   kept : (next : ℕ) → InStep l.fn.store l.fn.indexes next → InStep l.store l.indexes next;
   definitions : definitions_of l.indexes ≡ definitions_of l.fn.indexes;

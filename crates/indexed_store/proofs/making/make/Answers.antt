@@ -4,13 +4,14 @@ use Rattle.ft_index.specs.Index.{Index}
 use Rattle.ft_machine.specs.Definitions.{Defined, index_of, without_index, without_members}
 use Rattle.indexed_store.specs.DefinitionsOf.{definitions_of}
 use Rattle.std.specs.Prelude.{◌≡◌, ◌+◌, None, length}
+use Rattle.hash_store.specs.Store.{Store}
 use Rattle.ft_machine.specs.Step.{next_number}
 use Rattle.cursor_book.specs.declared.cursor.Cursor.{Cursor}
 use Rattle.indexed_store.specs.Changing.{changed, without_cursors_of}
 use Rattle.indexed_store.specs.States.{state_with}
 use Rattle.indexed_store.specs.declared.change.Change.{Change}
 use Rattle.indexed_store.specs.declared.change.Change.TheVariants.{Alter, Move, Write}
-use Rattle.indexed_store.proofs.ChangingLaws.{altered-apart, altered-stands, created-step, lent-step, made-before, whole-step}
+use Rattle.indexed_store.proofs.ChangingLaws.{altered-apart, altered-stands, created-step, flushed-step, lent-step, made-before, whole-step}
 use Rattle.indexed_store.proofs.making.make.Goals as goal
 
 pub settle-requires-clause-kept : goal.settle-requires-clause-kept
@@ -80,3 +81,8 @@ returns-in-DropMembers-clause-state c =
     ∙ (ap (λ (ds : List Defined). record { space = without_members index old.space; definitions = ds; cursors = c.drop_cursors-in-DropMembers.new.cursors; latest = c.args.latest }) c.drop_members.ensures.definitions
     ∙ (ap (λ (cursors : List Cursor). record { space = without_members index old.space; definitions = without_index old.definitions c.in-DropMembers.name.now; cursors = cursors; latest = c.args.latest }) cursors
     ∙ ap (λ (change : Change). changed change c.args.store.now.ready None old) (sym c.in-DropMembers.is)))
+
+pub returns-in-Flush-clause-kept : goal.returns-in-Flush-clause-kept
+returns-in-Flush-clause-kept c =
+    flushed-step c.args.store.now c.clear.new.self c.args.indexes.now.items c.clear-in-Flush.new.self.items (next_number c.args.number) (ap (λ (s : Store). s.space) c.clear.ensures) (ap (λ (s : Store). s.last) c.clear.ensures) c.clear-in-Flush.ensures.items
+    c.requires.kept

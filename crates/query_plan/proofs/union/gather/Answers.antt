@@ -1,4 +1,4 @@
-use Rattle.std.proofs.Common.{◌≡◌, length, length-append, ap, arith}
+use Rattle.std.proofs.Common.{length, length-append, ap, arith}
 use Rattle.query_plan.proofs.UnionLaws.{gathers_more}
 use Rattle.query_plan.proofs.union.gather.Goals as goal
 

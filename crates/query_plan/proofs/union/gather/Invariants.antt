@@ -1,4 +1,4 @@
-use Rattle.std.proofs.Common.{◌≤◌, ◌+◌, ◌<◌, length}
+use Rattle.std.proofs.Common.{◌≤◌, ◌+◌, length}
 use Rattle.query_plan.specs.Groups.{Gathers}
 use Rattle.query_plan.proofs.union.gather.Given as goal
 

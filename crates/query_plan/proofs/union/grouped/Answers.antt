@@ -1,4 +1,4 @@
-use Rattle.std.proofs.Common.{◌≡◌, length, length-append, ap, arith}
+use Rattle.std.proofs.Common.{length, length-append, ap, arith}
 use Rattle.query_plan.proofs.UnionLaws.{group_more, joins_again}
 use Rattle.query_plan.proofs.union.grouped.Goals as goal
 

@@ -17,5 +17,5 @@ returns-clause-reply g c =
 pub returns-clause-reads : goal.returns-clause-reads
 returns-clause-reads g c =
     let what = search_of c.args.search.now in
-    subst (λ (docs : List Doc). OnOk c.reply_of-reply.result (c.reply_of-reply.new.store.reads ≡ reads_after c.args.store.now.reads (reads_for what (length docs))))
+    subst (λ (docs : List Doc). OnOk c.reply_of-reply.result (c.reply_of-reply.new.store.reads ≡ reads_after c.args.store.now.reads (reads_for what c.args.def.now (length docs))))
     c.in_ok-candidates.ensures.docs c.reply_of-reply.ensures.reads

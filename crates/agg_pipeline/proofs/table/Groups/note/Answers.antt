@@ -1,7 +1,7 @@
 use Rattle.std.proofs.Common.{◌≡◌, ◌∙◌, ◌++◌, None, ap, sym}
 use Rattle.std.specs.Map.{lookup}
 use Rattle.indexmap.proofs.MapLemmas.{OnOk-map}
-use Rattle.agg_pipeline.specs.LentRow.{row_of}
+use Rattle.expr_eval.specs.Lending.{row_of}
 use Rattle.agg_pipeline.specs.Spellings.{is_kept}
 use Rattle.agg_pipeline.specs.Table.{Table, note_row, tuple_key}
 use Rattle.agg_pipeline.proofs.TableLaws.{first_noted, none_from, stepped_there}

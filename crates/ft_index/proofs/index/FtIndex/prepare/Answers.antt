@@ -1,5 +1,6 @@
 -- A document that is no member changes nothing that is seen; a member enters the lists.
 use Rattle.std.proofs.Common.{ℕ, List, ◌≡◌, ◌∙◌, ◌⊎◌, Some, ap, sym, subst, inl, inr, refl, arith}
+use Rattle.doc_table.specs.Table.{Vector}
 use Rattle.ft_meaning.specs.Member.{members}
 use Rattle.ft_index.specs.Has.{Has}
 use Rattle.ft_index.specs.Fits.{fit_of}
@@ -48,14 +49,14 @@ returns-in_err-enter-clause-unseen c docs stands =
     let inside = the_view c.self.inside in
     let before : Indexes inside docs = subst (λ (i : Index). Indexes i docs) (sym c.self.view_is) stands in
     let has = c.enter.ensures.unseen (members inside.def docs) before in
-    subst (λ (rows : List (ℕ × List ℕ)). Has inside.def rows c.enter.new.lists (members inside.def docs)) (sym c.enter.ensures.live) has
+    subst (λ (rows : List (ℕ × Vector)). Has inside.def rows c.enter.new.lists (members inside.def docs)) (sym c.enter.ensures.live) has
 
 pub returns-clause-unseen : goal.returns-clause-unseen
 returns-clause-unseen c docs stands =
     let inside = the_view c.self.inside in
     let before : Indexes inside docs = subst (λ (i : Index). Indexes i docs) (sym c.self.view_is) stands in
     let has = c.enter.ensures.unseen (members inside.def docs) before in
-    subst (λ (rows : List (ℕ × List ℕ)). Has inside.def rows c.enter.new.lists (members inside.def docs)) (sym c.enter.ensures.live) has
+    subst (λ (rows : List (ℕ × Vector)). Has inside.def rows c.enter.new.lists (members inside.def docs)) (sym c.enter.ensures.live) has
 
 pub returns-clause-seen : goal.returns-clause-seen
 returns-clause-seen c docs stands =

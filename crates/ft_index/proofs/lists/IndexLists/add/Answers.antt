@@ -145,9 +145,9 @@ returns c =
           (all-unseen def doc.id old new c.add_words.ensures.unseen c.add_tags.ensures.unseen
           (lent (λ was now. IsUnseen doc.id (RangesHaveAll def was) (RangesHaveAll def now)) _ _ _ _ c.as_mut_slice.ensures.value written c.add_numbers.ensures.unseen));
       seen = on_ok_weaker c.add_numbers.result (λ seen.
-          subst (λ (lists : AllLists). IsSeen doc (λ live docs. Has def live lists docs) (λ live docs. Has def live new docs)) c.self.view_is
+          subst (λ (lists : AllLists). IsSeen def doc (λ live docs. Has def live lists docs) (λ live docs. Has def live new docs)) c.self.view_is
           (all-seen def doc old new c.in_ok-add_words.ensures.seen c.in_ok-add_tags.ensures.seen
-          (lent (λ was now. IsSeen doc (RangesHaveAll def was) (RangesHaveAll def now)) _ _ _ _ c.as_mut_slice.ensures.value written seen)))
+          (lent (λ was now. IsSeen def doc (RangesHaveAll def was) (RangesHaveAll def now)) _ _ _ _ c.as_mut_slice.ensures.value written seen)))
           c.add_numbers.ensures.seen;
       up_to = record { words = c.add_words.ensures.up_to; tags = c.add_tags.ensures.up_to; ranges = subst (RangesUpTo doc.id) (sym written) c.add_numbers.ensures.up_to };
       differ = differ-taken c.args.markers.now c.add_numbers.new.markers old new differ takes;

@@ -1,10 +1,13 @@
 use Rattle.std.proofs.Common.{◌≡◌, ◌∙◌, sym, refl, Some, None, find, nat_lt}
 use Rattle.ft_base.specs.declared.doc.Doc.{Doc}
-use Rattle.hash_store.proofs.StoreLaws.{waits_last, find-space, unread, was_read}
+use Rattle.hash_store.proofs.StoreLaws.{own_ids, waits_last, find-space, unread, was_read}
 use Rattle.hash_store.proofs.store.HashStore.by_id_after.Goals as goal
 
 pub live_after-requires : goal.live_after-requires
-live_after-requires c = record { last = waits_last c.self.inside.pending c.self.inside.last c.self.inside.docs c.self.inside.ids.entries c.self.invariant }
+live_after-requires c = record {
+  last = waits_last c.self.inside.pending c.self.inside.last c.self.inside.docs c.self.inside.ids.entries c.self.invariant;
+  own = own_ids c.self.inside.last c.self.inside.docs c.self.invariant.sound;
+}
 
 pub returns-in_err-doc : goal.returns-in_err-doc
 returns-in_err-doc c =

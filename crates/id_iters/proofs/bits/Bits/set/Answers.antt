@@ -1,8 +1,8 @@
 use Rattle.std.specs.Prelude.{nat_eq, ◌||◌}
-use Rattle.std.proofs.Common.{◌≡◌, ◌≤◌, ◌<◌, ◌-◌, ◌+◌, ◌/◌, ◌*◌, ◌^◌, ◌%◌, ◌∙◌, ap, sym, subst, arith, get_or, length, bit_or, ℕ}
+use Rattle.std.proofs.Common.{◌≡◌, ◌≤◌, ◌<◌, ◌-◌, ◌/◌, ◌*◌, ◌^◌, ◌%◌, ◌∙◌, ap, sym, subst, arith, get_or, length, bit_or, ℕ}
 use Rattle.std.proofs.Math.ListN.{set}
 use Rattle.std.proofs.lemmas.Grind.{get_or_default_zero}
-use Rattle.id_iters.specs.Stretch.{Stretch, is_in, base_of}
+use Rattle.id_iters.specs.Stretch.{Stretch, is_in}
 use Rattle.id_iters.proofs.BitLaws.{one_more, stretch}
 use Rattle.id_iters.proofs.bits.Bits.set.Goals as goal
 

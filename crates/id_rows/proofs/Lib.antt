@@ -1,0 +1,3 @@
+-- What rows by rising ids obey.
+pub mod PlaceLaws
+pub mod IdRowsLaws

@@ -1,0 +1,2 @@
+-- Which things the rows have.
+pub mod IdRows

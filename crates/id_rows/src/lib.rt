@@ -1,0 +1,17 @@
+//! What has an id, in one vector by rising ids.
+//!
+//! Read `rows.rt`, then `specs/IdRows.antt`. How a row is found is in `places.rt`, and for who walks from id to id in
+//! `near.rt`.
+#![tactic(auto)]
+
+mod doc;
+mod has_id;
+mod near;
+mod places;
+mod row;
+mod rows;
+
+/// What has an id.
+pub use has_id::HasId;
+/// The things, each found by its id.
+pub use rows::IdRows;
