@@ -14,8 +14,8 @@ import subprocess
 import sys
 
 # What the gate may cost, in what it is made of.
-MOST_EDITS = 100
-MOST_EDITS_EACH = 6
+MOST_EDITS = 70
+MOST_EDITS_EACH = 4
 MOST_TESTS = 60
 
 MOST_LINES = 800

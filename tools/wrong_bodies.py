@@ -12,7 +12,7 @@ HEAD = """# Wrong bodies
 
 Each is one changed line that compiles and that the check has to refuse; the last column names the call and the clause
 that refuses it. Those with a dot are tried by the gate, from `crates/NAME/must-fail/`; the others stand in
-`crates/NAME/wrong/`, and `tools/try_wrong.sh NAME` tries them when the contracts of a crate change. `tools/wrong_bodies.py`
+`crates/NAME/wrong/`, and `tools/try_wrong.py NAME` tries them when the contracts of a crate change. `tools/wrong_bodies.py`
 writes this page from the edits.
 
 """

@@ -1,6 +1,6 @@
 -- Rows that come one by one, and the steps cut in two behind the first that take a row at a time.
-use Rattle.std.proofs.Common.{◌≡◌, ℕ, suc, ◌+◌, ◌≤◌, Bool, true, not, List, [], ◌∷◌, ◌++◌, map, length, take, Option, None, Some, Result, Ok, Err, IfOk, refl, sym, ap, subst, ◌∙◌, inl, inr, true≢false, ltb-false, arith}
-use Rattle.std.specs.Prelude.{fold, filter, nat_lt, slice_get}
+use Rattle.std.proofs.Common.{◌≡◌, ℕ, suc, ◌+◌, ◌≤◌, Bool, not, List, [], ◌∷◌, ◌++◌, map, length, take, Option, None, Some, Result, Ok, Err, IfOk, refl, sym, ap, subst, ◌∙◌, inl, inr, true≢false, ltb-false, arith}
+use Rattle.std.specs.Prelude.{filter, nat_lt, slice_get}
 use Rattle.std.specs.List.{list_all, position_or_len}
 use Rattle.std.specs.declared.alloc.Global.{Global}
 use Rattle.std.specs.declared.vec.Vec.{Vec}
@@ -18,14 +18,15 @@ use Rattle.agg_pipeline.specs.declared.step.Step.{Step}
 use Rattle.agg_pipeline.specs.declared.step.Step.TheVariants.{Apply, Group, Keep, Limit, Sort}
 use Rattle.agg_pipeline.specs.declared.feed.Feed.{Feed}
 use Rattle.agg_pipeline.specs.declared.feed.Made.{Made}
-use Rattle.agg_pipeline.specs.declared.feed.Made.TheVariants.{First, Rows}
+use Rattle.agg_pipeline.specs.declared.feed.Made.TheVariants.{First, Groups, Rows}
 use Rattle.agg_pipeline.specs.declared.step.Reducer.{Reducer}
-use Rattle.agg_pipeline.specs.Feeding.{Holds, IsMade, first_count, first_made, first_steps, later_steps}
+use Rattle.agg_pipeline.specs.Feeding.{EndsWith, Gains, Holds, IsMade, first_count, first_made, first_steps, later_steps}
+use Rattle.agg_pipeline.specs.OneByOne.{rows_of}
 use Rattle.agg_pipeline.specs.Ranking.{AreFirst, rows_held}
 use Rattle.agg_pipeline.specs.Rows.{loaded}
 use Rattle.agg_pipeline.specs.Steps.{applied, is_kept, piped, step_rows}
-use Rattle.agg_pipeline.specs.Stream.{is_of_rows}
-use Rattle.agg_pipeline.specs.Table.{Table, finished_row, note_row}
+use Rattle.agg_pipeline.specs.Stream.{AreOfRows, is_of_rows}
+use Rattle.agg_pipeline.specs.Table.{Table, finished_row}
 use Rattle.agg_pipeline.proofs.GroupLaws.{finished_groups, table_is}
 use Rattle.agg_pipeline.proofs.RankingLaws.{rows-held, some-is}
 
@@ -46,7 +47,7 @@ count-is steps =
           rw none same
     ]
 
-taken-of-rows : (steps : List Step) → list_all is_of_rows (take (position_or_len stops steps) steps) ≡ true
+taken-of-rows : (steps : List Step) → AreOfRows (take (position_or_len stops steps) steps)
 taken-of-rows [] = refl
 taken-of-rows (Group by reduce ∷ steps) = refl
 taken-of-rows (Sort keys max ∷ steps) = refl
@@ -57,7 +58,7 @@ taken-of-rows (Keep expr ∷ steps) =
     let next : 1 + position_or_len stops steps ≡ suc (position_or_len stops steps) = omega arith in rw next (taken-of-rows steps)
 
 -- they take a row at a time
-first-of-rows : (steps : List Step) → list_all is_of_rows (first_steps steps) ≡ true
+first-of-rows : (steps : List Step) → AreOfRows (first_steps steps)
 first-of-rows steps = ap (λ n. list_all is_of_rows (take n steps)) (count-is steps) ∙ taken-of-rows steps
 
 -- the later steps go on with what the first made
@@ -68,7 +69,7 @@ piped-behind def steps rows =
 
 -- ---- rows that come one by one
 
-pub piped-append : (def : IndexDef) (steps : List Step) → list_all is_of_rows steps ≡ true → (xs ys : List Row) → piped def steps (xs ++ ys) ≡ piped def steps xs ++ piped def steps ys
+pub piped-append : (def : IndexDef) (steps : List Step) → AreOfRows steps → (xs ys : List Row) → piped def steps (xs ++ ys) ≡ piped def steps xs ++ piped def steps ys
 piped-append def [] all xs ys = refl
 piped-append def (Apply expr name ∷ steps) all xs ys =
     ap (piped def steps) (map-append (applied def expr name) xs ys)
@@ -82,7 +83,7 @@ piped-append def (Limit offset num ∷ steps) all xs ys = absurd (true≢false (
 
 -- what the first steps made, once one more document came
 made-next : (def : IndexDef) (load : Load) (steps : List Step) (docs : List Doc) (doc : Doc)
-    → first_made def load steps (docs ++ doc ∷ []) ≡ first_made def load steps docs ++ piped def (first_steps steps) (loaded load def doc ∷ [])
+    → first_made def load steps (docs ++ doc ∷ []) ≡ first_made def load steps docs ++ rows_of def load (first_steps steps) (doc ∷ [])
 made-next def load steps docs doc =
     ap (piped def (first_steps steps)) (map-append (loaded load def) docs (doc ∷ []))
     ∙ piped-append def (first_steps steps) (first-of-rows steps) (map (loaded load def) docs) (loaded load def doc ∷ [])
@@ -90,23 +91,22 @@ made-next def load steps docs doc =
 -- ---- a feed
 
 module _ (def : IndexDef) (load : Load) (steps : List Step) (docs : List Doc) (feed : Feed) (holds : Holds def load steps docs feed) where
-  of-rows : list_all is_of_rows feed.first.now ≡ true
+  of-rows : AreOfRows feed.first.now
   of-rows = ap (list_all is_of_rows) holds.first ∙ first-of-rows steps
 
   -- the rows that are held, once one more document came
   pub rows-next : (doc : Doc) (rows now : Vec Row Global) → feed.made ≡ Rows rows
-      → (list_all is_of_rows feed.first.now ≡ true → now.items ≡ rows.items ++ piped feed.def.now feed.first.now (loaded feed.load.now feed.def.now doc ∷ []))
+      → (AreOfRows feed.first.now → now.items ≡ rows.items ++ rows_of feed.def.now feed.load.now feed.first.now (doc ∷ []))
       → now.items ≡ first_made def load steps (docs ++ doc ∷ [])
   rows-next doc rows now is told =
       let held : rows.items ≡ first_made def load steps docs = subst (IsMade def (later_steps steps) (first_made def load steps docs)) is holds.made in
-      let pushed : now.items ≡ rows.items ++ piped def (first_steps steps) (loaded load def doc ∷ []) =
+      let pushed : now.items ≡ rows.items ++ rows_of def load (first_steps steps) (doc ∷ []) =
       rw (← holds.first, ← holds.load_same, ← holds.def_same) (told of-rows) in
-      pushed ∙ ap (λ (made : List Row). made ++ piped def (first_steps steps) (loaded load def doc ∷ [])) held ∙ sym (made-next def load steps docs doc)
+      pushed ∙ ap (λ (made : List Row). made ++ rows_of def load (first_steps steps) (doc ∷ [])) held ∙ sym (made-next def load steps docs doc)
 
   -- the same of groups and of first rows
   pub held-next : (doc : Doc) (held now : Made) → feed.made ≡ held
-      → (list_all is_of_rows feed.first.now ≡ true → (rows : List Row) → IsMade feed.def.now feed.later.now rows held
-      → IsMade feed.def.now feed.later.now (rows ++ piped feed.def.now feed.first.now (loaded feed.load.now feed.def.now doc ∷ [])) now)
+      → (AreOfRows feed.first.now → Gains feed.def.now feed.later.now (rows_of feed.def.now feed.load.now feed.first.now (doc ∷ [])) held now)
       → IsMade def (later_steps steps) (first_made def load steps (docs ++ doc ∷ [])) now
   held-next doc held now is told =
       let was : IsMade def (later_steps steps) (first_made def load steps docs) held = subst (IsMade def (later_steps steps) (first_made def load steps docs)) is holds.made in
@@ -115,36 +115,33 @@ module _ (def : IndexDef) (load : Load) (steps : List Step) (docs : List Doc) (f
       (noted (first-of-rows steps) (first_made def load steps docs) was)
 
   -- what is made of all that is held
-  pub finished : (made : List Row) → ((rows : List Row) → IsMade feed.def.now feed.later.now rows feed.made → made ≡ piped feed.def.now feed.later.now rows)
-      → made ≡ piped def steps (map (loaded load def) docs)
+  pub finished : (made : List Row) → EndsWith feed.def.now feed.later.now feed.made made → made ≡ rows_of def load steps docs
   finished made told =
       let all = rw (holds.later, holds.def_same) at told in
       all (first_made def load steps docs) holds.made ∙ piped-behind def steps (map (loaded load def) docs)
 
 -- the rows of a GROUPBY's groups go through the steps behind it
-pub groups-finished : (def : IndexDef) (by : List (List ℕ)) (reduce : List Reducer) (behind : List Step) (table : Table) (rows : List Row)
-    → table ≡ fold (note_row def by reduce) [] rows → piped def behind (map (finished_row reduce) table) ≡ piped def (Group by reduce ∷ behind) rows
+pub groups-finished : (def : IndexDef) (by : List (List ℕ)) (reduce : List Reducer) (behind : List Step) (table : Table)
+    → EndsWith def (Group by reduce ∷ behind) (Groups table) (piped def behind (map (finished_row reduce) table))
 groups-finished def by reduce behind table rows noted =
     ap (piped def behind)
     (ap (map (finished_row reduce)) (noted ∙ table_is def by reduce rows) ∙ finished_groups def by reduce rows)
 
 -- the first rows of a SORTBY, where it comes first among the later steps
-pub sort-held : (def : IndexDef) (later : List Step) (keys : List SortKey) (most : ℕ) (rows more : List Row) (held now : Option (FirstRows Row))
-    → Some (Sort keys (Some most)) ≡ slice_get later 0 → (AreFirst def keys most rows held → AreFirst def keys most (rows ++ more) now)
-    → IsMade def later rows (First held) → IsMade def later (rows ++ more) (First now)
-sort-held def [] keys most rows more held now is goes_on made = absurd made
-sort-held def (step ∷ later) keys most rows more held now is goes_on made =
-    subst (λ (s : Step). IsMade def (s ∷ later) rows (First held) → IsMade def (s ∷ later) (rows ++ more) (First now)) (some-is is) goes_on made
+pub sort-held : (def : IndexDef) (later : List Step) (keys : List SortKey) (most : ℕ) (more : List Row) (held now : Option (FirstRows Row)) → Some (Sort keys (Some most)) ≡ slice_get later 0
+    → ((rows : List Row) → AreFirst def keys most rows held → AreFirst def keys most (rows ++ more) now) → Gains def later more (First held) (First now)
+sort-held def [] keys most more held now is goes_on = λ rows made. absurd made
+sort-held def (step ∷ later) keys most more held now is goes_on = subst (λ (s : Step). Gains def (s ∷ later) more (First held) (First now)) (some-is is) goes_on
 
 -- the first rows of a SORTBY go through the steps behind it
-pub first-finished : (def : IndexDef) (step : Step) (behind : List Step) (rows : List Row) (held : Option (FirstRows Row))
-    → IsMade def (step ∷ behind) rows (First held) → piped def behind (rows_held held) ≡ piped def (step ∷ behind) rows
-first-finished def (Sort keys (Some most)) behind rows held made = ap (piped def behind) (rows-held def keys most rows held made)
-first-finished def (Sort keys None) behind rows held made = absurd made
-first-finished def (Group by reduce) behind rows held made = absurd made
-first-finished def (Apply expr name) behind rows held made = absurd made
-first-finished def (Keep expr) behind rows held made = absurd made
-first-finished def (Limit offset num) behind rows held made = absurd made
+pub first-finished : (def : IndexDef) (step : Step) (behind : List Step) (held : Option (FirstRows Row))
+    → EndsWith def (step ∷ behind) (First held) (piped def behind (rows_held held))
+first-finished def (Sort keys (Some most)) behind held rows made = ap (piped def behind) (rows-held def keys most rows held made)
+first-finished def (Sort keys None) behind held rows made = absurd made
+first-finished def (Group by reduce) behind held rows made = absurd made
+first-finished def (Apply expr name) behind held rows made = absurd made
+first-finished def (Keep expr) behind held rows made = absurd made
+first-finished def (Limit offset num) behind held rows made = absurd made
 
 pub IfOk-map : {T E : Type 0} (r : Result T E) (P Q : T → Type 0) → ((x : T) → P x → Q x) → IfOk r P → IfOk r Q
 IfOk-map (Ok x) P Q f h = f x h

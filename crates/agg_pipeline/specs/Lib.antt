@@ -5,6 +5,7 @@ pub mod Grouping
 pub mod Groups
 pub mod Keyed
 pub mod Made
+pub mod OneByOne
 pub mod Ranking
 pub mod Reduce
 pub mod RowMade

@@ -1,5 +1,6 @@
 -- What reducers made of the values so far, and what they give in the end.
 use Rattle.std.specs.Prelude.{ℕ, pos, ◌+◌, List, [], ◌∷◌, length, map, Option, None, Some, unwrap_or, if◌then◌else◌}
+use Rattle.std.specs.Coded.{Coded, coded_list}
 use Rattle.std.specs.Str.{bytes_eq}
 use Rattle.ft_base.specs.declared.definition.IndexDef.{IndexDef}
 use Rattle.ft_base.specs.declared.row.Cell.{Cell}
@@ -7,6 +8,7 @@ use Rattle.ft_base.specs.declared.row.Row.{Row}
 use Rattle.ft_base.specs.declared.row.Value.{Value}
 use Rattle.ft_base.specs.declared.row.Value.TheVariants as value
 use Rattle.expr_eval.specs.Values.{num_or_null, whole}
+use Rattle.agg_pipeline.specs.contracts.state.State.{the_row as state_row}
 use Rattle.agg_pipeline.specs.declared.state.State.{State}
 use Rattle.agg_pipeline.specs.declared.state.State.TheVariants as so_far
 use Rattle.agg_pipeline.specs.declared.step.ReduceKind.{ReduceKind}
@@ -82,6 +84,10 @@ step (so_far.First first) v = so_far.First (keep_first first v)
 
 abbrev pub ListOfStates : Type 0
 ListOfStates = List State
+
+-- they are stored as a list
+abbrev pub states_code : Coded ListOfStates
+states_code = coded_list state_row.coded
 
 -- what the reducers made of the rows
 abbrev pub made_all : IndexDef → List Reducer → List Row → List State

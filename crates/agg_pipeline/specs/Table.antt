@@ -1,6 +1,7 @@
 -- What a table of groups holds while rows come.
-use Rattle.std.specs.Prelude.{ℕ, List, [], ◌∷◌, map, Option, None, Some}
+use Rattle.std.specs.Prelude.{◌≡◌, ℕ, List, [], ◌∷◌, map, Option, None, Some}
 use Rattle.std.specs.Coded.{Coded, coded×, coded_list, coded_option, coded_ℕ}
+use Rattle.std.specs.Map.{lookup}
 use Rattle.std.specs.Str.{bytes_eq}
 use Rattle.std.specs.declared.alloc.Global.{Global}
 use Rattle.std.specs.declared.vec.Vec.{Vec}
@@ -8,15 +9,15 @@ use Rattle.ft_base.specs.contracts.row.Cell.{the_row as cell_row}
 use Rattle.ft_base.specs.declared.definition.IndexDef.{IndexDef}
 use Rattle.ft_base.specs.declared.row.Cell.{Cell}
 use Rattle.ft_base.specs.declared.row.Row.{Row}
-use Rattle.agg_pipeline.specs.contracts.state.State.{the_row as state_row}
 use Rattle.agg_pipeline.specs.declared.state.State.{State}
 use Rattle.agg_pipeline.specs.declared.step.Reducer.{Reducer}
 use Rattle.agg_pipeline.specs.declared.table.Group.{Group}
 use Rattle.agg_pipeline.specs.Equal.{spelled_all}
 use Rattle.agg_pipeline.specs.Keyed.{by_key, note}
-use Rattle.agg_pipeline.specs.Made.{finished_cells, made_all, starts, states_step}
+use Rattle.agg_pipeline.specs.Made.{finished_cells, made_all, starts, states_code, states_step}
 use Rattle.agg_pipeline.specs.Grouping.{tuple_cells, tuple_of}
 use Rattle.agg_pipeline.specs.Rows.{set_cells}
+use Rattle.agg_pipeline.specs.Spellings.{is_kept}
 
 -- What was made of a group's rows: its cells of GROUPBY, as its first row gives them, and of each reducer.
 abbrev pub Making : Type 0
@@ -29,7 +30,7 @@ Table = List (List ℕ × Making)
 -- a table is stored as a list of pairs
 abbrev pub table_code : Coded Table
 table_code =
-    coded_list (coded× (coded_list coded_ℕ) (coded× (coded_option (coded_list cell_row.coded)) (coded_list state_row.coded)))
+    coded_list (coded× (coded_list coded_ℕ) (coded× (coded_option (coded_list cell_row.coded)) states_code))
 
 -- the spelling of a row's values
 abbrev pub tuple_key : IndexDef → List (List ℕ) → Row → List ℕ
@@ -93,6 +94,10 @@ entry_of entry = (entry.0.items, making_of entry.1)
 
 abbrev pub table_of : Kept → Table
 table_of entries = map entry_of entries
+
+-- no group has the spelling
+abbrev pub IsNew : List ℕ → Kept → Type 0
+IsNew spelling entries = lookup (is_kept spelling) entries ≡ None
 
 -- a group, once one more row of it came
 abbrev pub stepped : IndexDef → List Reducer → Group → Row → Group

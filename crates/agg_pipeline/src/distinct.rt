@@ -1,11 +1,8 @@
 //! Distinct values in order of first appearance, found by their spelling.
-ghost use Rattle.std.specs.Prelude.{◌≡◌, [], false, is_some, OnOk, IfOk};
-ghost use Rattle.std.specs.Map.{lookup, values_of};
-ghost use Rattle.agg_pipeline.specs.Distinct.{AreSpelled};
-ghost use Rattle.agg_pipeline.specs.Equal.{spelled, value_eq};
-ghost use Rattle.agg_pipeline.specs.Keyed.{add_first};
+ghost use Rattle.std.specs.Prelude.{◌≡◌, [], OnOk, IfOk};
+ghost use Rattle.agg_pipeline.specs.Distinct.{AreSpelled, IsNew, TakesValue, with_value};
+ghost use Rattle.agg_pipeline.specs.Equal.{spelled};
 ghost use Rattle.agg_pipeline.specs.Seen.{seen};
-ghost use Rattle.agg_pipeline.specs.Spellings.{is_kept};
 
 use crate::seen::Seen;
 use crate::spelling::spell_seen;
@@ -22,14 +19,11 @@ pub struct Distinct {
 
 impl Model for Distinct {
     ghost use Rattle.std.specs.Map.{values_of};
-    ghost use Rattle.agg_pipeline.specs.Distinct.{AreSpelled, Values};
+    ghost use Rattle.agg_pipeline.specs.Distinct.{AreSpelled, Values, values_code};
 
     ghost Value = { Values };
 
-    ghost use Rattle.std.specs.Coded.{coded_list};
-    ghost use Rattle.ft_base.specs.contracts.row.Value.{the_row};
-
-    ghost coded = { coded_list the_row.coded };
+    ghost coded = { values_code };
 
     ghost view = { λ d. values_of d.values.entries };
 
@@ -48,7 +42,7 @@ impl Distinct {
 
     /// Adds a value, where it is not there. What was in the room for the spelling is gone.
     pub fn add(&mut self, value: Seen<'_>, room: &mut Vec<u8>) -> Result<(), NoMemory>
-        ensures { OnOk result (self.new ≡ add_first value_eq self.old (seen value.entry)) }
+        ensures { OnOk result (self.new ≡ with_value self.old (seen value.entry)) }
     {
         room.clear();
         spell_seen(value, room)?;
@@ -77,14 +71,13 @@ fn insert(
     value: Seen<'_>,
 ) -> Result<(), NoMemory>
     requires spelled { spelling.now ≡ spelled (seen value) }
-    requires absent { is_some (lookup (is_kept spelling.now) values.old.entries) ≡ false }
+    requires absent { IsNew spelling.now values.old.entries }
     ensures kept { AreSpelled values.old.entries → AreSpelled values.new.entries }
-    ensures ok { OnOk result (AreSpelled values.old.entries → values_of values.new.entries
-        ≡ add_first value_eq (values_of values.old.entries) (seen value.entry)) }
+    ensures ok { OnOk result (TakesValue (seen value.entry) values.old.entries values.new.entries) }
 {
     let alloc = *values.allocator();
-    let value = value.own(alloc)?;
     let key = Vec::from_slice(alloc, spelling)?;
+    let value = value.own(alloc)?;
     values.insert(key, value)?;
     Ok(())
 }

@@ -1,19 +1,10 @@
-//! The rows of an aggregate while its documents come one by one, so that a document is copied only where a row must hold it.
-ghost use Rattle.std.specs.Prelude.{◌≡◌, ◌<◌, ◌≤◌, ◌∷◌, ◌++◌, [], List, length, map, fold, not, Option, option_to_list, position, true, IfOk, IfSome, OnOk};
-ghost use Rattle.std.specs.List.{list_all};
-ghost use Rattle.ft_base.specs.declared.definition.IndexDef.{IndexDef};
-ghost use Rattle.ft_base.specs.declared.doc.Doc.{Doc};
-ghost use Rattle.ft_base.specs.declared.row.Row.{Row as ARow};
+//! The rows of an aggregate while its documents come one by one. A row that must be held shares its document: none is copied.
+ghost use Rattle.std.specs.Prelude.{◌≡◌, ◌<◌, ◌≤◌, ◌∷◌, ◌++◌, [], length, fold, option_to_list, IfOk, IfSome, OnOk};
 ghost use Rattle.agg_pipeline.specs.declared.feed.Made.TheVariants.{First as AFirst, Groups as AGroups};
-ghost use Rattle.row_sort.specs.First.{First};
-ghost use Rattle.agg_pipeline.specs.declared.step.Load.{Load};
-ghost use Rattle.agg_pipeline.specs.declared.step.Step.{Step as AStep};
-ghost use Rattle.agg_pipeline.specs.Feeding.{Holds, IsMade, first_count, first_steps, later_steps};
-ghost use Rattle.agg_pipeline.specs.Ranking.{rows_held};
-ghost use Rattle.agg_pipeline.specs.Rows.{loaded};
-ghost use Rattle.agg_pipeline.specs.Steps.{piped};
-ghost use Rattle.agg_pipeline.specs.Stream.{is_of_rows};
-ghost use Rattle.agg_pipeline.specs.Table.{Table, finished_row, note_row};
+ghost use Rattle.agg_pipeline.specs.Feeding.{AreBehindGroup, AreBehindSort, EndsWith, Gains, Gives, Holds, IsBegun, TakesIn, first_count, first_other, first_steps, later_steps};
+ghost use Rattle.agg_pipeline.specs.OneByOne.{rows_of};
+ghost use Rattle.agg_pipeline.specs.Stream.{AreOfRows};
+ghost use Rattle.agg_pipeline.specs.Table.{note_row};
 
 use crate::pipeline::pipe;
 use crate::ranking::{into_items, offer_doc};
@@ -22,7 +13,7 @@ use crate::step::{Load, Reducer, Step};
 use crate::stream::{is_of_rows, made_cells, pipe_doc};
 use crate::table::Groups;
 use expr_eval::LentRow;
-use ft_base::{Bytes, Doc, IndexDef, NoMemory, Row};
+use ft_base::{Bytes, Doc, IndexDef, NoMemory, Row, Shared};
 use row_sort::FirstRows;
 use std::alloc::Global;
 
@@ -65,9 +56,8 @@ impl<'a> Feed<'a> {
     }
 
     /// Takes one more document in. After an `Err` the feed may only be dropped.
-    pub fn note(&mut self, doc: &Doc) -> Result<(), NoMemory>
-        ensures { OnOk result ((def : IndexDef) (load : Load) (steps : List AStep) (docs : List Doc)
-            → Holds def load steps docs self.old → Holds def load steps (docs ++ doc.now ∷ []) self.new) }
+    pub fn note(&mut self, doc: &Shared<Doc>) -> Result<(), NoMemory>
+        ensures { OnOk result (TakesIn doc.now self.old self.new) }
     {
         match &mut self.made {
             Made::Rows(rows) => hold_doc(self.alloc, self.def, self.load, self.first, rows, doc),
@@ -86,8 +76,7 @@ impl<'a> Feed<'a> {
 
     /// What all the steps make of the documents that came.
     pub fn finish(self) -> Result<Vec<Row>, NoMemory>
-        ensures { IfOk result (λ rows. (def : IndexDef) (load : Load) (steps : List AStep) (docs : List Doc)
-            → Holds def load steps docs self.entry → rows.items ≡ piped def steps (map (loaded load def) docs)) }
+        ensures { IfOk result (λ rows. Gives self.entry rows.items) }
     {
         let Feed {
             alloc,
@@ -106,7 +95,7 @@ impl<'a> Feed<'a> {
 
 /// What is held before a document comes.
 fn begin(alloc: Global, later: &[Step]) -> Made
-    ensures { (def : IndexDef) → IsMade def later.now [] result }
+    ensures { IsBegun later.now result }
 {
     match later.first() {
         Some(Step::Group { .. }) => Made::Groups(Groups::new(alloc)),
@@ -122,10 +111,10 @@ fn hold_doc(
     load: &Load,
     first: &[Step],
     rows: &mut Vec<Row>,
-    doc: &Doc,
+    doc: &Shared<Doc>,
 ) -> Result<(), NoMemory>
-    ensures { OnOk result (list_all is_of_rows first.now ≡ true → rows.new.items
-        ≡ rows.old.items ++ piped def.now first.now (loaded load.now def.now doc.now ∷ [])) }
+    ensures { OnOk result (AreOfRows first.now → rows.new.items
+        ≡ rows.old.items ++ rows_of def.now load.now first.now (doc.now ∷ [])) }
 {
     let made = pipe_doc(alloc, def, load, first, doc)?;
     hold_row(rows, made)
@@ -149,11 +138,10 @@ fn group_doc(
     first: &[Step],
     later: &[Step],
     groups: &mut Groups,
-    doc: &Doc,
+    doc: &Shared<Doc>,
 ) -> Result<(), NoMemory>
-    ensures { OnOk result (list_all is_of_rows first.now ≡ true → (rows : List ARow)
-        → IsMade def.now later.now rows (AGroups groups.old)
-        → IsMade def.now later.now (rows ++ piped def.now first.now (loaded load.now def.now doc.now ∷ [])) (AGroups groups.new)) }
+    ensures { OnOk result (AreOfRows first.now
+        → Gains def.now later.now (rows_of def.now load.now first.now (doc.now ∷ [])) (AGroups groups.old) (AGroups groups.new)) }
 {
     match later.first() {
         Some(Step::Group { by, reduce }) => {
@@ -182,11 +170,12 @@ fn note_doc(
     by: &[Bytes],
     reduce: &[Reducer],
     groups: &mut Groups,
-    doc: &Doc,
+    doc: &Shared<Doc>,
 ) -> Result<(), NoMemory>
-    ensures { OnOk result (list_all is_of_rows first.now ≡ true → groups.new
-        ≡ fold (note_row def.now by.now reduce.now) groups.old (piped def.now first.now (loaded load.now def.now doc.now ∷ []))) }
+    ensures { OnOk result (AreOfRows first.now → groups.new
+        ≡ fold (note_row def.now by.now reduce.now) groups.old (rows_of def.now load.now first.now (doc.now ∷ []))) }
 {
+    let doc = doc.get();
     match made_cells(alloc, def, load, first, doc)? {
         Some(cells) => {
             let row = LentRow {
@@ -206,8 +195,7 @@ fn finish_groups(
     groups: Groups,
     later: &[Step],
 ) -> Result<Vec<Row>, NoMemory>
-    ensures { IfOk result (λ made. (rows : List ARow)
-        → IsMade def.now later.now rows (AGroups groups) → made.items ≡ piped def.now later.now rows) }
+    ensures { IfOk result (λ made. EndsWith def.now later.now (AGroups groups) made.items) }
 {
     let (reduce, behind) = group_and_behind(later);
     let rows = groups.finish(alloc, reduce)?;
@@ -216,9 +204,7 @@ fn finish_groups(
 
 /// The reducers of the GROUPBY that comes first, and the steps behind it.
 fn group_and_behind(later: &[Step]) -> (&[Reducer], &[Step])
-    ensures { (def : IndexDef) (rows : List ARow) (table : Table)
-        → IsMade def later.now rows (AGroups table)
-        → piped def result.1.now (map (finished_row result.0.now) table) ≡ piped def later.now rows }
+    ensures { AreBehindGroup later.now result.0.now result.1.now }
 {
     match later.split_first() {
         Some((Step::Group { reduce, .. }, behind)) => (reduce.as_slice(), behind),
@@ -235,11 +221,10 @@ fn sort_doc(
     first: &[Step],
     later: &[Step],
     held: &mut Option<FirstRows<Row>>,
-    doc: &Doc,
+    doc: &Shared<Doc>,
 ) -> Result<(), NoMemory>
-    ensures { OnOk result (list_all is_of_rows first.now ≡ true → (rows : List ARow)
-        → IsMade def.now later.now rows (AFirst held.old)
-        → IsMade def.now later.now (rows ++ piped def.now first.now (loaded load.now def.now doc.now ∷ [])) (AFirst held.new)) }
+    ensures { OnOk result (AreOfRows first.now
+        → Gains def.now later.now (rows_of def.now load.now first.now (doc.now ∷ [])) (AFirst held.old) (AFirst held.new)) }
 {
     match later.first() {
         Some(
@@ -271,8 +256,7 @@ fn finish_first(
     held: Option<FirstRows<Row>>,
     later: &[Step],
 ) -> Result<Vec<Row>, NoMemory>
-    ensures { IfOk result (λ made. (rows : List ARow)
-        → IsMade def.now later.now rows (AFirst held) → made.items ≡ piped def.now later.now rows) }
+    ensures { IfOk result (λ made. EndsWith def.now later.now (AFirst held) made.items) }
 {
     let rows = into_items(alloc, held)?;
     pipe(alloc, def, rows, behind_sort(later))
@@ -280,9 +264,7 @@ fn finish_first(
 
 /// The steps behind the SORTBY that comes first.
 fn behind_sort(later: &[Step]) -> &[Step]
-    ensures { (def : IndexDef) (rows : List ARow) (held : Option (First ARow))
-        → IsMade def later.now rows (AFirst held)
-        → piped def result.now (rows_held held) ≡ piped def later.now rows }
+    ensures { AreBehindSort later.now result.now }
 {
     match later.split_first() {
         Some((_, behind)) => behind,
@@ -318,7 +300,7 @@ fn first_count(steps: &[Step]) -> usize
 
 /// The place of the first step that takes all rows at once.
 fn first_other(steps: &[Step]) -> Option<usize>
-    ensures place { result ≡ position (λ (step : AStep). not (is_of_rows step)) steps.now }
+    ensures place { result ≡ first_other steps.now }
     ensures within { IfSome result (λ place. place < length steps.now) }
 {
     steps.iter().position(|step| !is_of_rows(step))

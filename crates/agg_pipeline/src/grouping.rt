@@ -1,7 +1,10 @@
 //! GROUPBY, in one pass over the rows.
-ghost use Rattle.std.specs.Prelude.{◌≡◌, fold, IfOk, OnOk};
+ghost use Rattle.std.specs.Prelude.{◌≡◌, ℕ, List, [], fold, map, IfOk, OnOk};
+ghost use Rattle.ft_base.specs.declared.definition.IndexDef.{IndexDef};
+ghost use Rattle.ft_base.specs.declared.row.Row.{Row as ARow};
+ghost use Rattle.agg_pipeline.specs.declared.step.Reducer.{Reducer as AReducer};
 ghost use Rattle.agg_pipeline.specs.Grouping.{grouped};
-ghost use Rattle.agg_pipeline.specs.Table.{note_row};
+ghost use Rattle.agg_pipeline.specs.Table.{finished_row, note_row};
 
 use crate::step::Reducer;
 use crate::table::Groups;
@@ -39,3 +42,9 @@ fn note_all(
     }
     Ok(())
 }
+
+/// A law of the definitions: whoever notes rows one by one, and then finishes, has the row of each group of all of them.
+pub fn groups_of_all()
+    ensures { (def : IndexDef) (by : List (List ℕ)) (reduce : List AReducer) (rows : List ARow)
+        → map (finished_row reduce) (fold (note_row def by reduce) [] rows) ≡ grouped def by reduce rows }
+{}

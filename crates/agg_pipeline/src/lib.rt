@@ -29,8 +29,10 @@ mod table;
 
 /// The rows of an aggregate while its documents come.
 pub use feed::Feed;
-/// What is true of the definitions, whatever code there is.
-pub use laws::{equal_values, groups_of_all, rows_one_by_one};
+/// Whoever notes rows one by one has the rows of their groups.
+pub use grouping::groups_of_all;
+/// What else is true of the definitions, whatever code there is.
+pub use laws::{equal_values, rows_one_by_one};
 /// What several steps make of rows.
 pub use pipeline::pipe;
 /// The steps, as a command gives them.

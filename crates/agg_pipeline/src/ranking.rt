@@ -1,18 +1,16 @@
-//! The first rows of a SORTBY with MAX while documents come one by one, so that no more than twice MAX are held, and a
-//! document is copied only where its row may be among them.
-ghost use Rattle.std.specs.Prelude.{◌≡◌, ◌∷◌, ◌++◌, [], List, Some, map, true, unwrap_or, IfOk, OnOk};
-ghost use Rattle.std.specs.List.{list_all};
+//! The first rows of a SORTBY with MAX while documents come one by one, so that no more than twice MAX are held.
+ghost use Rattle.std.specs.Prelude.{◌≡◌, ◌∷◌, ◌++◌, [], List, Some, map, unwrap_or, IfOk, OnOk};
 ghost use Rattle.ft_base.specs.declared.row.Row.{Row as ARow};
+ghost use Rattle.agg_pipeline.specs.OneByOne.{rows_of};
 ghost use Rattle.agg_pipeline.specs.Ranking.{AreFirst, no_rows, offered, one_more, ranked, rows_held};
-ghost use Rattle.agg_pipeline.specs.Rows.{loaded, row_with};
-ghost use Rattle.agg_pipeline.specs.Steps.{piped};
-ghost use Rattle.agg_pipeline.specs.Stream.{is_of_rows};
+ghost use Rattle.agg_pipeline.specs.Rows.{row_with};
+ghost use Rattle.agg_pipeline.specs.Stream.{AreOfRows};
 
 use crate::sorting::{directions, items_of, key_values};
 use crate::step::{Load, SortKey, Step};
-use crate::stream::{made_cells, own_row};
+use crate::stream::{made_cells, shared_row};
 use expr_eval::LentRow;
-use ft_base::{Cell, Doc, IndexDef, ListOf, NoMemory, Row, Value};
+use ft_base::{Cell, Doc, IndexDef, ListOf, NoMemory, Row, Shared, Value};
 use row_sort::{FirstRows, Ranked};
 use std::alloc::Global;
 
@@ -25,11 +23,11 @@ pub fn offer_doc(
     keys: &[SortKey],
     most: usize,
     held: &mut Option<FirstRows<Row>>,
-    doc: &Doc,
+    doc: &Shared<Doc>,
 ) -> Result<(), NoMemory>
-    ensures { OnOk result (list_all is_of_rows first.now ≡ true → (rows : List ARow)
+    ensures { OnOk result (AreOfRows first.now → (rows : List ARow)
         → AreFirst def.now keys.now most rows held.old
-        → AreFirst def.now keys.now most (rows ++ piped def.now first.now (loaded load.now def.now doc.now ∷ [])) held.new) }
+        → AreFirst def.now keys.now most (rows ++ rows_of def.now load.now first.now (doc.now ∷ [])) held.new) }
 {
     begin(alloc, keys, most, held)?;
     match held {
@@ -62,14 +60,14 @@ fn offer_made(
     first: &[Step],
     keys: &[SortKey],
     held: &mut FirstRows<Row>,
-    doc: &Doc,
+    doc: &Shared<Doc>,
 ) -> Result<(), NoMemory>
-    ensures { OnOk result (list_all is_of_rows first.now ≡ true → held.new ≡ record held.old {
+    ensures { OnOk result (AreOfRows first.now → held.new ≡ record held.old {
       rows = offered held.old.by held.old.most held.old.rows
-          (map (ranked def.now keys.now) (piped def.now first.now (loaded load.now def.now doc.now ∷ [])));
+          (map (ranked def.now keys.now) (rows_of def.now load.now first.now (doc.now ∷ [])));
     }) }
 {
-    match made_cells(alloc, def, load, first, doc)? {
+    match made_cells(alloc, def, load, first, doc.get())? {
         Some(cells) => offer_cells(alloc, def, keys, held, doc, cells),
         None => Ok(()),
     }
@@ -81,7 +79,7 @@ fn offer_cells(
     def: &IndexDef,
     keys: &[SortKey],
     held: &mut FirstRows<Row>,
-    doc: &Doc,
+    doc: &Shared<Doc>,
     cells: ListOf<Cell>,
 ) -> Result<(), NoMemory>
     ensures { OnOk result (held.new ≡ record held.old {
@@ -91,19 +89,17 @@ fn offer_cells(
 {
     let row = LentRow {
         cells: cells.as_slice(),
-        doc: Some(doc),
+        doc: Some(doc.get()),
     };
     let values = key_values(alloc, def, keys, row)?;
-    offer_values(alloc, held, values, doc, cells)
+    offer_values(held, values, doc, cells)
 }
 
-/// Offers the row of a document and these cells, with its values of the keys. The document is copied only where the row
-/// may be among the first.
+/// Offers the row of a document and these cells, with its values of the keys.
 fn offer_values(
-    alloc: Global,
     held: &mut FirstRows<Row>,
     values: ListOf<Value>,
-    doc: &Doc,
+    doc: &Shared<Doc>,
     cells: ListOf<Cell>,
 ) -> Result<(), NoMemory>
     ensures { OnOk result (held.new ≡ record held.old {
@@ -114,7 +110,7 @@ fn offer_values(
     if held.turns_away(values.as_slice()) {
         return Ok(());
     }
-    let item = own_row(alloc, doc, cells)?;
+    let item = shared_row(doc, cells)?;
     held.offer(Ranked { values, item })
 }
 

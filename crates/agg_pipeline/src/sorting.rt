@@ -113,7 +113,7 @@ fn rank(alloc: Global, def: &IndexDef, keys: &[SortKey], row: Row) -> Result<Ran
     Ok(Ranked { values, item: row })
 }
 
-/// A row's values of the keys. The row is lent, so that a document need not be copied for them.
+/// A row's values of the keys. The row is lent, so that it need not be made for them.
 pub fn key_values(
     alloc: Global,
     def: &IndexDef,

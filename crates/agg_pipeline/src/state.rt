@@ -42,7 +42,7 @@ impl State {
     }
 
     /// Takes one more value in. A number that would pass 128 bits, which takes more rows than any memory holds, is
-    /// refused as want of memory is.
+    /// refused as if memory ran out.
     pub fn step(&mut self, value: Seen<'_>, room: &mut Vec<u8>) -> Result<(), NoMemory>
         ensures { OnOk result (self.new ≡ step self.old (seen value.entry)) }
     {
@@ -63,7 +63,7 @@ impl State {
         }
     }
 
-    /// What the reducer gives. A count that would pass 64 bits is refused as want of memory is.
+    /// What the reducer gives. A count that would pass 64 bits is refused as if memory ran out.
     pub fn finish(self) -> Result<Value, NoMemory>
         ensures { IfOk result (λ value. value ≡ finished self) }
     {

@@ -1,10 +1,9 @@
 //! What several reducers made of the rows so far.
 ghost use Rattle.std.specs.Prelude.{◌≡◌, drop, OnOk, IfOk};
-ghost use Rattle.expr_eval.specs.Lending.{value_lent};
-ghost use Rattle.expr_eval.specs.Lending.{row_of};
-ghost use Rattle.agg_pipeline.specs.Made.{finished, finished_cells, set_finished, starts, states_step, step};
+ghost use Rattle.expr_eval.specs.Lending.{row_of, value_lent};
+ghost use Rattle.agg_pipeline.specs.Made.{finished_cells, set_finished, starts, states_step, step};
 ghost use Rattle.agg_pipeline.specs.Grouping.{value_for};
-ghost use Rattle.agg_pipeline.specs.Rows.{cell, set_cell, set_cells};
+ghost use Rattle.agg_pipeline.specs.Rows.{set_cells};
 
 use crate::cells::set_cell;
 use crate::seen::Seen;
@@ -22,14 +21,11 @@ pub struct States {
 }
 
 impl Model for States {
-    ghost use Rattle.agg_pipeline.specs.Made.{ListOfStates};
+    ghost use Rattle.agg_pipeline.specs.Made.{ListOfStates, states_code};
 
     ghost Value = { ListOfStates };
 
-    ghost use Rattle.std.specs.Coded.{coded_list};
-    ghost use Rattle.agg_pipeline.specs.contracts.state.State.{the_row};
-
-    ghost coded = { coded_list the_row.coded };
+    ghost coded = { states_code };
 
     ghost view = { λ s. s.items.items };
 }
@@ -70,42 +66,37 @@ impl States {
     {
         let mut reducers = reduce;
         for state in self.items {
-            reducers = finish_next(alloc, reducers, state, cells)?;
+            set_finished(alloc, cells, reducers, state)?;
+            reducers = behind_first(reducers);
         }
         Ok(())
     }
 }
 
-/// Sets the cell of what the first reducer gives, and answers the reducers behind it.
-fn finish_next<'a>(
-    alloc: Global,
-    reducers: &'a [Reducer],
-    state: State,
-    cells: &mut ListOf<Cell>,
-) -> Result<&'a [Reducer], NoMemory>
-    ensures later { IfOk result (λ later. later.now ≡ drop 1 reducers.now) }
-    ensures cells { OnOk result (cells.new ≡ set_finished cells.old reducers.now state) }
-{
-    match reducers.split_first() {
-        Some((reducer, later)) => {
-            set_finished(alloc, cells, reducer.name.as_slice(), state)?;
-            Ok(later)
-        }
-        None => Ok(reducers),
-    }
-}
-
-/// Sets the cell of what a reducer gives.
+/// Sets the cell of what the first reducer gives.
 fn set_finished(
     alloc: Global,
     cells: &mut ListOf<Cell>,
-    name: &[u8],
+    reducers: &[Reducer],
     state: State,
 ) -> Result<(), NoMemory>
-    ensures { OnOk result (cells.new ≡ set_cell cells.old (cell name.now (finished state))) }
+    ensures { OnOk result (cells.new ≡ set_finished cells.old reducers.now state) }
 {
     let value = state.finish()?;
-    set_cell(alloc, cells, name, value)
+    match reducers.split_first() {
+        Some((reducer, _)) => set_cell(alloc, cells, reducer.name.as_slice(), value),
+        None => Ok(()),
+    }
+}
+
+/// The reducers behind the first one.
+fn behind_first(reducers: &[Reducer]) -> &[Reducer]
+    ensures { result.now ≡ drop 1 reducers.now }
+{
+    match reducers.split_first() {
+        Some((_, later)) => later,
+        None => reducers,
+    }
 }
 
 fn step_all(

@@ -5,13 +5,13 @@ ghost use Rattle.std.specs.Option.{option_map};
 ghost use Rattle.agg_pipeline.specs.RowMade.{row_made};
 ghost use Rattle.agg_pipeline.specs.Rows.{loaded, row_with};
 ghost use Rattle.agg_pipeline.specs.Steps.{applied, is_kept, piped, step_rows};
-ghost use Rattle.agg_pipeline.specs.Stream.{is_of_rows};
+ghost use Rattle.agg_pipeline.specs.Stream.{AreOfRows, is_of_rows};
 
 use crate::cells::set_cell;
 use crate::loading::loaded_cells;
 use crate::step::{Load, Step};
 use expr_eval::{Expr, LentRow, eval, holds};
-use ft_base::{Bytes, Cell, Doc, IndexDef, ListOf, NoMemory, Row};
+use ft_base::{Bytes, Cell, Doc, IndexDef, ListOf, NoMemory, Row, Shared};
 use std::alloc::Global;
 use std::marker::Model;
 
@@ -48,7 +48,7 @@ impl StreamSteps {
     }
 
     /// The row that a document becomes, and none exactly where a FILTER drops it.
-    pub fn one(&self, def: &IndexDef, doc: &Doc) -> Result<Option<Row>, NoMemory>
+    pub fn one(&self, def: &IndexDef, doc: &Shared<Doc>) -> Result<Option<Row>, NoMemory>
         ensures { IfOk result (λ row. row ≡ row_made self.now.0 self.now.1 def.now doc.now) }
     {
         pipe_doc(self.alloc, def, &self.load, self.steps.as_slice(), doc)
@@ -56,41 +56,29 @@ impl StreamSteps {
 }
 
 /// The row that a document becomes by LOAD and steps that take a row at a time, and none where a FILTER drops it. The
-/// document is copied only for a row that there is, as the row owns it.
+/// row shares the document.
 pub fn pipe_doc(
     alloc: Global,
     def: &IndexDef,
     load: &Load,
     steps: &[Step],
-    doc: &Doc,
+    doc: &Shared<Doc>,
 ) -> Result<Option<Row>, NoMemory>
-    ensures { IfOk result (λ made. list_all is_of_rows steps.now ≡ true
+    ensures { IfOk result (λ made. AreOfRows steps.now
         → option_to_list made ≡ piped def.now steps.now (loaded load.now def.now doc.now ∷ [])) }
 {
-    match made_cells(alloc, def, load, steps, doc)? {
-        Some(cells) => Ok(Some(own_row(alloc, doc, cells)?)),
+    match made_cells(alloc, def, load, steps, doc.get())? {
+        Some(cells) => Ok(Some(shared_row(doc, cells)?)),
         None => Ok(None),
     }
 }
 
-/// The row of a document and these cells. The document is copied, as the row owns it.
-pub fn own_row(alloc: Global, doc: &Doc, cells: ListOf<Cell>) -> Result<Row, NoMemory>
+/// The row of a document, which it shares, and these cells.
+pub fn shared_row(doc: &Shared<Doc>, cells: ListOf<Cell>) -> Result<Row, NoMemory>
     ensures { IfOk result (λ row. row ≡ row_with doc.now cells) }
 {
-    let doc = Some(copy_doc(alloc, doc)?);
+    let doc = Some(doc.share()?);
     Ok(Row { doc, cells })
-}
-
-fn copy_doc(alloc: Global, doc: &Doc) -> Result<Doc, NoMemory>
-    ensures { IfOk result (λ copy. copy ≡ doc.now) }
-{
-    let key = Bytes::from_slice(alloc, doc.key.as_slice())?;
-    let hash = doc.hash.copy()?;
-    Ok(Doc {
-        id: doc.id,
-        key,
-        hash,
-    })
 }
 
 /// The cells of the row that a document becomes by LOAD and steps that take a row at a time, and none where a FILTER drops
@@ -102,7 +90,7 @@ pub fn made_cells(
     steps: &[Step],
     doc: &Doc,
 ) -> Result<Option<ListOf<Cell>>, NoMemory>
-    ensures { IfOk result (λ made. list_all is_of_rows steps.now ≡ true
+    ensures { IfOk result (λ made. AreOfRows steps.now
         → option_to_list (option_map (row_with doc.now) made) ≡ piped def.now steps.now (loaded load.now def.now doc.now ∷ [])) }
 {
     let cells = loaded_cells(alloc, load, def, doc)?;
@@ -117,7 +105,7 @@ fn pipe_cells(
     doc: &Doc,
     cells: ListOf<Cell>,
 ) -> Result<Option<ListOf<Cell>>, NoMemory>
-    ensures { IfOk result (λ made. list_all is_of_rows steps.now ≡ true
+    ensures { IfOk result (λ made. AreOfRows steps.now
         → option_to_list (option_map (row_with doc.now) made) ≡ piped def.now steps.now (row_with doc.now cells ∷ [])) }
 {
     let mut cells = cells;

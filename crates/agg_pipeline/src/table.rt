@@ -1,13 +1,11 @@
 //! The groups of the rows that came so far, found by the spelling of their values.
-ghost use Rattle.std.specs.Prelude.{◌≡◌, ◌<◌, ◌++◌, ◌∷◌, [], None, map, slice_get, OnOk, IfOk, IfSome};
+ghost use Rattle.std.specs.Prelude.{◌≡◌, ◌<◌, ◌++◌, ◌∷◌, [], map, slice_get, OnOk, IfOk, IfSome};
 ghost use Rattle.indexmap.specs.IndexMap.{index_map_len, set_value_at, values};
-ghost use Rattle.std.specs.Map.{lookup};
 ghost use Rattle.expr_eval.specs.Lending.{row_of};
-ghost use Rattle.agg_pipeline.specs.Made.{starts, states_step};
 ghost use Rattle.expr_eval.specs.Properties.{property_value};
+ghost use Rattle.agg_pipeline.specs.Made.{starts, states_step};
 ghost use Rattle.agg_pipeline.specs.Rows.{cell, set_cell};
-ghost use Rattle.agg_pipeline.specs.Spellings.{is_kept};
-ghost use Rattle.agg_pipeline.specs.Table.{begun_cells, finished_row, first_entry, making_of, note_row, stepped, table_of, tuple_key};
+ghost use Rattle.agg_pipeline.specs.Table.{IsNew, begun_cells, finished_row, first_entry, making_of, note_row, stepped, table_of, tuple_key};
 
 use crate::cells::set_cell;
 use crate::spelling::spell_tuple;
@@ -137,7 +135,7 @@ fn insert_first(
     room: &mut Vec<u8>,
 ) -> Result<(), NoMemory>
     requires spelled { room.old.items ≡ tuple_key def.now by.now (row_of row) }
-    requires absent { lookup (is_kept room.old.items) table.old.entries ≡ None }
+    requires absent { IsNew room.old.items table.old.entries }
     ensures { OnOk result (table_of table.new.entries
         ≡ table_of table.old.entries ++ first_entry def.now by.now reduce.now (row_of row.entry) ∷ []) }
 {
@@ -148,7 +146,7 @@ fn insert_first(
 }
 
 fn insert(table: &mut IndexMap<Vec<u8>, Group>, key: Vec<u8>, group: Group) -> Result<(), NoMemory>
-    requires { lookup (is_kept key.items) table.old.entries ≡ None }
+    requires { IsNew key.items table.old.entries }
     ensures { OnOk result (table_of table.new.entries
         ≡ table_of table.old.entries ++ (key.items, making_of group) ∷ []) }
 {

@@ -3,7 +3,7 @@ use Rattle.std.specs.Prelude.{◌≡◌, Result, Ok, Err}
 use Rattle.cmd_parse.specs.declared.stop.Stop.{Stop}
 use Rattle.cmd_parse.specs.declared.stop.Stop.TheVariants.{Fault, NoMemory}
 
--- the code stops where reading does; want of memory says nothing of the words
+-- the code stops where reading does; running out of memory says nothing of the words
 abbrev pub Stops : {A : Type 0} → Stop → Result A Stop → Type 0
 Stops NoMemory read = Unit {0}
 Stops (Fault cause left) read = read ≡ Err (Fault cause left)

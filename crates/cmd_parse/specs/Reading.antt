@@ -19,7 +19,7 @@ command_of (command.Aggregate spec) = Aggregate (aggregate_of spec)
 command_of (command.CursorRead index id count) = CursorRead index.now id count
 command_of (command.CursorDel index id) = CursorDel index.now id
 
--- A command or a fault is what the words ask. Memory is wanting where they are read with it alone.
+-- A command or a fault is what the words ask. Memory runs out only where they are read with it.
 abbrev pub IsReading : ℕ → List (List ℕ) → Result Command CmdFault → Type 0
 IsReading serial words (Ok command) = read serial words ≡ Ok (command_of command)
 IsReading serial words (Err NoMemory) = IsTrue (takes_memory words)

@@ -16,6 +16,7 @@ mod aggregate_parts;
 mod aggregate_steps;
 mod aggregate_words;
 mod command;
+mod copied;
 mod cursor;
 mod laws;
 mod option_names;

@@ -1,25 +1,19 @@
 //! A command from its words, in the order of refusals: an unknown name, a command that is not built,
 //! a wrong number of words, and the first fault of the words from the left.
-ghost use Rattle.std.specs.Prelude.{◌≡◌, ◌≢◌, ◌<◌, ◌≤◌, ◌+◌, [], length, drop, slice_index_or, Err, Ok, Some, IfOk, IsTrue, MatchResult};
-ghost use Rattle.cmd_parse.specs.Aggregating.{aggregate};
+ghost use Rattle.std.specs.Prelude.{◌≡◌, ◌≢◌, ◌<◌, ◌≤◌, [], length, drop, slice_index_or, Err, Some, IfOk};
 ghost use Rattle.cmd_parse.specs.Asking.{AreWords, IsAsked};
 ghost use Rattle.cmd_parse.specs.Commands.{form_of};
 ghost use Rattle.cmd_parse.specs.Lawful.{HasSerial, IsLawful, IsLawfulForm, LawfulNumber};
-ghost use Rattle.cmd_parse.specs.Read.{aggregated, altered, created, first_fault, is_flush_word, plain, searched, select_fault};
+ghost use Rattle.cmd_parse.specs.Read.{first_fault, is_flush_word, plain, select_fault};
 ghost use Rattle.cmd_parse.specs.Reading.{IsReading, asked_of, command_of};
-ghost use Rattle.cmd_parse.specs.Searching.{search};
-ghost use Rattle.cmd_parse.specs.declared.command.CmdFault.TheVariants.{NoMemory};
 ghost use Rattle.ft_base.specs.Number.{int_of};
 ghost use Rattle.ft_base.specs.declared.limits.TheConstants.{MAX_WORDS};
-ghost use Rattle.ft_schema.specs.Schema.{alter, create};
 
-use crate::aggregate::read_aggregate;
 use crate::command::{CmdFault, Command, Verb};
+use crate::copied::{aggregate, alter, create, search};
 use crate::cursor::read_cursor;
-use crate::search::read_search;
 use crate::table::{Form, form_of};
-use ft_base::{Boxed, Words, is_name, read_int};
-use ft_schema::{SchemaFault, read_alter, read_create};
+use ft_base::{Words, is_name, read_int};
 use std::alloc::Global;
 
 /// Reads a command. An index that it creates gets the serial. Only the words of a schema, the options
@@ -78,7 +72,7 @@ fn plain<'a>(verb: Verb, words: &Words<'a>) -> Result<Command<'a>, CmdFault>
     requires some { 0 < length words.now }
     requires number { LawfulNumber verb (length (drop 1 words.now)) }
     ensures exact { asked_of result ≡ plain verb (drop 1 words.now) }
-    ensures memory { result ≢ Err NoMemory }
+    ensures memory { result ≢ Err CmdFault.NoMemory }
     ensures lawful { IfOk result (λ command. IsLawful words.now (command_of command)) }
 {
     let args = words.rest(1);
@@ -122,72 +116,4 @@ fn is_flush_word(word: &[u8]) -> bool
     ensures { result ≡ is_flush_word word.now }
 {
     is_name(word, b"ASYNC") || is_name(word, b"SYNC")
-}
-
-/// FT.CREATE.
-fn create<'a>(alloc: Global, words: &Words<'a>, serial: u64) -> Result<Command<'a>, CmdFault>
-    requires number { 5 ≤ length words.now }
-    requires limit { length words.now ≤ MAX_WORDS }
-    ensures exact { MatchResult result
-        (λ command. created (create words.now serial) ≡ Ok (command_of command))
-        (λ fault. fault ≢ NoMemory → created (create words.now serial) ≡ Err fault) }
-    ensures lawful { IfOk result (λ command. IsLawful words.now (command_of command)) }
-    ensures serial { IfOk result (λ command. HasSerial serial (command_of command)) }
-{
-    match read_create(alloc, words.rest(0), serial) {
-        Ok(index) => Ok(Command::Create(Boxed::new(alloc, index)?)),
-        Err(SchemaFault::NoMemory) => Err(CmdFault::NoMemory),
-        Err(fault) => Err(CmdFault::Schema(fault)),
-    }
-}
-
-/// FT.ALTER.
-fn alter<'a>(alloc: Global, words: &Words<'a>) -> Result<Command<'a>, CmdFault>
-    requires number { 6 ≤ length words.now }
-    requires limit { length words.now ≤ MAX_WORDS }
-    ensures exact { MatchResult result
-        (λ command. altered (slice_index_or words.now 1 []) (alter words.now) ≡ Ok (command_of command))
-        (λ fault. fault ≢ NoMemory → altered (slice_index_or words.now 1 []) (alter words.now) ≡ Err fault) }
-    ensures lawful { IfOk result (λ command. IsLawful words.now (command_of command)) }
-{
-    match read_alter(alloc, words.rest(0)) {
-        Ok(fields) => Ok(Command::Alter {
-            index: words.word(1),
-            fields,
-        }),
-        Err(SchemaFault::NoMemory) => Err(CmdFault::NoMemory),
-        Err(fault) => Err(CmdFault::Schema(fault)),
-    }
-}
-
-/// FT.SEARCH.
-fn search<'a>(alloc: Global, words: &Words<'a>) -> Result<Command<'a>, CmdFault>
-    requires number { 3 ≤ length words.now }
-    requires limit { length words.now ≤ MAX_WORDS }
-    ensures exact { MatchResult result
-        (λ command. searched (search words.now) ≡ Ok (command_of command))
-        (λ fault. fault ≢ NoMemory → searched (search words.now) ≡ Err fault) }
-    ensures memory { result ≡ Err NoMemory → 4 ≤ length words.now }
-    ensures lawful { IfOk result (λ command. IsLawful words.now (command_of command)) }
-{
-    match read_search(alloc, words) {
-        Ok(spec) => Ok(Command::Search(spec)),
-        Err(fault) => Err(fault),
-    }
-}
-
-/// FT.AGGREGATE.
-fn aggregate<'a>(alloc: Global, words: &Words<'a>) -> Result<Command<'a>, CmdFault>
-    requires number { 3 ≤ length words.now }
-    requires limit { length words.now ≤ MAX_WORDS }
-    ensures exact { MatchResult result
-        (λ command. aggregated (aggregate words.now) ≡ Ok (command_of command))
-        (λ fault. fault ≢ NoMemory → aggregated (aggregate words.now) ≡ Err fault) }
-    ensures memory { result ≡ Err NoMemory → 4 ≤ length words.now }
-    ensures lawful { IfOk result (λ command. IsLawful words.now (command_of command)) }
-{
-    match read_aggregate(alloc, words) {
-        Ok(spec) => Ok(Command::Aggregate(spec)),
-        Err(fault) => Err(fault),
-    }
 }

@@ -1,4 +1,4 @@
-//! Against mistakes that the check would pass: a call that always finds memory wanting, a condition that nobody can meet.
+//! Against mistakes that the check would pass: a call that always runs out of memory, a condition that nobody can meet.
 ghost use Rattle.std.specs.Prelude.{◌≡◌, IfOk};
 
 use crate::{Body, Cursor, CursorBook, RowsLeft, Taken};

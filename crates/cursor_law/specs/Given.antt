@@ -35,7 +35,7 @@ asked_by cursor state (Ok (CursorRead index id count)) =
     if is_cursor cursor (index_of state.definitions index) id then Some (unwrap_or count cursor.count) else None
 asked_by cursor state _ = None
 
--- Whether a command is done: at the last number none is, and none that is answered that memory is wanting.
+-- Whether a command is done: at the last number none is, and none that is answered that memory ran out.
 abbrev pub is_done : Step → Bool
 is_done step = nat_lt step.number last_number && not (bytes_eq step.reply (spelling out_of_memory))
 

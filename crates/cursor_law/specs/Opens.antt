@@ -15,7 +15,7 @@ use Rattle.ft_machine.specs.Step.{last_number}
 use Rattle.query_grammar.specs.Answer.{IsAnswer}
 
 -- A step's words ask for the cursor, of an index that is there and by a text that is the query, and the step is answered
--- neither that memory is wanting nor that the index has too many cursors. The cursor may end at once.
+-- neither that memory ran out nor that the index has too many cursors. The cursor may end at once.
 pub record Opens (cursor : StreamCursor) (step : Step) : Type 0 where
   pub what : Aggregating
   pub spec : CursorSpec

@@ -1,8 +1,7 @@
 //! The rows of documents by id, of which the last may wait to be committed, and a bit for each id that has a
 //! row. So a search that asks whether an id is live reads a bit and no row, and a document that is
 //! killed leaves neither.
-ghost use Rattle.std.specs.Prelude.{◌≡◌, ℕ, ◌+◌, ◌/◌, ◌<◌, ◌++◌, ◌∷◌, [], None, Some, nat_eq, nat_le, is_some, length, map, find, IfOk, IfSome, OnOk, OnErr};
-ghost use Rattle.std.specs.Option.{option_map};
+ghost use Rattle.std.specs.Prelude.{◌≡◌, ℕ, ◌+◌, ◌/◌, ◌<◌, ◌++◌, ◌∷◌, [], None, Some, nat_eq, nat_le, is_some, length, map, find, IfOk, IfSome, OnOk, OnErr, option_map};
 ghost use Rattle.std.specs.List.Sorted.{IsStrictlyIncreasing};
 ghost use Rattle.std.specs.Map.{lookup, remove_entry};
 ghost use Rattle.ft_base.specs.Rows.{live_rows, Below};

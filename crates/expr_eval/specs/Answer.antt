@@ -21,13 +21,13 @@ place tokens n end = at_or end (slice_get tokens n)
 abbrev pub PartsAt : (List Kind → List Kind → Type 0) → List Token → ℕ → ℕ → Type 0
 PartsAt AreSo tokens end at = (front : List Kind) × (rest : List Kind) × (kinds tokens ≡ front ++ rest) × (at ≡ place tokens (length front) end) × AreSo front rest
 
--- The tokens of a text of so many bytes have this first fault. Want of memory is none of the text's.
+-- The tokens of a text of so many bytes have this first fault. Running out of memory is none of the text's.
 abbrev pub IsFaultOf : ℕ → List Token → ℕ → ExprFault → Type 0
 IsFaultOf levels tokens end (Syntax at) = PartsAt (SyntaxAt levels) tokens end at
 IsFaultOf levels tokens end (TooDeep at) = PartsAt (TooDeepAt levels) tokens end at
 IsFaultOf levels tokens end NoMemory = ⊥
 
--- what they may be answered; want of memory says nothing of them
+-- what they may be answered; running out of memory says nothing of them
 abbrev pub Answers : ℕ → List Token → ℕ → Result Expr ExprFault → Type 0
 Answers levels tokens end (Ok a) = IsExpr levels (kinds tokens) a
 Answers levels tokens end (Err NoMemory) = Unit {0}

@@ -1,5 +1,6 @@
 //! Rows that are lent, so that no document is copied to be looked at.
 ghost use Rattle.std.specs.Prelude.{◌≡◌};
+ghost use Rattle.std.specs.Option.{option_copied};
 ghost use Rattle.expr_eval.specs.Lending.{row_of, value_lent};
 ghost use Rattle.expr_eval.specs.Properties.{property_value};
 
@@ -21,7 +22,7 @@ impl<'a> LentRow<'a> {
     {
         LentRow {
             cells: row.cells.as_slice(),
-            doc: row.doc.as_ref(),
+            doc: document(row),
         }
     }
 
@@ -34,5 +35,15 @@ impl<'a> LentRow<'a> {
             (None, Some(doc)) => in_hash(name, &doc.hash, def.fields.as_slice()),
             (None, None) => Lent::Null,
         }
+    }
+}
+
+/// The document of a row, lent.
+fn document(row: &Row) -> Option<&Doc>
+    ensures { option_copied result ≡ row.now.doc }
+{
+    match &row.doc {
+        Some(doc) => Some(doc.get()),
+        None => None,
     }
 }

@@ -23,6 +23,7 @@ mod query;
 mod reply;
 mod row;
 mod separators;
+mod shared;
 mod steps;
 mod weight;
 mod words;
@@ -55,9 +56,11 @@ pub use reply::{Reply, put_reply};
 pub use row::{Cell, Row, Value, copy_values};
 /// Which bytes part words.
 pub use separators::is_separator;
+/// One value that several hold.
+pub use shared::Shared;
 /// A count of steps that only contracts see.
 pub use steps::Steps;
-/// Want of memory, the one answer that nothing else in a contract explains.
+/// Out of memory, the one answer that nothing else in a contract explains.
 pub use std::alloc::AllocError as NoMemory;
 /// Weights, which have no effect.
 pub use weight::is_weight;

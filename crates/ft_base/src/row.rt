@@ -5,6 +5,7 @@ use crate::NoMemory;
 use crate::bytes::Bytes;
 use crate::doc::Doc;
 use crate::list_of::ListOf;
+use crate::shared::Shared;
 use std::alloc::Global;
 
 /// A value of a row.
@@ -26,10 +27,10 @@ pub struct Cell {
     pub value: Value,
 }
 
-/// A row: its cells, no two of one name, and its document while it has one.
+/// A row: its cells, no two of one name, and its document while it has one, which the store of documents may hold too.
 #[derive(Debug, Drop)]
 pub struct Row {
-    pub doc: Option<Doc>,
+    pub doc: Option<Shared<Doc>>,
     pub cells: ListOf<Cell>,
 }
 

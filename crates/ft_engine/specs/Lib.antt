@@ -1,3 +1,4 @@
+pub mod Commands
 pub mod Preparing
 pub mod Quiet
 pub mod Stands

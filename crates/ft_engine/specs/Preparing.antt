@@ -1,19 +1,40 @@
 -- What a command that is prepared becomes once it is committed.
-use Rattle.std.specs.Prelude.{◌≡◌, ◌≢◌, ◌<◌, true, IsTrue}
-use Rattle.indexed_store.specs.Changing.{IsReady, changed, is_change}
+use Rattle.std.specs.Prelude.{◌≡◌, ◌≢◌, ◌<◌, ◌⊎◌, ℕ, List, false, true, IsTrue}
+use Rattle.cmd_parse.specs.Reading.{command_of}
+use Rattle.cmd_parse.specs.declared.command.Command.{Command}
+use Rattle.ft_base.specs.Memory.{out_of_memory}
+use Rattle.ft_base.specs.Reply.{spelling}
+use Rattle.indexed_store.specs.Changing.{IsReady, changed, is_change, is_write}
 use Rattle.indexed_store.specs.Standing.{AreWritten}
 use Rattle.indexed_store.specs.declared.change.Change.{Change}
 use Rattle.ft_machine.specs.Machine.{State}
-use Rattle.ft_machine.specs.Step.{last_number}
+use Rattle.ft_machine.specs.Step.{At, last_number, outcomes}
 use Rattle.ft_engine.specs.Stands.{Stands}
 
 -- the engine's state once a prepared command is committed
 abbrev pub committed : Change → Stands → State
 committed change engine = changed change engine.waits engine.opens engine.state
 
+-- Once this change is committed, the command is a step of the machine, at this event's number.
+abbrev pub StepsBy : Command → ℕ → Stands → List ℕ → Change → Stands → Type 0
+StepsBy command moment old written change new =
+    At old.next moment (outcomes (command_of command) old.next) old.state written (committed change new)
+
 -- Documents or definitions differ: where the documents are the same, the definitions are not.
 abbrev pub Writes : State → State → Type 0
 Writes old new = new.space ≡ old.space → new.definitions ≢ old.definitions
+
+-- a change that is said to write leaves others
+abbrev pub WritesAsSaid : Change → Stands → Type 0
+WritesAsSaid change engine = IsTrue (is_write change) → Writes engine.state (committed change engine)
+
+-- where it does not write, nothing is entered into an index, unless memory ran out
+abbrev pub EntersAsSaid : Change → Stands → List ℕ → Stands → Type 0
+EntersAsSaid change old written new = is_write change ≡ false → (written ≡ spelling out_of_memory) ⊎ (new.indexes ≡ old.indexes)
+
+-- and then its commit reads no document
+abbrev pub CommitReads : Change → Stands → Stands → Type 0
+CommitReads change old new = is_write change ≡ false → new.reads ≡ old.reads
 
 -- A prepared command fits the engine, as the one does that it prepared last: what it changes is ready.
 pub record IsLast (change : Change) (engine : Stands) : Type 0 where

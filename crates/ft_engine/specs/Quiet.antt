@@ -1,9 +1,11 @@
 -- Which commands change no document and no definition.
-use Rattle.std.specs.Prelude.{◌≡◌, false}
-use Rattle.cmd_parse.specs.Asked.{Asked, Search, Aggregate, CursorRead, CursorDel}
+use Rattle.std.specs.Prelude.{◌≡◌, ℕ, List, false}
+use Rattle.cmd_parse.specs.Asked.{Asked, Plain, Search, Aggregate, CursorRead, CursorDel}
 use Rattle.cmd_parse.specs.declared.command.Verb.{Verb}
 use Rattle.cmd_parse.specs.declared.command.Verb.TheVariants.{Hset, Hsetnx, Hdel, Hincrby, Rename, Del, Flushall, DropIndex}
+use Rattle.ft_machine.specs.Step.{Does}
 use Rattle.indexed_store.specs.Changing.{is_write}
+use Rattle.indexed_store.specs.Holding.{Holding, state_of}
 use Rattle.indexed_store.specs.declared.change.Change.{Change}
 
 -- a search and an aggregate change cursors at most, and so do the reads of cursors
@@ -25,3 +27,7 @@ ChangesNothing Del = ⊥
 ChangesNothing Flushall = ⊥
 ChangesNothing DropIndex = ⊥
 ChangesNothing _ = Unit {0}
+
+-- such a command is answered, or out of memory, and what is held stays
+abbrev pub AnswersOnly : Verb → List (List ℕ) → Holding → List ℕ → Type 0
+AnswersOnly verb args held written = Does (Plain verb args) held.next (state_of held) written (state_of held)

@@ -1,11 +1,23 @@
 -- One event of an engine, and that a history of such events is legal.
-use Rattle.std.specs.Prelude.{◌≡◌, ◌≤◌, ℕ, List, []}
+use Rattle.std.specs.Prelude.{◌≡◌, ◌≤◌, ℕ, List, [], false}
 use Rattle.history_core.specs.Histories.{Leads}
 use Rattle.history_core.specs.Running.{IsStep}
 use Rattle.history_core.specs.declared.entry.Entry.{Entry}
 use Rattle.ft_machine.specs.History.{IsLegal}
 use Rattle.ft_machine.specs.Step.{Answers, last_number, next_number}
 use Rattle.ft_engine.specs.Stands.{Stands, opened}
+
+-- words are answered at a moment by a step of the machine, at the engine's number
+abbrev pub AnswersAt : ℕ → List (List ℕ) → Stands → List ℕ → Stands → Type 0
+AnswersAt moment words old written new = Answers words old.next moment old.state written new.state
+
+-- the event is counted
+abbrev pub Counts : Stands → Stands → Type 0
+Counts old new = new.next ≡ next_number old.next
+
+-- the engine once an event that was prepared has ended
+abbrev pub ended : Stands → Stands
+ended engine = record engine { next = next_number engine.next; pending = false }
 
 -- One event: a step of the machine of plain hashes, at the engine's number, and the next number.
 pub record Steps (old : Stands) (moment : ℕ) (words : List (List ℕ)) (reply : List ℕ) (new : Stands) : Type 0 where

@@ -1,21 +1,9 @@
 //! The engine: a state of the machine, and the events that lead from one to the next.
-ghost use Rattle.std.specs.Prelude.{◌≡◌, ◌<◌, ◌≤◌, ◌⊎◌, ◌^◌, Ok, Err, [], true, false, length, slice_index_or, vec_capacity, IfOk, IsTrue};
-ghost use Rattle.ft_base.specs.Memory.{out_of_memory};
-ghost use Rattle.ft_base.specs.Reply.{spelling};
-ghost use Rattle.ft_base.specs.Words.{KeepsLimits};
-ghost use Rattle.ft_base.specs.declared.reply.Reply.TheVariants.{Fault};
-ghost use Rattle.cmd_parse.specs.Asking.{IsAsked};
-ghost use Rattle.cmd_parse.specs.Lawful.{HasSerial};
-ghost use Rattle.cmd_parse.specs.Read.{Asked, read};
-ghost use Rattle.cmd_parse.specs.Reading.{IsReading, command_of};
-ghost use Rattle.cmd_parse.specs.Refusals.{refusal};
-ghost use Rattle.ft_engine.specs.Preparing.{IsLast, Writes, committed};
-ghost use Rattle.ft_engine.specs.Quiet.{IsQuiet};
+ghost use Rattle.std.specs.Prelude.{◌≡◌, ◌<◌, ◌≤◌, ◌^◌, true, false, length, vec_capacity, IfOk};
+ghost use Rattle.ft_engine.specs.Commands.{AreRefused, IsLastText, IsLawful, IsQuietAsAsked, IsReadFor, KeepsLimits, ReadsAsAsked, TellsAsAsked, TellsFault, TellsLast, WordsRead, WordsTell};
+ghost use Rattle.ft_engine.specs.Preparing.{CommitReads, EntersAsSaid, IsLast, StepsBy, WritesAsSaid, committed};
 ghost use Rattle.ft_engine.specs.Stands.{IsIndexed, begun, opened};
-ghost use Rattle.ft_machine.specs.Step.{Answers, At, last_event, next_number, outcomes};
-ghost use Rattle.index_commands.specs.Exactness.{ReadsFew, TellsExactly};
-ghost use Rattle.indexed_store.specs.Changing.{is_write};
-ghost use Rattle.indexed_store.specs.declared.change.Change.TheVariants.{Nothing};
+ghost use Rattle.ft_engine.specs.Stepping.{AnswersAt, Counts, ended};
 
 use crate::prepared::Prepared;
 use crate::step::begin_command;
@@ -24,6 +12,7 @@ use ft_base::{NoMemory, Words};
 use indexed_store::{Change, IndexedStore};
 use reply_buffer::ReplyBuffer;
 use std::alloc::Global;
+use std::hash::RandomState;
 use std::marker::Model;
 
 /// The last number that an event can have.
@@ -58,22 +47,23 @@ impl Model for Engine {
 }
 
 impl Engine {
-    /// An engine without documents and indexes, whose first event has the number 1.
-    pub fn new(alloc: Global) -> Result<Engine, NoMemory>
+    /// An engine without documents and indexes, whose first event has the number 1. Keys are found by hashes that `hashing`
+    /// makes.
+    pub fn new(alloc: Global, hashing: RandomState) -> Result<Engine, NoMemory>
         ensures { IfOk result (λ engine. engine ≡ opened 1) }
     {
-        Engine::open_at(alloc, 1)
+        Engine::open_at(alloc, hashing, 1)
     }
 
     /// The same, whose first event has this number.
-    pub fn open_at(alloc: Global, first: u64) -> Result<Engine, NoMemory>
+    pub fn open_at(alloc: Global, hashing: RandomState, first: u64) -> Result<Engine, NoMemory>
         requires least { 1 ≤ first }
         requires most { first ≤ 2 ^ 62 }
         ensures { IfOk result (λ engine. engine ≡ opened first) }
     {
         Ok(Engine {
             alloc,
-            held: IndexedStore::new(alloc)?,
+            held: IndexedStore::new(alloc, hashing)?,
             next: first,
             pending: false,
         })
@@ -96,19 +86,16 @@ impl Engine {
         requires free { self.old.pending ≡ false }
 
         // One step of the machine, at this event's number.
-        ensures answer { Answers words.entry self.old.next now self.old.state
-            out.new.items self.new.state }
-        ensures next { self.new.next ≡ next_number self.old.next }
+        ensures answer { AnswersAt now words.entry self.old out.new.items self.new }
+        ensures next { Counts self.old self.new }
 
         // Each index stands for the documents.
         ensures indexed { IsIndexed self.new }
 
         // A search reads what it shows, an aggregate without a cursor what it finds, and no more; what FT.INFO tells is what the
         // lists hold.
-        ensures reads { (asks : Asked) → read self.old.next words.entry ≡ Ok asks
-            → ReadsFew asks out.new.items self.old.reads self.new.reads }
-        ensures records { (asks : Asked) → read self.old.next words.entry ≡ Ok asks
-            → TellsExactly asks self.old.indexes out.new.items }
+        ensures reads { WordsRead self.old.next words.entry out.new.items self.old.reads self.new.reads }
+        ensures records { WordsTell self.old.next words.entry self.old.indexes out.new.items }
 
         ensures free { self.new.pending ≡ false }
         ensures room { vec_capacity out.old ≤ vec_capacity out.new }
@@ -126,25 +113,24 @@ impl Engine {
     /// else is seen of it yet. The command is read for this event: an index that it creates has the event's number as its
     /// serial.
     pub fn prepare<'a>(&mut self, now: u64, command: Command<'a>, out: &mut Vec<u8>) -> Prepared<'a>
-        requires asked { IsAsked (command_of command) }
-        requires serial { HasSerial self.old.next (command_of command) }
+        requires asked { IsLawful command }
+        requires serial { IsReadFor self.old.next command }
         requires room { 64 ≤ vec_capacity out.old }
         requires free { self.old.pending ≡ false }
 
         // A commit makes this a step of the machine, at this event's number.
-        ensures answer { At self.old.next now (outcomes (command_of command.entry) self.old.next)
-            self.old.state out.new.items (committed result self.new) }
+        ensures answer { StepsBy command.entry now self.old out.new.items result self.new }
         // It is said to write where a commit leaves other documents or definitions.
-        ensures writes { IsTrue (is_write result) → Writes self.new.state (committed result self.new) }
+        ensures writes { WritesAsSaid result self.new }
         ensures state { self.new.state ≡ begun self.old.next now self.old.state }
         ensures next { self.new.next ≡ self.old.next }
         ensures last { IsLast result self.new }
         ensures indexed { IsIndexed self.new }
-        ensures reads { ReadsFew (command_of command.entry) out.new.items self.old.reads self.new.reads }
-        ensures records { TellsExactly (command_of command.entry) self.old.indexes out.new.items }
-        ensures quiet { IsQuiet (command_of command.entry) result }
+        ensures reads { ReadsAsAsked command.entry out.new.items self.old.reads self.new.reads }
+        ensures records { TellsAsAsked command.entry self.old.indexes out.new.items }
+        ensures quiet { IsQuietAsAsked command.entry result }
         // Where no document and no definition changes, nothing is entered into an index either.
-        ensures still { is_write result ≡ false → (out.new.items ≡ spelling out_of_memory) ⊎ (self.new.indexes ≡ self.old.indexes) }
+        ensures still { EntersAsSaid result self.old out.new.items self.new }
         ensures room { vec_capacity out.old ≤ vec_capacity out.new }
     {
         let mut reply = ReplyBuffer::over(self.alloc, out);
@@ -160,19 +146,18 @@ impl Engine {
         command: Command<'a>,
         reply: &mut ReplyBuffer,
     ) -> Prepared<'a>
-        requires asked { IsAsked (command_of command) }
+        requires asked { IsLawful command }
         requires free { self.old.pending ≡ false }
-        ensures answer { At self.old.next now (outcomes (command_of command.entry) self.old.next)
-            self.old.state reply.new.bytes (committed result self.new) }
-        ensures writes { IsTrue (is_write result) → Writes self.new.state (committed result self.new) }
+        ensures answer { StepsBy command.entry now self.old reply.new.bytes result self.new }
+        ensures writes { WritesAsSaid result self.new }
         ensures state { self.new.state ≡ begun self.old.next now self.old.state }
         ensures next { self.new.next ≡ self.old.next }
         ensures last { IsLast result self.new }
         ensures indexed { IsIndexed self.new }
-        ensures reads { ReadsFew (command_of command.entry) reply.new.bytes self.old.reads self.new.reads }
-        ensures records { TellsExactly (command_of command.entry) self.old.indexes reply.new.bytes }
-        ensures quiet { IsQuiet (command_of command.entry) result }
-        ensures still { is_write result ≡ false → (reply.new.bytes ≡ spelling out_of_memory) ⊎ (self.new.indexes ≡ self.old.indexes) }
+        ensures reads { ReadsAsAsked command.entry reply.new.bytes self.old.reads self.new.reads }
+        ensures records { TellsAsAsked command.entry self.old.indexes reply.new.bytes }
+        ensures quiet { IsQuietAsAsked command.entry result }
+        ensures still { EntersAsSaid result self.old reply.new.bytes self.new }
         ensures room { reply.old.room ≤ reply.new.room }
     {
         if LAST_NUMBER <= self.next {
@@ -187,8 +172,8 @@ impl Engine {
     // At the last number no event begins, and every command has one answer.
     fn answer_last<'a>(&mut self, reply: &mut ReplyBuffer) -> Prepared<'a>
         requires free { self.old.pending ≡ false }
-        ensures text { reply.new.bytes ≡ spelling (Fault last_event) }
-        ensures nothing { result ≡ Nothing }
+        ensures text { IsLastText reply.new.bytes }
+        ensures nothing { result ≡ Change.Nothing }
         ensures pending { self.new ≡ record self.old { pending = true } }
         ensures indexed { IsIndexed self.new }
         ensures room { reply.old.room ≤ reply.new.room }
@@ -205,10 +190,10 @@ impl Engine {
     pub fn commit(&mut self, prepared: Prepared<'_>)
         requires last { IsLast prepared self.old }
         ensures state { self.new.state ≡ committed prepared.entry self.old }
-        ensures next { self.new.next ≡ next_number self.old.next }
+        ensures next { Counts self.old self.new }
         ensures indexed { IsIndexed self.new }
         // Where no document and no definition changes, none is read.
-        ensures quiet { is_write prepared.entry ≡ false → self.new.reads ≡ self.old.reads }
+        ensures quiet { CommitReads prepared.entry self.old self.new }
         ensures free { self.new.pending ≡ false }
     {
         self.held.make(self.next, prepared.change);
@@ -219,7 +204,7 @@ impl Engine {
     pub fn abandon(&mut self, prepared: Prepared<'_>)
         requires last { IsLast prepared self.old }
         ensures state { self.new.state ≡ self.old.state }
-        ensures next { self.new.next ≡ next_number self.old.next }
+        ensures next { Counts self.old self.new }
         ensures indexed { IsIndexed self.new }
         ensures free { self.new.pending ≡ false }
     {
@@ -230,20 +215,19 @@ impl Engine {
     /// Refuses a command for its words, in an event of its own, and writes why. It takes no memory.
     pub fn refuse(&mut self, now: u64, words: Words<'_>, fault: &CmdFault, out: &mut Vec<u8>)
         requires some { 0 < length words }
-        requires fault { IsReading self.old.next words (Err fault.now) }
+        requires fault { AreRefused self.old.next words fault.now }
         requires room { 64 ≤ vec_capacity out.old }
         requires free { self.old.pending ≡ false }
-        ensures answer { Answers words.entry self.old.next now self.old.state
-            out.new.items self.new.state }
+        ensures answer { AnswersAt now words.entry self.old out.new.items self.new }
 
         // The fault's own text, and nothing else; at the last number that of the last event.
-        ensures text { self.old.next < 2 ^ 62 → out.new.items ≡ spelling (Fault (refusal (slice_index_or words.entry 0 []) fault.now)) }
-        ensures last { 2 ^ 62 ≤ self.old.next → out.new.items ≡ spelling (Fault last_event) }
+        ensures text { TellsFault self.old.next words.entry fault.now out.new.items }
+        ensures last { TellsLast self.old.next out.new.items }
 
         // The moment counts, by which idle cursors are gone, and nothing else changes.
         ensures state { self.new.state ≡ begun self.old.next now self.old.state }
         ensures reads { self.new.reads ≡ self.old.reads }
-        ensures next { self.new.next ≡ next_number self.old.next }
+        ensures next { Counts self.old self.new }
         ensures indexed { IsIndexed self.new }
         ensures free { self.new.pending ≡ false }
         ensures room { vec_capacity out.old ≤ vec_capacity out.new }
@@ -256,15 +240,14 @@ impl Engine {
     // The same, where the buffer of replies is in hand.
     fn refuse_in(&mut self, now: u64, words: Words<'_>, fault: &CmdFault, reply: &mut ReplyBuffer)
         requires some { 0 < length words }
-        requires fault { IsReading self.old.next words (Err fault.now) }
+        requires fault { AreRefused self.old.next words fault.now }
         requires free { self.old.pending ≡ false }
-        ensures answer { Answers words.entry self.old.next now self.old.state
-            reply.new.bytes self.new.state }
-        ensures text { self.old.next < 2 ^ 62 → reply.new.bytes ≡ spelling (Fault (refusal (slice_index_or words.entry 0 []) fault.now)) }
-        ensures last { 2 ^ 62 ≤ self.old.next → reply.new.bytes ≡ spelling (Fault last_event) }
+        ensures answer { AnswersAt now words.entry self.old reply.new.bytes self.new }
+        ensures text { TellsFault self.old.next words.entry fault.now reply.new.bytes }
+        ensures last { TellsLast self.old.next reply.new.bytes }
         ensures state { self.new.state ≡ begun self.old.next now self.old.state }
         ensures reads { self.new.reads ≡ self.old.reads }
-        ensures next { self.new.next ≡ next_number self.old.next }
+        ensures next { Counts self.old self.new }
         ensures indexed { IsIndexed self.new }
         ensures free { self.new.pending ≡ false }
         ensures room { reply.old.room ≤ reply.new.room }
@@ -282,7 +265,7 @@ impl Engine {
     // Ends an event that is prepared.
     fn end(&mut self)
         requires pending { self.old.pending ≡ true }
-        ensures ended { self.new ≡ record self.old { next = next_number self.old.next; pending = false } }
+        ensures ended { self.new ≡ ended self.old }
         ensures indexed { IsIndexed self.new }
     {
         self.held.stand();

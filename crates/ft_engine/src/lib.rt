@@ -3,7 +3,7 @@
 //! The crate `ft_machine` says what a command does over plain lists. `Engine` stands for a state of that machine, and
 //! `exec` takes its step: it reads the words, gives what they ask to the call that does it, and commits what that
 //! prepared. Over it `history_core::run` makes legal histories (`machine.rt`, `laws.rt`). Read `specs/Stands.antt`
-//! first, then `engine.rt`, `step.rt` and `plain.rt`.
+//! first, then `engine.rt`, `step.rt`, `plain.rt` and `searching.rt`.
 #![tactic(auto)]
 
 mod engine;
@@ -11,6 +11,7 @@ mod laws;
 mod machine;
 mod plain;
 mod prepared;
+mod searching;
 mod step;
 
 /// The state of the server, and its events.

@@ -3,10 +3,9 @@ ghost use Rattle.std.specs.Prelude.{◌≡◌, ◌≤◌, ◌<◌, None};
 ghost use Rattle.cmd_parse.specs.Asking.{AreWords};
 ghost use Rattle.cmd_parse.specs.Lawful.{Lawful};
 ghost use Rattle.cmd_parse.specs.Asked.{Plain};
-ghost use Rattle.ft_engine.specs.Quiet.{ChangesNothing};
-ghost use Rattle.ft_machine.specs.Step.{Does, last_number};
+ghost use Rattle.ft_engine.specs.Quiet.{AnswersOnly, ChangesNothing};
+ghost use Rattle.ft_machine.specs.Step.{last_number};
 ghost use Rattle.index_commands.specs.Exactness.{TellsExactly};
-ghost use Rattle.indexed_store.specs.Holding.{state_of};
 ghost use Rattle.indexed_store.specs.Preparing.{OnlyReads, Prepares};
 
 use cmd_parse::Verb;
@@ -53,7 +52,7 @@ fn answer(held: &mut IndexedStore, verb: Verb, args: &Words<'_>, reply: &mut Rep
     requires number { held.old.next < last_number }
     requires lawful { Lawful verb args.now }
     requires none { held.old.opens ≡ None }
-    ensures does { Does (Plain verb args.now) held.old.next (state_of held.old) reply.new.bytes (state_of held.old) }
+    ensures does { AnswersOnly verb args.now held.old reply.new.bytes }
     ensures records { TellsExactly (Plain verb args.now) held.old.indexes reply.new.bytes }
     ensures stays { OnlyReads held.old held.new }
     ensures room { reply.old.room ≤ reply.new.room }

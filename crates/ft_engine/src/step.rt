@@ -1,22 +1,15 @@
 //! What a command asks is prepared: the reply is written, and what it needs is made ready.
-ghost use Rattle.std.specs.Prelude.{◌≡◌, ◌<◌, ◌≤◌, None, false, length, true};
-ghost use Rattle.cmd_parse.specs.Asked.{Search};
-ghost use Rattle.cmd_parse.specs.Asking.{IsAsked};
-ghost use Rattle.cmd_parse.specs.Reading.{command_of};
-ghost use Rattle.cmd_parse.specs.Seen.{search_of};
-ghost use Rattle.ft_base.specs.declared.limits.TheConstants.{MAX_WORD_BYTES};
-ghost use Rattle.ft_engine.specs.Quiet.{IsQuiet};
+ghost use Rattle.std.specs.Prelude.{◌≡◌, ◌<◌, ◌≤◌, None, true};
+ghost use Rattle.ft_engine.specs.Commands.{IsLawful, IsPreparedAs, IsQuietAsAsked, ReadsAsAsked, TellsAsAsked};
 ghost use Rattle.ft_engine.specs.Stands.{IsIndexed, stands_of};
 ghost use Rattle.ft_machine.specs.Step.{last_number};
-ghost use Rattle.index_commands.specs.Exactness.{ReadsFew, ReadsRows, TellsExactly};
-ghost use Rattle.indexed_store.specs.Changing.{is_write};
 ghost use Rattle.indexed_store.specs.Holding.{begun};
-ghost use Rattle.indexed_store.specs.Preparing.{Prepares};
 ghost use Rattle.indexed_store.specs.Standing.{AreWritten};
 
 use crate::plain::prepare_plain;
-use cmd_parse::{Command, SearchSpec};
-use index_commands::{aggregate, alter, answer_search, create, delete_cursor, read_cursor};
+use crate::searching::prepare_search;
+use cmd_parse::Command;
+use index_commands::{aggregate, alter, create, delete_cursor, read_cursor};
 use indexed_store::{Change, IndexedStore};
 use reply_buffer::ReplyBuffer;
 
@@ -30,15 +23,15 @@ pub fn begin_command<'a>(
 ) -> Change<'a>
     requires earlier { held.old.next ≤ number }
     requires number { number < last_number }
-    requires asked { IsAsked (command_of command) }
+    requires asked { IsLawful command }
     ensures documents { AreWritten held.old.space number }
     ensures indexed { IsIndexed (stands_of held.new number true) }
 
     // What is asked is prepared in the event that has begun.
-    ensures prepares { Prepares (command_of command.entry) (begun number moment held.old) held.new reply.new.bytes result }
-    ensures reads { ReadsFew (command_of command.entry) reply.new.bytes held.old.reads held.new.reads }
-    ensures records { TellsExactly (command_of command.entry) held.old.indexes reply.new.bytes }
-    ensures quiet { IsQuiet (command_of command.entry) result }
+    ensures prepares { IsPreparedAs command.entry (begun number moment held.old) held.new reply.new.bytes result }
+    ensures reads { ReadsAsAsked command.entry reply.new.bytes held.old.reads held.new.reads }
+    ensures records { TellsAsAsked command.entry held.old.indexes reply.new.bytes }
+    ensures quiet { IsQuietAsAsked command.entry result }
     ensures room { reply.old.room ≤ reply.new.room }
 {
     held.stand();
@@ -55,12 +48,12 @@ fn prepare_command<'a>(
     reply: &mut ReplyBuffer,
 ) -> Change<'a>
     requires number { held.old.next < last_number }
-    requires asked { IsAsked (command_of command) }
+    requires asked { IsLawful command }
     requires none { held.old.opens ≡ None }
-    ensures prepares { Prepares (command_of command.entry) held.old held.new reply.new.bytes result }
-    ensures reads { ReadsFew (command_of command.entry) reply.new.bytes held.old.reads held.new.reads }
-    ensures records { TellsExactly (command_of command.entry) held.old.indexes reply.new.bytes }
-    ensures quiet { IsQuiet (command_of command.entry) result }
+    ensures prepares { IsPreparedAs command.entry held.old held.new reply.new.bytes result }
+    ensures reads { ReadsAsAsked command.entry reply.new.bytes held.old.reads held.new.reads }
+    ensures records { TellsAsAsked command.entry held.old.indexes reply.new.bytes }
+    ensures quiet { IsQuietAsAsked command.entry result }
     ensures room { reply.old.room ≤ reply.new.room }
 {
     match command {
@@ -72,21 +65,4 @@ fn prepare_command<'a>(
         Command::CursorRead { index, id, count } => read_cursor(held, index, id, count, reply),
         Command::CursorDel { index, id } => delete_cursor(held, index, id, reply),
     }
-}
-
-/// Answers a search, which changes nothing.
-fn prepare_search<'a>(
-    held: &mut IndexedStore,
-    search: SearchSpec<'a>,
-    reply: &mut ReplyBuffer,
-) -> Change<'a>
-    requires number { held.old.next < last_number }
-    requires query { length search.query.now ≤ MAX_WORD_BYTES }
-    ensures prepares { Prepares (Search (search_of search.entry)) held.old held.new reply.new.bytes result }
-    ensures reads { ReadsRows (search_of search.entry) reply.new.bytes held.old.reads held.new.reads }
-    ensures quiet { is_write result ≡ false }
-    ensures room { reply.old.room ≤ reply.new.room }
-{
-    answer_search(held, &search, reply);
-    Change::Nothing
 }

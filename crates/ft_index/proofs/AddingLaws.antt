@@ -1,5 +1,5 @@
 -- How a document's words go into the lists, one after another.
-use Rattle.std.specs.Prelude.{◌≡◌, ◌<◌, ℕ, true, false, List, [], ◌∷◌, ◌++◌, Option, None, Some, length, if◌then◌else◌, refl}
+use Rattle.std.specs.Prelude.{◌≡◌, ◌<◌, ℕ, true, false, List, [], ◌∷◌, ◌++◌, Option, None, Some, length, refl}
 use Rattle.std.proofs.Common.{Bor, sym, ◌∙◌, subst, inl, inr, arith, append-nil}
 use Rattle.std.specs.Cmp.Lexicographic.{bytes_decides, nat_list_eq_equiv}
 use Rattle.std.specs.List.{AllByRecursion, IsDistinct}
@@ -9,7 +9,7 @@ use Rattle.std.proofs.lemmas.Bool.{cases_Bool, cond-true, cond-false}
 use Rattle.inverted_list.specs.Listing.{last_id}
 use Rattle.posting_block.specs.declared.hits.TextHit.{TextHit}
 use Rattle.term_dict.specs.Terms.{Lists, entries_of}
-use Rattle.ft_index.specs.Collected.{AreAddedBut, AreMet, Collected, GrowBy, IsAddedBut, codes_of, is_key}
+use Rattle.ft_index.specs.Collected.{AreAddedBut, AreMet, Collected, GrowBy, IsAddedBut, WordGains, codes_of, is_key}
 use Rattle.ft_index.specs.Entries.{entry}
 use Rattle.ft_index.proofs.CollectedLaws.{same_key}
 
@@ -35,8 +35,7 @@ entry-met id (code ∷ codes) some = refl
 -- the word at the front gets its entry
 pub added-next : (key : Bor (List ℕ)) (codes : List ℕ) (left found : Collected) (id : ℕ) (start old new : Lists TextHit)
     → IsDistinct same_key (keys_of ((key, codes) ∷ left)) → AreMet ((key, codes) ∷ left) → AreAddedBut ((key, codes) ∷ left) found id start old
-    → ((other : List ℕ) → entries_of new other ≡ (if bytes_eq key.now other then entries_of old other ++ (id, record { places = codes }) ∷ [] else entries_of old other))
-    → AreAddedBut left found id start new
+    → WordGains key.now id codes old new → AreAddedBut left found id start new
 unfolding IsDistinct
 added-next key codes left found id start old new distinct met added entries word =
     elim (cases_Bool (bytes_eq word key.now)) [

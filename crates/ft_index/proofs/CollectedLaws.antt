@@ -1,18 +1,14 @@
 -- What one code more says of the words collected.
-use Rattle.std.proofs.Common.{◌≡◌, ℕ, Bool, false, cond, Bor, List, [], ◌∷◌, ◌++◌, append-nil, None, Some, IsSome, if◌then◌else◌, refl, ap, ◌∙◌, inl, inr, ◌<◌, length, length-append, arith}
+use Rattle.std.proofs.Common.{◌≡◌, ℕ, Bool, false, cond, Bor, List, [], ◌∷◌, ◌++◌, append-nil, None, Some, IsSome, refl, ap, ◌∙◌, inl, inr, ◌<◌, length, length-append, arith}
 use Rattle.std.specs.Cmp.Lexicographic.{bytes_decides, nat_list_eq_equiv}
 use Rattle.std.specs.Map.{lookup, set_value}
 use Rattle.std.specs.Str.{bytes_eq}
 use Rattle.std.proofs.lemmas.Bool.{cases_Bool}
 use Rattle.indexmap.specs.IndexMap.{insert_entry}
-use Rattle.ft_index.specs.Collected.{Collected, is_key, codes_of, AreMet}
+use Rattle.ft_index.specs.Collected.{AreMet, Collected, codes_of, is_key, one_more}
 
 abbrev pub same_key : Bor (List ℕ) → Bor (List ℕ) → Bool
 same_key a b = bytes_eq a.now b.now
-
--- the code goes behind those of its word, and no other word gets one
-abbrev pub one_more : List ℕ → ℕ → List ℕ → List ℕ
-one_more word code other = if bytes_eq other word then code ∷ [] else []
 
 -- a word that is written at one key is found there, and the other words as before
 lookup-written : (word other : List ℕ) (places : List ℕ) (found : Collected) → IsSome (lookup (is_key word) found)

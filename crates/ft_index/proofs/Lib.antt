@@ -14,7 +14,6 @@ pub mod RangeLaws
 pub mod ReadingLaws
 pub mod RecordsLaws
 pub mod SlotLaws
-pub mod SortingLaws
 pub mod TagLaws
 pub mod TakingLaws
 pub mod WordLaws

@@ -16,11 +16,10 @@ use Rattle.numeric_ranges.specs.Ranges.{IsAbove, Rows}
 use Rattle.posting_block.specs.declared.hits.TextHit.{TextHit}
 use Rattle.term_dict.specs.Tags.{FieldTags, entries_in}
 use Rattle.term_dict.specs.Terms.{Lists, entries_of}
-use Rattle.ft_index.specs.Adding.{IsSeen, IsUnseen, RangesHaveAll, TagsHave, WordsHave}
+use Rattle.ft_index.specs.Adding.{IsSeen, IsUnseen, ListsHave, RangesHaveAll, TagsHave, WordsHave}
 use Rattle.ft_index.specs.Has.{Has}
 use Rattle.ft_index.specs.Lists.{AllLists, rows_of}
-use Rattle.ft_index.specs.Markers.{AreBefore, GainsMarkers, HasMarker, IsBefore, IsGiven, MarkersDiffer, marker_at, range_marker, tag_marker, word_marker}
-use Rattle.ft_index.specs.Taking.{TakesMarkers}
+use Rattle.ft_index.specs.Markers.{AreBefore, AreGiven, GainsMarkers, IsBefore, IsGiven, MarkersDiffer, TakesMarkers, marker_at, range_marker, tag_marker, word_marker}
 use Rattle.ft_index.specs.UpTo.{AreUpTo, RisesUpTo, RowsUpTo}
 use Rattle.ft_index.specs.Without.{without}
 use Rattle.ft_index.proofs.AliveLaws.{alive-killed, is_other, row_of, rows-without}
@@ -152,7 +151,7 @@ up_to-higher last id lists less up_to = record {
 
 -- lists of each kind have what all have
 pub all-unseen : (def : IndexDef) (id : ℕ) (old new : AllLists) → IsUnseen id (WordsHave def old.words) (WordsHave def new.words) → IsUnseen id (TagsHave def old.tags) (TagsHave def new.tags)
-    → IsUnseen id (RangesHaveAll def old.ranges) (RangesHaveAll def new.ranges) → IsUnseen id (λ live docs. Has def live old docs) (λ live docs. Has def live new docs)
+    → IsUnseen id (RangesHaveAll def old.ranges) (RangesHaveAll def new.ranges) → IsUnseen id (ListsHave def old) (ListsHave def new)
 all-unseen def id old new words tags ranges live docs dead has = record {
   live = has.live;
   words = words live docs dead has.words;
@@ -161,7 +160,7 @@ all-unseen def id old new words tags ranges live docs dead has = record {
 }
 
 pub all-seen : (def : IndexDef) (doc : Doc) (old new : AllLists) → IsSeen def doc (WordsHave def old.words) (WordsHave def new.words) → IsSeen def doc (TagsHave def old.tags) (TagsHave def new.tags)
-    → IsSeen def doc (RangesHaveAll def old.ranges) (RangesHaveAll def new.ranges) → IsSeen def doc (λ live docs. Has def live old docs) (λ live docs. Has def live new docs)
+    → IsSeen def doc (RangesHaveAll def old.ranges) (RangesHaveAll def new.ranges) → IsSeen def doc (ListsHave def old) (ListsHave def new)
 all-seen def doc old new words tags ranges live docs has = record {
   live = ap (λ (rows : List (ℕ × Vector)). rows ++ (doc.id, sorting_vector def doc) ∷ []) has.live ∙ sym (map-append (row_of (sorting_vector def)) docs (doc ∷ []));
   words = words live docs has.words;
@@ -207,7 +206,7 @@ first-differ from to ranges takes =
     differ-taken from to (record { words = []; tags = []; ranges = [] }) (record { words = []; tags = []; ranges = ranges }) (λ name other marker has there. none-there name marker has) (first-take from to ranges takes)
 
 pub first-given : (from to : Markers) (ranges : List (Option Rows)) → TakesMarkers from to (λ _. None) (range_marker ranges)
-    → (marker : Marker) → HasMarker (record { words = []; tags = []; ranges = ranges }) marker → IsGiven from to marker
+    → AreGiven from to (record { words = []; tags = []; ranges = ranges })
 first-given from to ranges takes marker has = elim ((first-take from to ranges takes).gains has.name marker has.has) [
   | inl old ↦ none-there has.name marker old
   | inr given ↦ given

@@ -25,9 +25,8 @@ use Rattle.ft_index.specs.Adding.{IsSeen, IsUnseen, RangesHaveAll}
 use Rattle.ft_index.specs.Entries.{is_ranged, number_entries, searched_number}
 use Rattle.ft_index.specs.Has.{NumbersHave, RangesHave, alive}
 use Rattle.ft_index.specs.Lists.{has_id, rows_of}
-use Rattle.ft_index.specs.Markers.{range_marker, slot_marker}
+use Rattle.ft_index.specs.Markers.{AllBefore, TakesMarkers, range_marker, slot_marker}
 use Rattle.ft_index.specs.Numbering.{FieldGains, IsFirst, RangesGain, RowsGain, value_entry}
-use Rattle.ft_index.specs.Taking.{AllBefore, TakesMarkers}
 use Rattle.ft_index.specs.UpTo.{RowsUpTo}
 use Rattle.ft_index.specs.Without.{without}
 use Rattle.ft_index.proofs.AliveLaws.{AreOf, alive-killed, alive-seen, alive-unseen, is_other}

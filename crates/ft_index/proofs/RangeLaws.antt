@@ -14,8 +14,7 @@ use Rattle.numeric_ranges.specs.Added.{added, marker_after, parts_of}
 use Rattle.numeric_ranges.specs.Ranges.{IsAbove, Rows, is_below, low_of}
 use Rattle.numeric_ranges.specs.Values.{Entries, cut_of, splits, values}
 use Rattle.posting_block.specs.declared.hits.NumHit.{NumHit}
-use Rattle.ft_index.specs.Markers.{IsGiven, slot_marker}
-use Rattle.ft_index.specs.Taking.{AllBefore, TakesMarkers}
+use Rattle.ft_index.specs.Markers.{AllBefore, IsGiven, TakesMarkers, slot_marker}
 use Rattle.ft_index.specs.UpTo.{RisesUpTo, RowsUpTo}
 use Rattle.ft_index.proofs.ListLaws.{last_id-push}
 use Rattle.ft_index.proofs.TakingLaws.{before-of, not-again}

@@ -21,9 +21,8 @@ use Rattle.term_dict.specs.Terms.{Lists, entries_of, list_of}
 use Rattle.ft_index.specs.Adding.{IsSeen, IsUnseen, TagsHave, tag_entry}
 use Rattle.ft_index.specs.Entries.{has_tag, searched_tags, tag_entries}
 use Rattle.ft_index.specs.Has.{alive}
-use Rattle.ft_index.specs.Markers.{marker_in, tag_marker}
-use Rattle.ft_index.specs.Tagging.{AreApart, TagsGain}
-use Rattle.ft_index.specs.Taking.{AllBefore, TakesMarkers}
+use Rattle.ft_index.specs.Markers.{AllBefore, TakesMarkers, marker_in, tag_marker}
+use Rattle.ft_index.specs.Tagging.{AreApart, FieldTagsGain, TagGains, TagsGain}
 use Rattle.ft_index.specs.UpTo.{RisesUpTo, TagsUpTo}
 use Rattle.ft_index.specs.Without.{without}
 use Rattle.ft_index.proofs.AliveLaws.{AreOf, alive-seen, alive-unseen, all-below, is_other, same-yes}
@@ -151,13 +150,10 @@ tag-more tags k tag id true name apart within here =
         rw (any-append (take k tags), is) (elim (cases_Bool (list_any (bytes_eq name) (take k tags))) [ inl y ↦ rw y refl | inr n ↦ rw n refl ])
 
 -- the first k of a field's tags have their entries, and no other list has one
-abbrev pub AreTagged : ℕ → List (List ℕ) → ℕ → ℕ → FieldTags → FieldTags → Type 0
-AreTagged k tags field id start now = (other : ℕ) (name : List ℕ) → entries_in now other name ≡ entries_in start other name
-    ++ tag_entry id (nat_eq other field && list_any (bytes_eq name) (take k tags))
 
 -- the next tag's list ends below the id
 pub tag-later : (k : ℕ) (tags : List (List ℕ)) (item tag : List ℕ) (field id : ℕ) (start now : FieldTags) → AreApart tags → k < length tags → item ≡ slice_index_or tags k item → tag ≡ item
-    → AreTagged k tags field id start now → last_id 0 (entries_in start field tag) < id → last_id 0 (entries_in now field tag) < id
+    → FieldTagsGain field (take k tags) id start now → last_id 0 (entries_in start field tag) < id → last_id 0 (entries_in now field tag) < id
 tag-later k tags item tag field id start now apart within is same added later =
     let here : slice_index_or tags k tag ≡ tag = subst (λ (t : List ℕ). slice_index_or tags k t ≡ t) (sym same) (sym is) in
     let new : (nat_eq field field && list_any (bytes_eq tag) (take k tags)) ≡ false = rw (same-yes field) (not-met tags k tag apart within here) in
@@ -165,8 +161,7 @@ tag-later k tags item tag field id start now apart within is same added later =
     subst (λ (es : List (ℕ × TagHit)). last_id 0 es < id) (sym entries) later
 
 pub tag-next : (k : ℕ) (tags : List (List ℕ)) (item tag : List ℕ) (field id : ℕ) (start now new : FieldTags) → AreApart tags → k < length tags → item ≡ slice_index_or tags k item → tag ≡ item
-    → AreTagged k tags field id start now → ((other : ℕ) (name : List ℕ) → entries_in new other name ≡ entries_in now other name ++ tag_entry id (nat_eq other field && bytes_eq name tag))
-    → AreTagged (k + 1) tags field id start new
+    → FieldTagsGain field (take k tags) id start now → TagGains field tag id now new → FieldTagsGain field (take (k + 1) tags) id start new
 tag-next k tags item tag field id start now new apart within is same added step other name =
     let here : slice_index_or tags k tag ≡ tag = subst (λ (t : List ℕ). slice_index_or tags k t ≡ t) (sym same) (sym is) in
     let b = nat_eq other field in
@@ -219,7 +214,7 @@ tags-without def field tag id (doc ∷ docs) = by_tests (nat_eq id doc.id) (has_
     by_tests false false same there rest = rw (same, there) rest
 
 -- so far as the first k of a field's tags have their entries, nothing is seen of an id that is not live
-pub tagged-unseen : (k : ℕ) (tags : List (List ℕ)) (field id : ℕ) (start now : FieldTags) → AreTagged k tags field id start now → (def : IndexDef) → IsUnseen id (TagsHave def start) (TagsHave def now)
+pub tagged-unseen : (k : ℕ) (tags : List (List ℕ)) (field id : ℕ) (start now : FieldTags) → FieldTagsGain field (take k tags) id start now → (def : IndexDef) → IsUnseen id (TagsHave def start) (TagsHave def now)
 tagged-unseen k tags field id start now added def =
     tags-unseen def id start now (λ other name. (nat_eq other field && list_any (bytes_eq name) (take k tags), added other name))
 
@@ -236,8 +231,7 @@ field-later k fields doc start now added later tag =
 
 pub field-next : (k : ℕ) (fields : List Field) (field : Field) (tags : List (List ℕ)) (doc : Doc) (start now new : FieldTags) → k < length fields → field ≡ slice_index_or fields k field
     → tags ≡ searched_tags (Some field) doc → TagsGain (take k fields) doc start now
-    → ((other : ℕ) (name : List ℕ) → entries_in new other name ≡ entries_in now other name ++ tag_entry doc.id (nat_eq other k && list_any (bytes_eq name) tags))
-    → TagsGain (take (k + 1) fields) doc start new
+    → FieldTagsGain k tags doc.id now new → TagsGain (take (k + 1) fields) doc start new
 field-next k fields field tags doc start now new within is same added step number tag =
     fields-next (λ (n : ℕ) (at : Option Field). entries_in new n tag ≡ entries_in start n tag ++ tag_entry doc.id (list_any (bytes_eq tag) (searched_tags at doc)))
     fields k field within (sym is) own others number

@@ -3,8 +3,7 @@ use Rattle.std.specs.Prelude.{◌≡◌, ◌≢◌, ◌≤◌, ◌⊎◌, ℕ, �
 use Rattle.std.proofs.Common.{sym, ap, ◌∙◌, subst, inl, inr, arith}
 use Rattle.inverted_list.specs.declared.marker.Marker.{Marker}
 use Rattle.inverted_list.specs.declared.marker.Markers.{Markers}
-use Rattle.ft_index.specs.Markers.{IsBefore, IsGiven}
-use Rattle.ft_index.specs.Taking.{AllBefore, TakesMarkers}
+use Rattle.ft_index.specs.Markers.{AllBefore, IsBefore, IsGiven, TakesMarkers}
 use Rattle.ft_index.proofs.FieldLaws.{decided}
 
 -- a marker that was given before is not given again

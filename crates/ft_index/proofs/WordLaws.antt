@@ -21,8 +21,7 @@ use Rattle.ft_index.specs.Adding.{IsSeen, IsUnseen, WordsHave}
 use Rattle.ft_index.specs.Collected.{GrowBy, occurrences_in}
 use Rattle.ft_index.specs.Entries.{codes, codes_among, entry, occurrence, occurrences_from, word_entries}
 use Rattle.ft_index.specs.Has.{alive}
-use Rattle.ft_index.specs.Markers.{marker_in, word_marker}
-use Rattle.ft_index.specs.Taking.{AllBefore, TakesMarkers}
+use Rattle.ft_index.specs.Markers.{AllBefore, TakesMarkers, marker_in, word_marker}
 use Rattle.ft_index.specs.UpTo.{RisesUpTo, WordsUpTo}
 use Rattle.ft_index.specs.Without.{without}
 use Rattle.ft_index.proofs.AliveLaws.{AreOf, alive-seen, alive-unseen, all-below, all-other, is_other, none-other}

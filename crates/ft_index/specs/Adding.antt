@@ -10,8 +10,8 @@ use Rattle.posting_block.specs.declared.hits.TextHit.{TextHit}
 use Rattle.term_dict.specs.Tags.{FieldTags, entries_in}
 use Rattle.term_dict.specs.Terms.{Lists, entries_of}
 use Rattle.ft_index.specs.Entries.{tag_entries, word_entries}
-use Rattle.ft_index.specs.Has.{NumbersHave, alive}
-use Rattle.ft_index.specs.Lists.{has_id, rows_of}
+use Rattle.ft_index.specs.Has.{Has, NumbersHave, alive}
+use Rattle.ft_index.specs.Lists.{AllLists, has_id, rows_of}
 
 -- what lists have of documents, by the live ids and the documents
 abbrev pub Having : Type 1
@@ -29,9 +29,20 @@ TagsHave def tags live docs = (field : ℕ) (tag : List ℕ) → alive live (ent
 abbrev pub RangesHaveAll : IndexDef → List (Option Rows) → Having
 RangesHaveAll def ranges live docs = (field : ℕ) → NumbersHave def live field docs (rows_of ranges field)
 
+-- what all lists have
+abbrev pub ListsHave : IndexDef → AllLists → Having
+ListsHave def lists live docs = Has def live lists docs
+
 -- Nothing of an id is seen while it is not live.
 abbrev pub IsUnseen : ℕ → Having → Having → Type 0
 IsUnseen id old new = (live : List (ℕ × Vector)) (docs : List Doc) → has_id live id ≡ false → old live docs → new live docs
+
+-- the same of tags, and of ranges, whatever the index
+abbrev pub TagsUnseen : ℕ → FieldTags → FieldTags → Type 0
+TagsUnseen id old new = (def : IndexDef) → IsUnseen id (TagsHave def old) (TagsHave def new)
+
+abbrev pub RangesUnseen : ℕ → List (Option Rows) → List (Option Rows) → Type 0
+RangesUnseen id old new = (def : IndexDef) → IsUnseen id (RangesHaveAll def old) (RangesHaveAll def new)
 
 -- Once its id is live, a document is seen beside the others.
 abbrev pub IsSeen : IndexDef → Doc → Having → Having → Type 0

@@ -1,16 +1,18 @@
 -- What a contract sees of one index, and which documents it stands for.
-use Rattle.std.specs.Prelude.{◌≡◌, ◌≤◌, ℕ, List, [], ◌∷◌, ◌++◌, Option, Some, None}
+use Rattle.std.specs.Prelude.{◌≡◌, ◌≢◌, ◌≤◌, ℕ, List, [], ◌∷◌, ◌++◌, Bool, Option, Some, None, nat_eq}
+use Rattle.std.specs.Map.{remove_entry}
 use Rattle.std.specs.Option.{option_map}
 use Rattle.doc_table.specs.Table.{Table, Vector}
 use Rattle.ft_base.specs.declared.definition.IndexDef.{IndexDef}
 use Rattle.ft_base.specs.declared.doc.Doc.{Doc}
 use Rattle.ft_meaning.specs.Member.{members, most_failures, one_more}
 use Rattle.ft_index.specs.Has.{Has}
-use Rattle.ft_index.specs.Lists.{AllLists}
+use Rattle.ft_index.specs.Lists.{AllLists, has_id}
 use Rattle.ft_index.specs.Kept.{AreKept}
 use Rattle.ft_index.specs.declared.ready.Fit.{Fit}
 use Rattle.ft_index.specs.declared.ready.Fit.TheVariants.{Member, NoPrefix, Failed}
 use Rattle.ft_index.specs.declared.ready.Ready.{Ready}
+use Rattle.ft_index.specs.Without.{without}
 
 pub record Index : Type 0 where
   pub def : IndexDef
@@ -27,6 +29,30 @@ pub record Index : Type 0 where
 -- lists.
 abbrev pub Indexes : Index → List Doc → Type 0
 Indexes index docs = Has index.def index.table.live index.lists (members index.def docs)
+
+-- It stands on for whatever it stood for,
+abbrev pub StandsOn : Index → Index → Type 0
+StandsOn old new = (docs : List Doc) → Indexes old docs → Indexes new docs
+
+-- for a document beside it,
+abbrev pub StandsBeside : Doc → Index → Index → Type 0
+StandsBeside doc old new = (docs : List Doc) → Indexes old docs → Indexes new (docs ++ doc ∷ [])
+
+-- or for all but that of an id.
+abbrev pub StandsWithout : ℕ → Index → Index → Type 0
+StandsWithout id old new = (docs : List Doc) → Indexes old docs → Indexes new (without id docs)
+
+-- whether an id is live
+abbrev pub is_live : Index → ℕ → Bool
+is_live index id = has_id index.table.live id
+
+-- the index once an id is taken out of its documents
+abbrev pub killed : ℕ → Index → Index
+killed id index = record index { table = record index.table { live = remove_entry (nat_eq id) index.table.live } }
+
+-- a document that is no member changes nothing but that it waits
+abbrev pub OnlyWaits : Ready → Index → Index → Type 0
+OnlyWaits ready old new = ready.fit ≢ Member → new ≡ record old { waits = Some ready }
 
 -- the table once the document that waits is live
 abbrev pub commits : Option (ℕ × Vector) → Table → Table

@@ -11,6 +11,5 @@ pub mod Markers
 pub mod Numbering
 pub mod Records
 pub mod Tagging
-pub mod Taking
 pub mod UpTo
 pub mod Without

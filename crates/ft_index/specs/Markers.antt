@@ -1,4 +1,4 @@
--- The markers of the lists of an index, by the lists' names.
+-- The markers of the lists of an index, by the lists' names, and how lists take them.
 use Rattle.std.specs.Prelude.{◌≡◌, ◌<◌, ◌≤◌, ◌⊎◌, ℕ, ℤ, List, Option, Some, None, IfSome}
 use Rattle.id_iters.specs.declared.list_name.ListName.{ListName}
 use Rattle.id_iters.specs.declared.list_name.ListName.TheVariants as names
@@ -65,3 +65,20 @@ pub record IsGiven (from to : Markers) (marker : Marker) : Type 0 where
 -- each list has a marker that one had before, or one that was given in between
 abbrev pub GainsMarkers : AllLists → AllLists → Markers → Markers → Type 0
 GainsMarkers old new from to = (marker : Marker) → HasMarker new marker → HasMarker old marker ⊎ IsGiven from to marker
+
+-- each list has a marker that was given in between
+abbrev pub AreGiven : Markers → Markers → AllLists → Type 0
+AreGiven from to lists = (marker : Marker) → HasMarker lists marker → IsGiven from to marker
+
+-- The same of lists by any names: how those of one kind, or all, take markers.
+module _ {N : Type 0} where
+  -- the marker of each name was given before
+  abbrev pub AllBefore : Markers → (N → Option Marker) → Type 0
+  AllBefore markers held = (name : N) → IfSome (held name) (IsBefore markers)
+
+  -- Each name has the marker that it had, or one that was given in between; of these no two names have one.
+  pub record TakesMarkers (from to : Markers) (old new : N → Option Marker) : Type 0 where
+    pub event : to.event ≡ from.event
+    pub next : from.next ≤ to.next
+    pub gains : (name : N) (marker : Marker) → new name ≡ Some marker → (old name ≡ Some marker) ⊎ IsGiven from to marker
+    pub apart : (name other : N) (marker : Marker) → IsGiven from to marker → new name ≡ Some marker → new other ≡ Some marker → name ≡ other

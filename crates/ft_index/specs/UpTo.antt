@@ -1,8 +1,8 @@
 -- How the ids of lists rise, and how far they go.
-use Rattle.std.specs.Prelude.{◌≤◌, ℕ, List, Option, IfSome}
+use Rattle.std.specs.Prelude.{◌<◌, ◌≤◌, ℕ, List, Option, IfSome}
 use Rattle.std.specs.List.{AllByRecursion}
 use Rattle.inverted_list.specs.Listing.{RisesAbove, last_id}
-use Rattle.numeric_ranges.specs.Ranges.{Rows}
+use Rattle.numeric_ranges.specs.Ranges.{IsAbove, Rows}
 use Rattle.posting_block.specs.declared.hits.TextHit.{TextHit}
 use Rattle.term_dict.specs.Tags.{FieldTags, entries_in}
 use Rattle.term_dict.specs.Terms.{Lists, entries_of}
@@ -34,3 +34,15 @@ pub record AreUpTo (last : ℕ) (lists : AllLists) : Type 0 where
   pub words : WordsUpTo last lists.words
   pub tags : TagsUpTo last lists.tags
   pub ranges : RangesUpTo last lists.ranges
+
+-- An id is above those of a word's list, so that its entry may come behind them,
+abbrev pub IsAboveWord : ℕ → Lists TextHit → List ℕ → Type 0
+IsAboveWord id words word = last_id 0 (entries_of words word) < id
+
+-- of the list of a field's tag,
+abbrev pub IsAboveTag : ℕ → FieldTags → ℕ → List ℕ → Type 0
+IsAboveTag id tags field tag = last_id 0 (entries_in tags field tag) < id
+
+-- of the lists of a field's ranges, where it has them.
+abbrev pub IsAboveRows : ℕ → Option Rows → Type 0
+IsAboveRows id rows = IfSome rows (IsAbove id)

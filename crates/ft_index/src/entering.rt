@@ -1,6 +1,6 @@
 //! How a member enters an index: the table makes room for its sorting vector, then the lists get its
 //! entries.
-ghost use Rattle.std.specs.Prelude.{◌≡◌, ◌<◌, ◌≤◌, ◌++◌, ◌∷◌, [], List, ℕ, length, OnOk};
+ghost use Rattle.std.specs.Prelude.{◌≡◌, ◌<◌, ◌≤◌, ◌++◌, ◌∷◌, [], List, length, OnOk};
 ghost use Rattle.ft_base.specs.declared.doc.Doc.{Doc};
 ghost use Rattle.ft_meaning.specs.Meaning.{ValuesFit};
 ghost use Rattle.ft_meaning.specs.Sortable.{sorting_vector};

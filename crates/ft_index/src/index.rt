@@ -1,16 +1,10 @@
 //! An index over its documents' ids: entries of lists first, liveness last.
-ghost use Rattle.std.specs.Prelude.{◌≡◌, ◌≢◌, ◌<◌, ◌≤◌, ◌++◌, ◌∷◌, List, None, Some, [], nat_eq, length, IfOk, OnErr, OnOk};
-ghost use Rattle.std.specs.Map.{remove_entry};
-ghost use Rattle.ft_base.specs.declared.doc.Doc.{Doc};
+ghost use Rattle.std.specs.Prelude.{◌≡◌, ◌<◌, ◌≤◌, None, Some, [], length, IfOk, OnErr, OnOk};
 ghost use Rattle.ft_meaning.specs.Meaning.{ValuesFit};
 ghost use Rattle.ft_meaning.specs.Member.{most_failures, one_more};
 ghost use Rattle.ft_index.specs.Fits.{fit_of};
-ghost use Rattle.ft_index.specs.Index.{Indexes, IsIndex, committed};
-ghost use Rattle.ft_index.specs.declared.ready.Fit.TheVariants.{Member};
-ghost use Rattle.ft_index.specs.Lists.{has_id};
-ghost use Rattle.ft_index.specs.Markers.{AreBefore, GainsMarkers, HasMarker, IsGiven};
-ghost use Rattle.ft_index.specs.Without.{without};
-ghost use Rattle.inverted_list.specs.declared.marker.Marker.{Marker};
+ghost use Rattle.ft_index.specs.Index.{Indexes, IsIndex, OnlyWaits, StandsBeside, StandsOn, StandsWithout, committed, is_live, killed};
+ghost use Rattle.ft_index.specs.Markers.{AreBefore, AreGiven, GainsMarkers};
 
 use crate::entering::enter;
 use crate::lists::IndexLists;
@@ -36,7 +30,7 @@ pub struct FtIndex {
 }
 
 impl Model for FtIndex {
-    ghost use Rattle.ft_index.specs.Index.{Index};
+    ghost use Rattle.ft_index.specs.Index.{Index, IsIndex};
 
     ghost Value = { Index };
 
@@ -48,7 +42,6 @@ impl Model for FtIndex {
       failures = i.failures;
     } };
 
-    ghost use Rattle.ft_index.specs.Index.{IsIndex};
     ghost use Rattle.std.specs.Prelude.{◌≤◌, length};
 
     ghost invariant = { λ i. IsIndex (record {
@@ -75,8 +68,7 @@ impl FtIndex {
         ensures sound { IfOk result IsIndex }
         // Which markers its lists have.
         ensures before { IfOk result (λ index. AreBefore markers.new index.lists) }
-        ensures given { IfOk result (λ index. (marker : Marker)
-            → HasMarker index.lists marker → IsGiven markers.old markers.new marker) }
+        ensures given { IfOk result (λ index. AreGiven markers.old markers.new index.lists) }
         ensures event { markers.new.event ≡ markers.old.event }
         ensures next { markers.old.next ≤ markers.new.next }
     {
@@ -151,7 +143,7 @@ impl FtIndex {
         requires values { ValuesFit doc.now.hash }
         requires markers { AreBefore markers.old self.old.lists }
         // Nothing of it is seen yet, out of memory or not.
-        ensures unseen { (docs : List Doc) → Indexes self.old docs → Indexes self.new docs }
+        ensures unseen { StandsOn self.old self.new }
         ensures live { self.new.table.live ≡ self.old.table.live }
         ensures def { self.new.def ≡ self.old.def }
         ensures failures { self.new.failures ≡ self.old.failures }
@@ -159,13 +151,11 @@ impl FtIndex {
         ensures ready { IfOk result (λ ready.
             ready ≡ record { id = doc.now.id; fit = fit_of self.old.def doc.now }) }
         ensures waits { IfOk result (λ ready. self.new.waits ≡ Some ready) }
-        ensures seen { OnOk result ((docs : List Doc) → Indexes self.old docs
-            → Indexes (committed self.new) (docs ++ doc.now ∷ [])) }
+        ensures seen { OnOk result (StandsBeside doc.now self.old (committed self.new)) }
         ensures last { self.new.table.last ≤ doc.now.id }
         ensures sound { IsIndex self.new }
         // Where it is no member, nothing else changes; out of memory nothing waits.
-        ensures others { IfOk result (λ ready. ready.fit ≢ Member
-            → self.new ≡ record self.old { waits = Some ready }) }
+        ensures others { IfOk result (λ ready. OnlyWaits ready self.old self.new) }
         ensures none { OnErr result (self.new.waits ≡ None) }
         // Which markers its lists have.
         ensures before { AreBefore markers.new self.new.lists }
@@ -211,13 +201,9 @@ impl FtIndex {
     /// Takes a document out, and answers whether it was live. Its entries stay, and are dead. It
     /// takes no memory.
     pub fn kill(&mut self, id: u64) -> bool
-        ensures was { result ≡ has_id self.old.table.live id }
-        ensures gone { self.new ≡ record self.old {
-          table = record self.old.table {
-            live = remove_entry (nat_eq id) self.old.table.live;
-          };
-        } }
-        ensures docs { (docs : List Doc) → Indexes self.old docs → Indexes self.new (without id docs) }
+        ensures was { result ≡ is_live self.old id }
+        ensures gone { self.new ≡ killed id self.old }
+        ensures docs { StandsWithout id self.old self.new }
     {
         self.table.kill(id)
     }

@@ -16,6 +16,7 @@ mod lists;
 mod numbers;
 mod reading;
 mod ready;
+mod records;
 mod sorting;
 mod tags;
 mod words;

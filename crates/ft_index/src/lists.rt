@@ -1,20 +1,14 @@
 //! The lists of an index, by kind, and how a document's entries go into them.
-ghost use Rattle.std.specs.Prelude.{◌≡◌, ◌<◌, ◌≤◌, ◌+◌, ◌*◌, ◌^◌, ℕ, List, [], ◌∷◌, ◌++◌, false, length, IfOk, IfNone, IfSome, OnOk};
-ghost use Rattle.std.specs.Option.{option_copied};
-ghost use Rattle.doc_table.specs.Table.{Vector};
-ghost use Rattle.ft_base.specs.declared.definition.IndexDef.{IndexDef};
-ghost use Rattle.ft_base.specs.declared.doc.Doc.{Doc};
+ghost use Rattle.std.specs.Prelude.{◌≡◌, ◌<◌, ◌≤◌, ◌^◌, ℕ, [], length, IfOk, IfNone, IfSome, OnOk, option_copied};
 ghost use Rattle.ft_meaning.specs.Meaning.{ValuesFit};
-ghost use Rattle.ft_meaning.specs.Records.{live_records};
-ghost use Rattle.ft_meaning.specs.Sortable.{sorting_vector};
-ghost use Rattle.inverted_list.specs.declared.marker.Marker.{Marker};
-ghost use Rattle.ft_index.specs.Has.{Has};
-ghost use Rattle.ft_index.specs.Lists.{has_id, rows_of};
-ghost use Rattle.ft_index.specs.Markers.{AreBefore, GainsMarkers, HasMarker, IsGiven, MarkersDiffer};
-ghost use Rattle.ft_index.specs.Records.{all_entries};
+ghost use Rattle.ft_index.specs.Adding.{IsSeen, IsUnseen, ListsHave};
+ghost use Rattle.ft_index.specs.Lists.{rows_of};
+ghost use Rattle.ft_index.specs.Markers.{AreBefore, AreGiven, GainsMarkers, MarkersDiffer};
+ghost use Rattle.ft_index.specs.Records.{CountsLive, all_entries};
 ghost use Rattle.ft_index.specs.UpTo.{AreUpTo};
 
-use crate::numbers::{add_numbers, entries_in_ranges, first_ranges};
+use crate::numbers::{add_numbers, first_ranges};
+use crate::records::entries_in_ranges;
 use crate::tags::add_tags;
 use crate::words::add_words;
 use ft_base::{Doc, IndexDef, NoMemory};
@@ -55,7 +49,7 @@ impl IndexLists {
     /// NOINDEX. Each takes a marker.
     pub fn new(alloc: Global, def: &IndexDef, markers: &mut Markers) -> Result<IndexLists, NoMemory>
         requires { length def.now.fields ≤ 1_024 }
-        ensures empty { IfOk result (λ lists. Has def.now [] lists []) }
+        ensures empty { IfOk result (λ lists. ListsHave def.now lists [] []) }
         // No word and no tag has even a list without entries.
         ensures words { IfOk result (λ lists. lists.words ≡ []) }
         ensures tags { IfOk result (λ lists. lists.tags ≡ []) }
@@ -63,8 +57,7 @@ impl IndexLists {
         // Which markers its lists have.
         ensures differ { IfOk result (λ lists. MarkersDiffer lists) }
         ensures before { IfOk result (λ lists. AreBefore markers.new lists) }
-        ensures given { IfOk result (λ lists. (marker : Marker)
-            → HasMarker lists marker → IsGiven markers.old markers.new marker) }
+        ensures given { IfOk result (λ lists. AreGiven markers.old markers.new lists) }
         ensures event { markers.new.event ≡ markers.old.event }
         ensures next { markers.old.next ≤ markers.new.next }
     {
@@ -105,8 +98,7 @@ impl IndexLists {
         ensures fits { IfSome result (λ n. n < 2 ^ 63) }
         ensures none { IfNone result (2 ^ 63 ≤ all_entries self.now) }
         // There are at least the live ones.
-        ensures least { (def : IndexDef) (live : List (ℕ × Vector)) (docs : List Doc)
-            → Has def live self.now docs → IfSome result (λ n. live_records def docs ≤ n) }
+        ensures least { CountsLive self.now result }
     {
         let words = self.terms.entries()?;
         let tags = self.tags.entries()?;
@@ -124,11 +116,10 @@ impl IndexLists {
         requires differ { MarkersDiffer self.old }
         requires before { AreBefore markers.old self.old }
         // Nothing of it is seen while its id is not live, out of memory or not.
-        ensures unseen { (live : List (ℕ × Vector)) (docs : List Doc) → has_id live doc.now.id ≡ false
-            → Has def.now live self.old docs → Has def.now live self.new docs }
+        ensures unseen { IsUnseen doc.now.id (ListsHave def.now self.old) (ListsHave def.now self.new) }
         // Once the id is live, the lists stand for the document too.
-        ensures seen { OnOk result ((live : List (ℕ × Vector)) (docs : List Doc) → Has def.now live self.old docs
-            → Has def.now (live ++ (doc.now.id, sorting_vector def.now doc.now) ∷ []) self.new (docs ++ doc.now ∷ [])) }
+        ensures seen { OnOk result (IsSeen def.now doc.now
+            (ListsHave def.now self.old) (ListsHave def.now self.new)) }
         ensures up_to { AreUpTo doc.now.id self.new }
         // Which markers its lists have.
         ensures differ { MarkersDiffer self.new }

@@ -1,16 +1,12 @@
 //! The numbers of a document: each goes into a range of its NUMERIC field.
-ghost use Rattle.std.specs.Prelude.{◌≡◌, ◌≢◌, ◌<◌, ◌≤◌, ◌+◌, ◌*◌, ◌^◌, List, ℕ, [], ◌∷◌, None, Some, length, IfOk, IfNone, IfSome, OnOk, OnErr};
-ghost use Rattle.ft_base.specs.declared.definition.IndexDef.{IndexDef};
+ghost use Rattle.std.specs.Prelude.{◌≡◌, ◌≢◌, ◌≤◌, ℕ, [], None, Some, IfOk, IfSome, OnErr, OnOk};
 ghost use Rattle.ft_meaning.specs.Holds.{field_number};
-ghost use Rattle.numeric_ranges.specs.Ranges.{IsAbove};
-ghost use Rattle.ft_index.specs.Adding.{IsSeen, IsUnseen, RangesHaveAll};
+ghost use Rattle.ft_index.specs.Adding.{IsSeen, IsUnseen, RangesHaveAll, RangesUnseen};
 ghost use Rattle.ft_index.specs.Entries.{is_ranged, searched_number};
 ghost use Rattle.ft_index.specs.Lists.{rows_of};
-ghost use Rattle.ft_index.specs.Markers.{range_marker, slot_marker};
+ghost use Rattle.ft_index.specs.Markers.{AllBefore, TakesMarkers, range_marker, slot_marker};
 ghost use Rattle.ft_index.specs.Numbering.{IsFirst, RangesGain, RowsGain, value_entry};
-ghost use Rattle.ft_index.specs.Records.{entries_in_ranges, entries_in_slot};
-ghost use Rattle.ft_index.specs.Taking.{AllBefore, TakesMarkers};
-ghost use Rattle.ft_index.specs.UpTo.{RangesUpTo, RowsUpTo};
+ghost use Rattle.ft_index.specs.UpTo.{IsAboveRows, RangesUpTo, RowsUpTo};
 
 use ft_base::{Doc, Field, IndexDef, NoMemory};
 use inverted_list::Markers;
@@ -59,29 +55,6 @@ fn has_ranges(field: &Field) -> bool
     field.kind.is_numeric() && !field.noindex
 }
 
-/// The number of entries of the ranges of all fields: none where it is no `u64`.
-pub fn entries_in_ranges(ranges: &[Option<Ranges>]) -> Option<u64>
-    ensures some { IfSome result (λ n. n ≡ entries_in_ranges ranges.now) }
-    ensures none { IfNone result (2 ^ 64 ≤ entries_in_ranges ranges.now) }
-{
-    let mut total: u64 = 0;
-    for slot in ranges {
-        total = total.checked_add(entries_in_slot(slot)?)?;
-    }
-    Some(total)
-}
-
-/// The number of entries of one field's ranges, where it has ranges.
-fn entries_in_slot(slot: &Option<Ranges>) -> Option<u64>
-    ensures some { IfSome result (λ n. n ≡ entries_in_slot slot.now) }
-    ensures none { IfNone result (2 ^ 64 ≤ entries_in_slot slot.now) }
-{
-    match slot {
-        Some(rows) => rows.entries(),
-        None => Some(0),
-    }
-}
-
 /// Puts an entry for each of the document's numbers into a range. Out of memory, some have
 /// theirs.
 pub fn add_numbers(
@@ -90,7 +63,7 @@ pub fn add_numbers(
     doc: &Doc,
     markers: &mut Markers,
 ) -> Result<(), NoMemory>
-    requires later { (number : ℕ) → IfSome (rows_of ranges.old number) (IsAbove doc.now.id) }
+    requires later { (number : ℕ) → IsAboveRows doc.now.id (rows_of ranges.old number) }
     requires up_to { RangesUpTo doc.now.id ranges.old }
     requires before { AllBefore markers.old (range_marker ranges.old) }
     ensures unseen { IsUnseen doc.now.id
@@ -111,12 +84,11 @@ fn add_all(
     doc: &Doc,
     markers: &mut Markers,
 ) -> Result<(), NoMemory>
-    requires later { (number : ℕ) → IfSome (rows_of ranges.old number) (IsAbove doc.now.id) }
+    requires later { (number : ℕ) → IsAboveRows doc.now.id (rows_of ranges.old number) }
     requires up_to { RangesUpTo doc.now.id ranges.old }
     requires before { AllBefore markers.old (range_marker ranges.old) }
     ensures ok { OnOk result (RangesGain fields.now doc.now ranges.old ranges.new) }
-    ensures unseen { (def : IndexDef) → IsUnseen doc.now.id
-        (RangesHaveAll def ranges.old) (RangesHaveAll def ranges.new) }
+    ensures unseen { RangesUnseen doc.now.id ranges.old ranges.new }
     ensures up_to { RangesUpTo doc.now.id ranges.new }
     ensures takes { TakesMarkers markers.old markers.new
         (range_marker ranges.old) (range_marker ranges.new) }
@@ -157,7 +129,7 @@ fn add_field(
     id: u64,
     markers: &mut Markers,
 ) -> Result<(), NoMemory>
-    requires later { IfSome (rows_of ranges.old number) (IsAbove id) }
+    requires later { IsAboveRows id (rows_of ranges.old number) }
     requires up_to { RangesUpTo id ranges.old }
     requires before { AllBefore markers.old (range_marker ranges.old) }
     ensures here { OnOk result (RowsGain (value_entry id value)
@@ -181,7 +153,7 @@ fn add_value(
     id: u64,
     markers: &mut Markers,
 ) -> Result<(), NoMemory>
-    requires above { IfSome slot.old (IsAbove id) }
+    requires above { IsAboveRows id slot.old }
     requires before { AllBefore markers.old (slot_marker slot.old) }
     ensures gains { OnOk result (RowsGain (value_entry id value) slot.old slot.new) }
     ensures err { OnErr result (slot.new ≡ slot.old) }

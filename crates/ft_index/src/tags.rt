@@ -1,16 +1,10 @@
 //! The tags of a document: each tag's list gets one entry, a TAG field at a time.
-ghost use Rattle.std.specs.Prelude.{◌≡◌, ◌<◌, ◌≤◌, ◌+◌, ◌*◌, ◌&&◌, List, ℕ, ◌++◌, Some, nat_eq, length, IfOk, OnOk, OnErr};
-ghost use Rattle.std.specs.List.{list_any};
-ghost use Rattle.std.specs.Str.{bytes_eq};
-ghost use Rattle.ft_base.specs.declared.definition.IndexDef.{IndexDef};
-ghost use Rattle.inverted_list.specs.Listing.{last_id};
-ghost use Rattle.term_dict.specs.Tags.{entries_in};
-ghost use Rattle.ft_index.specs.Adding.{IsSeen, IsUnseen, TagsHave, tag_entry};
-ghost use Rattle.ft_index.specs.Entries.{has_tag, searched_tags};
-ghost use Rattle.ft_index.specs.Markers.{tag_marker};
-ghost use Rattle.ft_index.specs.Taking.{AllBefore, TakesMarkers};
-ghost use Rattle.ft_index.specs.Tagging.{AreApart, TagsGain};
-ghost use Rattle.ft_index.specs.UpTo.{TagsUpTo};
+ghost use Rattle.std.specs.Prelude.{◌≡◌, ◌≤◌, List, ℕ, Some, length, IfOk, OnOk, OnErr};
+ghost use Rattle.ft_index.specs.Adding.{IsSeen, IsUnseen, TagsHave, TagsUnseen};
+ghost use Rattle.ft_index.specs.Entries.{searched_tags};
+ghost use Rattle.ft_index.specs.Markers.{AllBefore, TakesMarkers, tag_marker};
+ghost use Rattle.ft_index.specs.Tagging.{AreApart, FieldTagsGain, TagGains, TagsGain};
+ghost use Rattle.ft_index.specs.UpTo.{IsAboveTag, TagsUpTo};
 
 use field_text::tags;
 use ft_base::{Bytes, Doc, Field, FieldKind, IndexDef, ListOf, NoMemory};
@@ -29,7 +23,7 @@ pub fn add_tags(
     markers: &mut Markers,
 ) -> Result<(), NoMemory>
     requires fields { length def.now.fields ≤ 1_024 }
-    requires later { (field : ℕ) (tag : List ℕ) → last_id 0 (entries_in lists.old field tag) < doc.now.id }
+    requires later { (field : ℕ) (tag : List ℕ) → IsAboveTag doc.now.id lists.old field tag }
     requires up_to { TagsUpTo doc.now.id lists.old }
     requires before { AllBefore markers.old (tag_marker lists.old) }
     ensures unseen { IsUnseen doc.now.id (TagsHave def.now lists.old) (TagsHave def.now lists.new) }
@@ -49,11 +43,11 @@ fn add_all(
     markers: &mut Markers,
 ) -> Result<(), NoMemory>
     requires fields { length fields.now ≤ 1_024 }
-    requires later { (field : ℕ) (tag : List ℕ) → last_id 0 (entries_in lists.old field tag) < doc.now.id }
+    requires later { (field : ℕ) (tag : List ℕ) → IsAboveTag doc.now.id lists.old field tag }
     requires up_to { TagsUpTo doc.now.id lists.old }
     requires before { AllBefore markers.old (tag_marker lists.old) }
     ensures ok { OnOk result (TagsGain fields.now doc.now lists.old lists.new) }
-    ensures unseen { (def : IndexDef) → IsUnseen doc.now.id (TagsHave def lists.old) (TagsHave def lists.new) }
+    ensures unseen { TagsUnseen doc.now.id lists.old lists.new }
     ensures up_to { TagsUpTo doc.now.id lists.new }
     ensures takes { TakesMarkers markers.old markers.new (tag_marker lists.old) (tag_marker lists.new) }
 {
@@ -90,13 +84,11 @@ fn add_field(
     markers: &mut Markers,
 ) -> Result<(), NoMemory>
     requires apart { AreApart tags.now }
-    requires later { (tag : List ℕ) → last_id 0 (entries_in lists.old field tag) < id }
+    requires later { (tag : List ℕ) → IsAboveTag id lists.old field tag }
     requires up_to { TagsUpTo id lists.old }
     requires before { AllBefore markers.old (tag_marker lists.old) }
-    ensures ok { OnOk result ((other : ℕ) (tag : List ℕ) → entries_in lists.new other tag
-        ≡ entries_in lists.old other tag
-        ++ tag_entry id (nat_eq other field && list_any (bytes_eq tag) tags.now)) }
-    ensures unseen { (def : IndexDef) → IsUnseen id (TagsHave def lists.old) (TagsHave def lists.new) }
+    ensures ok { OnOk result (FieldTagsGain field tags.now id lists.old lists.new) }
+    ensures unseen { TagsUnseen id lists.old lists.new }
     ensures up_to { TagsUpTo id lists.new }
     ensures takes { TakesMarkers markers.old markers.new (tag_marker lists.old) (tag_marker lists.new) }
 {
@@ -114,11 +106,10 @@ fn add(
     id: u64,
     markers: &mut Markers,
 ) -> Result<(), NoMemory>
-    requires later { last_id 0 (entries_in lists.old field tag.now) < id }
+    requires later { IsAboveTag id lists.old field tag.now }
     requires up_to { TagsUpTo id lists.old }
     requires before { AllBefore markers.old (tag_marker lists.old) }
-    ensures ok { OnOk result ((other : ℕ) (name : List ℕ) → entries_in lists.new other name
-        ≡ entries_in lists.old other name ++ tag_entry id (nat_eq other field && bytes_eq name tag.now)) }
+    ensures ok { OnOk result (TagGains field tag.now id lists.old lists.new) }
     ensures err { OnErr result (lists.new ≡ lists.old) }
     ensures up_to { TagsUpTo id lists.new }
     ensures takes { TakesMarkers markers.old markers.new (tag_marker lists.old) (tag_marker lists.new) }

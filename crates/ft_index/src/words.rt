@@ -1,17 +1,13 @@
 //! The words of a document: they are collected in one pass, each with the codes of where it stands,
 //! and then each word's list gets one entry.
-ghost use Rattle.std.specs.Prelude.{◌≡◌, ◌<◌, ◌≤◌, ◌+◌, ◌*◌, ◌^◌, List, ℕ, [], ◌∷◌, ◌++◌, map, length, if◌then◌else◌, IfOk, OnOk, OnErr};
-ghost use Rattle.std.specs.Str.{bytes_eq};
+ghost use Rattle.std.specs.Prelude.{◌≡◌, ◌<◌, ◌≤◌, ◌+◌, ◌*◌, ◌^◌, List, ℕ, [], ◌∷◌, ◌++◌, map, length, IfOk, OnOk, OnErr};
 ghost use Rattle.ft_base.specs.declared.limits.TheConstants.{MAX_WORD_BYTES};
 ghost use Rattle.ft_meaning.specs.Meaning.{ValuesFit, field_tokens};
-ghost use Rattle.inverted_list.specs.Listing.{last_id};
-ghost use Rattle.term_dict.specs.Terms.{entries_of};
 ghost use Rattle.ft_index.specs.Adding.{IsSeen, IsUnseen, WordsHave};
-ghost use Rattle.ft_index.specs.Collected.{AreMet, GrowBy, codes_of, occurrences_in};
-ghost use Rattle.ft_index.specs.Entries.{codes, codes_among, entry, occurrence};
-ghost use Rattle.ft_index.specs.Markers.{word_marker};
-ghost use Rattle.ft_index.specs.Taking.{AllBefore, TakesMarkers};
-ghost use Rattle.ft_index.specs.UpTo.{WordsUpTo};
+ghost use Rattle.ft_index.specs.Collected.{AreMet, GrowBy, IsNoted, WordGains, WordsGain, codes_of, occurrences_in};
+ghost use Rattle.ft_index.specs.Entries.{codes_among, occurrence};
+ghost use Rattle.ft_index.specs.Markers.{AllBefore, TakesMarkers, word_marker};
+ghost use Rattle.ft_index.specs.UpTo.{IsAboveWord, WordsUpTo};
 
 use ft_base::{Doc, IndexDef, NoMemory};
 use ft_meaning::field_tokens;
@@ -40,7 +36,7 @@ pub fn add_words(
 ) -> Result<(), NoMemory>
     requires fields { length def.now.fields ≤ 1_024 }
     requires values { ValuesFit doc.now.hash }
-    requires later { (word : List ℕ) → last_id 0 (entries_of terms.old word) < doc.now.id }
+    requires later { (word : List ℕ) → IsAboveWord doc.now.id terms.old word }
     requires up_to { WordsUpTo doc.now.id terms.old }
     requires before { AllBefore markers.old (word_marker terms.old) }
     ensures unseen { IsUnseen doc.now.id (WordsHave def.now terms.old) (WordsHave def.now terms.new) }
@@ -108,8 +104,7 @@ fn code_of(number: u64, i: usize) -> u64
 
 /// Adds a code behind those of its word.
 fn note<'a>(found: &mut WordCodes<'a>, word: &'a [u8], code: u64) -> Result<(), NoMemory>
-    ensures codes { OnOk result ((other : List ℕ) → codes_of found.new.entries other
-        ≡ codes_of found.old.entries other ++ (if bytes_eq other word.now then code ∷ [] else [])) }
+    ensures codes { OnOk result (IsNoted word.now code found.old.entries found.new.entries) }
     ensures met { OnOk result (AreMet found.old.entries → AreMet found.new.entries) }
 {
     if let Some(places) = found.get_mut(word) {
@@ -136,12 +131,11 @@ fn add_all(
     id: u64,
     markers: &mut Markers,
 ) -> Result<(), NoMemory>
-    requires later { (word : List ℕ) → last_id 0 (entries_of terms.old word) < id }
+    requires later { (word : List ℕ) → IsAboveWord id terms.old word }
     requires up_to { WordsUpTo id terms.old }
     requires met { AreMet found.entries }
     requires before { AllBefore markers.old (word_marker terms.old) }
-    ensures ok { OnOk result ((word : List ℕ) → entries_of terms.new word
-        ≡ entries_of terms.old word ++ entry id (codes_of found.entry.entries word)) }
+    ensures ok { OnOk result (WordsGain found.entry.entries id terms.old terms.new) }
     ensures some { GrowBy id terms.old terms.new }
     ensures up_to { WordsUpTo id terms.new }
     ensures takes { TakesMarkers markers.old markers.new (word_marker terms.old) (word_marker terms.new) }
@@ -160,12 +154,10 @@ fn add(
     id: u64,
     markers: &mut Markers,
 ) -> Result<(), NoMemory>
-    requires later { last_id 0 (entries_of terms.old word.now) < id }
+    requires later { IsAboveWord id terms.old word.now }
     requires up_to { WordsUpTo id terms.old }
     requires before { AllBefore markers.old (word_marker terms.old) }
-    ensures ok { OnOk result ((other : List ℕ) → entries_of terms.new other ≡ (if bytes_eq word.now other
-        then entries_of terms.old other ++ (id, record { places = codes }) ∷ []
-        else entries_of terms.old other)) }
+    ensures ok { OnOk result (WordGains word.now id codes terms.old terms.new) }
     ensures err { OnErr result (terms.new ≡ terms.old) }
     ensures up_to { WordsUpTo id terms.new }
     ensures takes { TakesMarkers markers.old markers.new (word_marker terms.old) (word_marker terms.new) }

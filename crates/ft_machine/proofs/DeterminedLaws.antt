@@ -1,4 +1,4 @@
--- A command that is answered so leads to one state, and has one reply where memory is not wanting.
+-- A command that is answered so leads to one state, and has one reply where memory did not run out.
 use Rattle.std.specs.Prelude.{◌≡◌, ◌≢◌, ◌<◌, ◌⊎◌, ◌+ℤ◌, ℕ, ℤ, nat_le, length, List, [], ◌∷◌, ◌++◌, Bool, true, false, Option, None, Some, Result, Ok, Err, drop, is_some, slice_index_or, map, refl, if◌then◌else◌, codes}
 use denote.Hole.Carrier.{out}
 use Rattle.std.specs.Fmt.{decimal}
@@ -297,7 +297,7 @@ given-settled (Aggregate what) number state a x = queried-settled _ _ _ _ state 
 given-settled (CursorRead index id count) number state a x = by-made _ a state x (cursor_read-settled _ id count state)
 given-settled (CursorDel index id) number state a x = by-made _ a state x (cursor_deleted-settled _ id state)
 
--- what says that memory is wanting, and what is settled and says so, leave the state
+-- what says that memory ran out, and what is settled and says so, leave the state
 want-state : (a b : Outcome) (state : State) → IsSettled state a → b ≡ wanting state → spelling a.reply ≡ spelling b.reply → a.after ≡ state
 want-state a b state (inl same) want said = same
 want-state a b state (inr differs) want said = absurd (differs (ap mark said ∙ want-mark b state want))
@@ -368,7 +368,7 @@ given-reply laws (Aggregate what) number state other_than a b x y = ap (λ (o : 
 given-reply laws (CursorRead index id count) number state other_than a b x y = ap (λ (o : Outcome). o.reply) (x ∙ sym y)
 given-reply laws (CursorDel index id) number state other_than a b x y = ap (λ (o : Outcome). o.reply) (x ∙ sym y)
 
--- an outcome that does not tell of want of memory
+-- an outcome that does not tell that memory ran out
 abbrev Says : Outcome → Type 0
 Says outcome = spelling outcome.reply ≢ spelling out_of_memory
 

@@ -22,7 +22,7 @@ made May outcome written new may said led = record { outcome = outcome; may = ma
 pub stays : (May : Outcome → Type 0) (state : State) (written : List ℕ) (reply : Reply) → May (answered reply state) → written ≡ spelling reply → Gives May written state
 stays May state written reply may said = made May (answered reply state) written state may said refl
 
--- a command that is answered that memory was wanting
+-- a command that is answered that memory ran out
 pub wants : (asks : Asked) (number : ℕ) (state : State) (written : List ℕ) → MayWant asks → written ≡ spelling out_of_memory → Does asks number state written state
 wants asks number state written may said = made (outcomes asks number state) (wanting state) written state (inr (may, refl)) said refl
 
@@ -31,7 +31,7 @@ pub gives : (asks : Asked) (number : ℕ) (state : State) (outcome : Outcome) (w
     → Does asks number state written new
 gives asks number state outcome written new may said led = made (outcomes asks number state) outcome written new (inl may) said led
 
--- A reply that was made, or for which memory was wanting, is one that is asked for.
+-- A reply that was made, or for which memory ran out, is one that is asked for.
 pub told : {E : Type 0} (asks : Asked) (number : ℕ) (state : State) (written : List ℕ) (reply : Result Reply E) → MayWant asks
     → IfOk reply (λ r. given asks number state (answered r state)) → Told reply written → Does asks number state written state
 told asks number state written (Ok r) may is (inl said) = gives asks number state (answered r state) written state is said refl

@@ -18,7 +18,7 @@ abbrev pub HasOneState : Type 0
 HasOneState = (words : List (List ℕ)) (number moment : ℕ) (old : State) (written : List ℕ) (new next : State)
     → Answers words number moment old written new → Answers words number moment old written next → new ≡ next
 
--- One command from one state, that does not tell of want of memory, writes one reply. FT.INFO of an index that is there is
+-- One command from one state, that does not tell that memory ran out, writes one reply. FT.INFO of an index that is there is
 -- left out, as it tells a number of records that may be above that of the live ones.
 abbrev pub HasOneReply : Type 0
 HasOneReply = (words : List (List ℕ)) (number moment : ℕ) (old : State) (written other : List ℕ) (new next : State)
@@ -33,7 +33,7 @@ pub record DifferInRecords (def : IndexDef) (written other : List ℕ) : Type 0 
   pub first_reply : written ≡ spelling (info_reply def counts)
   pub second_reply : other ≡ spelling (info_reply def (record counts { records = records }))
 
--- Two replies of FT.INFO in one state, neither of which tells of want of memory, differ in the number of records alone.
+-- Two replies of FT.INFO in one state, neither of which tells that memory ran out, differ in the number of records alone.
 abbrev pub InfoDiffersInRecords : Type 0
 InfoDiffersInRecords = (args : List (List ℕ)) (index : Defined) (words : List (List ℕ)) (number moment : ℕ) (old : State) (written other : List ℕ) (new next : State)
     → number < last_number → read number words ≡ Ok (Plain Info args) → index_of old.definitions (first args) ≡ Some index

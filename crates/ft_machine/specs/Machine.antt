@@ -42,7 +42,7 @@ pub record Outcome : Type 0 where
 abbrev pub answered : Reply → State → Outcome
 answered reply state = record { reply = reply; after = state }
 
--- the outcome where memory is wanting
+-- the outcome out of memory
 abbrev pub wanting : State → Outcome
 wanting state = answered out_of_memory state
 

@@ -26,13 +26,13 @@ given (Aggregate what) number state = aggregated (index_of state.definitions wha
 given (CursorRead index id count) number state = just (cursor_read (index_of state.definitions index) id count state)
 given (CursorDel index id) number state = just (cursor_deleted (index_of state.definitions index) id state)
 
--- Whether a command may be answered that memory is wanting.
+-- Whether a command may be answered that memory ran out.
 abbrev pub MayWant : Asked → Type 0
 MayWant (Plain verb args) = PlainMayWant verb args
 MayWant (CursorDel index id) = ⊥
 MayWant _ = Unit {0}
 
--- What a command may give: what it asks; or memory was wanting.
+-- What a command may give: what it asks; or memory ran out.
 abbrev pub outcomes : Asked → ℕ → State → Outcome → Type 0
 outcomes asks number state outcome = given asks number state outcome ⊎ (MayWant asks × (outcome ≡ wanting state))
 
@@ -41,7 +41,7 @@ abbrev pub read_gives : List ℕ → Result Asked CmdFault → ℕ → State →
 read_gives name (Ok asks) number state = outcomes asks number state
 read_gives name (Err fault) number state = just (answered (Fault (refusal name fault)) state)
 
--- What words may give, by what they ask; or memory was wanting for the words of a schema or of parameters. The event's
+-- What words may give, by what they ask; or memory ran out for the words of a schema or of parameters. The event's
 -- number is the serial of an index that is created.
 abbrev pub words_give : List (List ℕ) → ℕ → State → Outcome → Type 0
 words_give words number state outcome =
@@ -55,11 +55,11 @@ pub record Gives (May : Outcome → Type 0) (written : List ℕ) (new : State) :
   pub reply : written ≡ spelling outcome.reply
   pub after : new ≡ outcome.after
 
--- What was asked was done, or memory was wanting.
+-- What was asked was done, or memory ran out.
 abbrev pub Does : Asked → ℕ → State → List ℕ → State → Type 0
 Does asks number old written new = Gives (outcomes asks number old) written new
 
--- What was made is written, or memory was wanting.
+-- What was made is written, or memory ran out.
 abbrev pub Told : {E : Type 0} → Result Reply E → List ℕ → Type 0
 Told (Ok reply) written = (written ≡ spelling reply) ⊎ (written ≡ spelling out_of_memory)
 Told (Err e) written = written ≡ spelling out_of_memory

@@ -3,7 +3,7 @@ ghost use Rattle.ft_machine.specs.Determined.{HasOneReply, HasOneState, InfoDiff
 
 use query_grammar::{one_fault, one_tree, tree_or_fault};
 
-/// A command has one reply, but for want of memory and the records that FT.INFO tells.
+/// A command has one reply, unless memory ran out, but for the records that FT.INFO tells.
 pub fn one_reply()
     ensures reply { HasOneReply }
     ensures records { InfoDiffersInRecords }

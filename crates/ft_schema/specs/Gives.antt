@@ -5,7 +5,7 @@ use Rattle.ft_schema.specs.declared.fault.SchemaFault.TheVariants as answers
 use Rattle.ft_schema.specs.declared.fault.Stop.{Stop}
 use Rattle.ft_schema.specs.declared.fault.Stop.TheVariants.{Fault, NoMemory}
 
--- the code stops where reading does; want of memory says nothing of the words
+-- the code stops where reading does; running out of memory says nothing of the words
 abbrev pub Stops : {A : Type 0} → Stop → Result A Stop → Type 0
 Stops NoMemory read = Unit {0}
 Stops (Fault cause left) read = read ≡ Err (Fault cause left)
@@ -20,7 +20,7 @@ abbrev pub GivesSome : {X A : Type 0} → (X → A) → Option X → Option A �
 GivesSome view (Some x) read = read ≡ Some (view x)
 GivesSome view None read = read ≡ None
 
--- A fault is the one that the words have; want of memory says nothing of them.
+-- A fault is the one that the words have; running out of memory says nothing of them.
 abbrev pub IsFaultOf : {A : Type 0} → SchemaFault → Result A SchemaFault → Type 0
 IsFaultOf answers.NoMemory read = Unit {0}
 IsFaultOf (answers.BadOption at) read = read ≡ Err (answers.BadOption at)

@@ -1,7 +1,6 @@
 //! An index with more fields, as FT.ALTER adds them.
-ghost use Rattle.std.specs.Prelude.{◌≡◌, ◌||◌, ◌++◌, List, ℕ, Ok, IfOk, IfErr, OnOk};
+ghost use Rattle.std.specs.Prelude.{◌≡◌, ◌||◌, ◌++◌, List, ℕ, Ok, IfOk, IfErr, OnOk, bytes_eq};
 ghost use Rattle.std.specs.List.{list_any};
-ghost use Rattle.std.specs.Str.{bytes_eq};
 ghost use Rattle.ft_base.specs.declared.definition.Field.{Field};
 ghost use Rattle.ft_schema.specs.FieldAliases.{field_aliases};
 ghost use Rattle.ft_schema.specs.Fields.{has_alias, text_count};

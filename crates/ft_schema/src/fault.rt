@@ -77,7 +77,7 @@ pub enum Cause {
     OutOfScope,
 }
 
-/// Why reading stops: at a word, with the number of words from it on, or for want of memory.
+/// Why reading stops: at a word, with the number of words from it on, or out of memory.
 #[derive(Clone, Copy, Debug, PartialEq, Eq)]
 pub enum Stop {
     Fault { cause: Cause, left: usize },

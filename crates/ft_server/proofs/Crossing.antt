@@ -1,5 +1,6 @@
--- That the server may cross threads. A cursor holds queries, expressions and rows, and these hold themselves; one search
--- through all that the server holds does not end, so it is shown level by level, from a cursor on.
+-- That the server may cross threads. A cursor holds queries, expressions and rows, these hold themselves, and a row has a
+-- document with several owners; one search through all that the server holds does not end, so it is shown level by level,
+-- from a document on.
 use denote.Param.Send.{IsSend, IsSync, sendable}
 use Rattle.std.proofs.Crossing.{crosses}
 use Rattle.std.proofs.MapsCrossing as maps
@@ -11,6 +12,11 @@ use Rattle.ft_engine.below.ft_index.proofs.index.FtIndex.TheSendSync as ft_index
 use Rattle.ft_engine.below.hash_store.proofs.store.HashStore.TheSendSync as hash_store
 use Rattle.ft_engine.below.indexed_store.proofs.waiting.CursorPlace.TheSendSync as cursor_place
 use Rattle.turn_gate.proofs.gate.Gate.TheSendSync as gate
+use Rattle.ft_base.specs.contracts.doc.Doc as doc
+use Rattle.ft_base.specs.contracts.row.Row as row
+use Rattle.ft_base.specs.contracts.shared.Shared as shared
+use Rattle.ft_engine.below.agg_pipeline.specs.contracts.stream.StreamSteps as steps
+use Rattle.ft_engine.below.cursor_book.specs.contracts.rows_left.RowsLeft as rows_left
 use Rattle.ft_engine.below.cursor_book.specs.contracts.cursor.Cursor as cursor
 use Rattle.ft_engine.below.cursor_book.specs.contracts.book.CursorBook as book
 use Rattle.ft_engine.below.indexed_store.specs.contracts.held.IndexedStore as store
@@ -18,11 +24,42 @@ use Rattle.ft_engine.specs.contracts.engine.Engine as engine
 use Rattle.ft_server.specs.contracts.logged_engine.LoggedEngine as logged
 use Rattle.ft_server.specs.contracts.server.Server as server
 
+doc_send : IsSend doc.the_row
+doc_send = search (crosses, sendable) depth 60 fits 20000
+
+doc_sync : IsSync doc.the_row
+doc_sync = search (crosses, sendable) depth 60 fits 20000
+
+-- to share a document is to lend it, and the last owner drops it: both are asked of it for either
+shared_send : IsSend (shared.the_row doc.the_row)
+shared_send = search (doc_send, doc_sync, crosses, sendable) depth 60 fits 20000
+
+shared_sync : IsSync (shared.the_row doc.the_row)
+shared_sync = search (doc_send, doc_sync, crosses, sendable) depth 60 fits 20000
+
+row_send : IsSend row.the_row
+row_send = search (shared_send, value.crosses, crosses, sendable) depth 60 fits 20000
+
+row_sync : IsSync row.the_row
+row_sync = search (shared_sync, value.crosses, crosses, sendable) depth 60 fits 20000
+
+rows_left_send : IsSend rows_left.the_row
+rows_left_send = search (row_send, crosses, sendable) depth 60 fits 20000
+
+rows_left_sync : IsSync rows_left.the_row
+rows_left_sync = search (row_sync, crosses, sendable) depth 60 fits 20000
+
+steps_send : IsSend steps.the_row
+steps_send = search (expr.crosses, crosses, sendable) depth 60 fits 20000
+
+steps_sync : IsSync steps.the_row
+steps_sync = search (expr.crosses, crosses, sendable) depth 60 fits 20000
+
 cursor_send : IsSend cursor.the_row
-cursor_send = search (crosses, expr.crosses, query.crosses, value.crosses, sendable) depth 60 fits 20000
+cursor_send = search (rows_left_send, steps_send, query.crosses, crosses, sendable) depth 60 fits 20000
 
 cursor_sync : IsSync cursor.the_row
-cursor_sync = search (crosses, expr.crosses, query.crosses, value.crosses, sendable) depth 60 fits 20000
+cursor_sync = search (rows_left_sync, steps_sync, query.crosses, crosses, sendable) depth 60 fits 20000
 
 book_send : IsSend book.the_row
 book_send = search (cursor_send, crosses, sendable) depth 60 fits 20000

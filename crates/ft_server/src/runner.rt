@@ -15,12 +15,15 @@ use fs_ports::{Clock, Link};
 use ft_base::NoMemory;
 use ft_engine::Engine;
 use std::alloc::Global;
+use std::hash::RandomState;
 use std::sync::Wait;
 
-/// Does what the words of the command line ask for, but for what needs doors and threads.
+/// Does what the words of the command line ask for, but for what needs doors and threads. Keys are found by hashes that
+/// `hashing` makes.
 pub fn run<L: Link, C: Clock, R: Wait>(
     rt: &R,
     alloc: Global,
+    hashing: RandomState,
     words: &[String],
     link: &mut L,
     clock: &mut C,
@@ -37,7 +40,7 @@ pub fn run<L: Link, C: Clock, R: Wait>(
     ensures limits { HaveNumbers }
 {
     match read_words(alloc, words) {
-        Ok(Form::Script) => Exit::at(serve_alone(rt, alloc, link, clock)),
+        Ok(Form::Script) => Exit::at(serve_alone(rt, alloc, hashing, link, clock)),
         Ok(Form::Serve { .. }) | Err(WordFault::Usage) => Exit::Usage,
         Err(WordFault::NoMemory) => Exit::NoMemory,
     }
@@ -47,6 +50,7 @@ pub fn run<L: Link, C: Clock, R: Wait>(
 fn serve_alone<L: Link, C: Clock, R: Wait>(
     rt: &R,
     alloc: Global,
+    hashing: RandomState,
     link: &mut L,
     clock: &mut C,
 ) -> End
@@ -55,17 +59,17 @@ fn serve_alone<L: Link, C: Clock, R: Wait>(
     ensures { Ends Answered result
         (told L.Link C.Clock link.old clock.old) (told L.Link C.Clock link.new clock.new) }
 {
-    match open(alloc) {
+    match open(alloc, hashing) {
         Ok((server, pass)) => serve_connection(rt, alloc, &server, pass, link, clock).1,
         Err(_) => End::NoMemory,
     }
 }
 
 /// A new server whose first event has the number 1, and its first pass.
-fn open(alloc: Global) -> Result<(Server, Pass), NoMemory>
+fn open(alloc: Global, hashing: RandomState) -> Result<(Server, Pass), NoMemory>
     ensures first { IfOk result (λ r. r.0.first ≡ 1) }
     ensures of { IfOk result (λ r. IsOf r.0 r.1) }
     ensures pass { IfOk result (λ r. (r.1.seen ≡ []) × (r.1.alone ≡ true) × (r.1.caller ≡ 0)) }
 {
-    Server::open(alloc, Engine::new(alloc)?)
+    Server::open(alloc, Engine::new(alloc, hashing)?)
 }

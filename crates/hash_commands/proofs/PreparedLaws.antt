@@ -23,8 +23,9 @@ use Rattle.ft_machine.specs.Writes.{fields_gone, hdel, hincrby, hset_unless, num
 use Rattle.ft_machine.proofs.Stepping.{gives, wants, widened}
 use Rattle.indexed_store.specs.Changing.{IsOther, changed}
 use Rattle.indexed_store.specs.Holding.{Holding, state_of}
-use Rattle.indexed_store.specs.Preparing.{IsPrepared, OnlyReads, Prepares, Stays, WaitsFor}
+use Rattle.indexed_store.specs.Preparing.{OnlyReads, Prepares, Stays, WaitsFor}
 use Rattle.indexed_store.proofs.PreparingLaws.{prepares-read}
+use Rattle.hash_commands.specs.Hashes.{TakesOut, hash_held}
 use Rattle.hash_commands.proofs.BehindLaws.{reads-nothing, stays-behind, waits-behind}
 use Rattle.hash_commands.proofs.PlainLaws.{moved, renamed, same-words, stays-plain}
 use Rattle.indexed_store.specs.Writing.{written}
@@ -100,22 +101,20 @@ sets-absent args old new said change absent prepares = record {
 
 -- HDEL of a key and fields that are among the arguments
 pub hdel-prepares : (args : List (List ℕ)) (old new : Holding) (said key : List ℕ) (fields : List (List ℕ)) (change : Change) (gone : ℕ) → key ≡ first args → fields ≡ drop 1 args
-    → ((state : State) → state.space ≡ old.space → changed change new.waits new.opens state ≡ fields_gone key fields old.next state)
-    → gone ≡ length (hash_in (doc_of old.space key)) - length (without_fields (hash_in (doc_of old.space key)) fields) → IsPrepared change old new → Stays old new → said ≡ spelling (Number (pos gone))
-    → Prepares (Plain Hdel args) old new said change
-hdel-prepares args old new said key fields change gone k f made count prepared stays is = record {
+    → TakesOut key fields old new (change, gone) → Stays old new → said ≡ spelling (Number (pos gone)) → Prepares (Plain Hdel args) old new said change
+hdel-prepares args old new said key fields change gone k f taken stays is = record {
   does =
       (let state : State = state_of old in
       gives (Plain Hdel args) old.next state (hdel args old.next state) said (changed change new.waits new.opens state) refl
-      (is ∙ ap (λ (n : ℕ). spelling (Number (pos n))) (count ∙ (ap (λ (word : List ℕ). lost word fields) k ∙ ap (λ (words : List (List ℕ)). lost (first args) words) f)))
-      (made state refl ∙ (ap (λ (word : List ℕ). fields_gone word fields old.next state) k ∙ ap (λ (words : List (List ℕ)). fields_gone (first args) words old.next state) f)));
+      (is ∙ ap (λ (n : ℕ). spelling (Number (pos n))) (taken.gone ∙ (ap (λ (word : List ℕ). lost word fields) k ∙ ap (λ (words : List (List ℕ)). lost (first args) words) f)))
+      (taken.change state refl ∙ (ap (λ (word : List ℕ). fields_gone word fields old.next state) k ∙ ap (λ (words : List (List ℕ)). fields_gone (first args) words old.next state) f)));
   stays = stays;
-  ready = prepared.ready;
-  still = λ nothing. inr (prepared.still nothing);
+  ready = taken.ready.ready;
+  still = λ nothing. inr (taken.ready.still nothing);
 }
   where
     lost : List ℕ → List (List ℕ) → ℕ
-    lost word words = length (hash_in (doc_of old.space word)) - length (without_fields (hash_in (doc_of old.space word)) words)
+    lost word words = length (hash_held old word) - length (without_fields (hash_held old word) words)
 
 -- HINCRBY whose sum has 64 bits
 hincrby-gives : (args : List (List ℕ)) (number : ℕ) (state : State) (key field : List ℕ) (old by sum : ℤ) → key ≡ first args → field ≡ second args → number_in (get_field (hash_of state (first args)) (second args)) ≡ Some old

@@ -1,6 +1,10 @@
--- Which plain commands change nothing, and ask nothing of an index.
+-- Which plain commands change nothing, and ask nothing of an index; and how they are answered.
+use Rattle.std.specs.Prelude.{ℕ, List}
+use Rattle.cmd_parse.specs.Asked.{Plain}
 use Rattle.cmd_parse.specs.declared.command.Verb.{Verb}
 use Rattle.cmd_parse.specs.declared.command.Verb.TheVariants.{Ping, Echo, Select, Quit, Hget, Hmget, Hgetall, Hlen, Hexists, Hkeys, Hvals, Exists, TypeOf, Dbsize, Hset, Hsetnx, Hdel, Hincrby, Del, Rename, Flushall, DropIndex, ListIndexes, Info, TagVals}
+use Rattle.ft_machine.specs.Step.{Does}
+use Rattle.indexed_store.specs.Holding.{Holding, state_of}
 
 -- a plain command that reads hashes and keys alone
 abbrev pub IsRead : Verb → Type 0
@@ -42,3 +46,7 @@ IsCount Exists = Unit {0}
 IsCount TypeOf = Unit {0}
 IsCount Dbsize = Unit {0}
 IsCount _ = ⊥
+
+-- A plain command that changes nothing is answered over all that is held, in the next event.
+abbrev pub IsAnswered : Verb → List (List ℕ) → Holding → List ℕ → Type 0
+IsAnswered verb args held written = Does (Plain verb args) held.next (state_of held) written (state_of held)

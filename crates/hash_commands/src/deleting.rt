@@ -1,14 +1,10 @@
 //! HDEL.
-ghost use Rattle.std.specs.Prelude.{◌≡◌, ◌<◌, ◌≤◌, ◌-◌, length, IfOk};
+ghost use Rattle.std.specs.Prelude.{◌<◌, ◌≤◌, length, IfOk};
 ghost use Rattle.cmd_parse.specs.Read.{Plain};
 ghost use Rattle.cmd_parse.specs.declared.command.Verb.TheVariants.{Hdel};
-ghost use Rattle.ft_base.specs.Space.{doc_of};
-ghost use Rattle.ft_machine.specs.Machine.{State};
-ghost use Rattle.ft_machine.specs.Reads.{hash_in};
 ghost use Rattle.ft_machine.specs.Step.{last_number};
-ghost use Rattle.ft_machine.specs.Writes.{fields_gone, without_fields};
-ghost use Rattle.indexed_store.specs.Changing.{changed};
-ghost use Rattle.indexed_store.specs.Preparing.{IsPrepared, Prepares, Stays};
+ghost use Rattle.hash_commands.specs.Hashes.{TakesOut};
+ghost use Rattle.indexed_store.specs.Preparing.{Prepares, Stays};
 
 use ft_base::{NoMemory, Words};
 use indexed_store::{Change, IndexedStore};
@@ -41,11 +37,7 @@ fn take_fields<'a>(
     fields: &Words<'_>,
 ) -> Result<(Change<'a>, usize), NoMemory>
     requires number { held.old.next < last_number }
-    ensures change { IfOk result (λ made. (state : State) → state.space ≡ held.old.space
-        → changed made.0 held.new.waits held.new.opens state ≡ fields_gone key.now fields.now held.old.next state) }
-    ensures gone { IfOk result (λ made. made.1 ≡ length (hash_in (doc_of held.old.space key.now))
-        - length (without_fields (hash_in (doc_of held.old.space key.now)) fields.now)) }
-    ensures ready { IfOk result (λ made. IsPrepared made.0 held.old held.new) }
+    ensures change { IfOk result (TakesOut key.now fields.now held.old held.new) }
     ensures stays { Stays held.old held.new }
 {
     let (before, left) = held.left_of(key, fields)?;

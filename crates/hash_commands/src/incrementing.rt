@@ -1,16 +1,11 @@
 //! HINCRBY.
-ghost use Rattle.std.specs.Prelude.{◌≡◌, ◌<◌, ◌≤◌, length, IfOk, IsSome, OnOk};
-ghost use Rattle.std.specs.Fmt.{signed_decimal};
+ghost use Rattle.std.specs.Prelude.{◌≡◌, ◌<◌, ◌≤◌, length, IfOk, OnOk};
 ghost use Rattle.cmd_parse.specs.Asking.{AreWords};
+ghost use Rattle.cmd_parse.specs.Lawful.{HasNumber};
 ghost use Rattle.cmd_parse.specs.Read.{Plain};
 ghost use Rattle.cmd_parse.specs.declared.command.Verb.TheVariants.{Hincrby};
-ghost use Rattle.ft_base.specs.Hash.{set_field};
-ghost use Rattle.ft_base.specs.Number.{int_of};
-ghost use Rattle.ft_base.specs.Space.{doc_of};
-ghost use Rattle.ft_base.specs.declared.limits.TheConstants.{MAX_WORD_BYTES};
-ghost use Rattle.ft_base.specs.Words.{third};
-ghost use Rattle.ft_machine.specs.Reads.{hash_in};
 ghost use Rattle.ft_machine.specs.Step.{last_number};
+ghost use Rattle.hash_commands.specs.Hashes.{SetsNumber, hash_held, with_number};
 ghost use Rattle.indexed_store.specs.Preparing.{Prepares, Stays, WaitsFor};
 
 use ft_base::{HashRec, NoMemory, Words, read_int};
@@ -23,7 +18,7 @@ use reply_buffer::ReplyBuffer;
 pub fn hincrby<'a>(held: &mut IndexedStore, args: &Words<'a>, reply: &mut ReplyBuffer) -> Change<'a>
     requires number { held.old.next < last_number }
     requires three { length args.now ≡ 3 }
-    requires increment { IsSome (int_of (third args.now)) }
+    requires increment { HasNumber Hincrby args.now }
     requires words { AreWords args.now }
     ensures prepares { Prepares (Plain Hincrby args.now) held.old held.new reply.new.bytes result }
     ensures room { reply.old.room ≤ reply.new.room }
@@ -60,9 +55,8 @@ fn set_number(
     number: i64,
 ) -> Result<ReadyPut, NoMemory>
     requires number { held.old.next < last_number }
-    ensures waits { IfOk result (λ put. WaitsFor key.now
-        (set_field (hash_in (doc_of held.old.space key.now)) field.now (signed_decimal number))
-        put held.old held.new) }
+    ensures waits { IfOk result (λ put.
+        WaitsFor key.now (with_number (hash_held held.old key.now) field.now number) put held.old held.new) }
     ensures stays { Stays held.old held.new }
 {
     let mut hash = held.copy_of(key)?;
@@ -71,8 +65,7 @@ fn set_number(
 }
 
 fn set_to(hash: &mut HashRec, field: &[u8], number: i64) -> Result<(), NoMemory>
-    ensures set { OnOk result (hash.new ≡ set_field hash.old field.now (signed_decimal number)) }
-    ensures short { length (signed_decimal number) ≤ MAX_WORD_BYTES }
+    ensures set { OnOk result (SetsNumber field.now number hash.old hash.new) }
 {
     let mut buffer = Buffer::new();
     hash.put(field, buffer.format(number).as_bytes())?;

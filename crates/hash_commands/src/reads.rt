@@ -1,13 +1,10 @@
 //! The commands that change nothing: of the connection, and those that read hashes and keys.
 ghost use Rattle.std.specs.Prelude.{◌≡◌, ◌≤◌, ◌⊎◌};
 ghost use Rattle.cmd_parse.specs.Lawful.{Lawful};
-ghost use Rattle.cmd_parse.specs.Read.{Plain};
 ghost use Rattle.ft_base.specs.Memory.{out_of_memory};
 ghost use Rattle.ft_base.specs.Reply.{spelling};
 ghost use Rattle.ft_base.specs.declared.reply.Reply.TheVariants.{Bulk};
-ghost use Rattle.ft_machine.specs.Step.{Does};
-ghost use Rattle.hash_commands.specs.Reads.{IsCount, IsRead, IsTold, IsValue};
-ghost use Rattle.indexed_store.specs.Holding.{state_of};
+ghost use Rattle.hash_commands.specs.Reads.{IsAnswered, IsCount, IsRead, IsTold, IsValue};
 ghost use Rattle.indexed_store.specs.Preparing.{OnlyReads};
 
 use cmd_parse::Verb;
@@ -19,7 +16,7 @@ use reply_buffer::ReplyBuffer;
 pub fn answer_plain(held: &mut IndexedStore, verb: Verb, args: &Words<'_>, reply: &mut ReplyBuffer)
     requires read { IsRead verb }
     requires lawful { Lawful verb args.now }
-    ensures does { Does (Plain verb args.now) held.old.next (state_of held.old) reply.new.bytes (state_of held.old) }
+    ensures does { IsAnswered verb args.now held.old reply.new.bytes }
     ensures stays { OnlyReads held.old held.new }
     ensures room { reply.old.room ≤ reply.new.room }
 {
@@ -36,7 +33,7 @@ pub fn answer_plain(held: &mut IndexedStore, verb: Verb, args: &Words<'_>, reply
 fn answer_told(held: &mut IndexedStore, verb: Verb, args: &Words<'_>, reply: &mut ReplyBuffer)
     requires read { IsTold verb }
     requires lawful { Lawful verb args.now }
-    ensures does { Does (Plain verb args.now) held.old.next (state_of held.old) reply.new.bytes (state_of held.old) }
+    ensures does { IsAnswered verb args.now held.old reply.new.bytes }
     ensures stays { OnlyReads held.old held.new }
     ensures room { reply.old.room ≤ reply.new.room }
 {
@@ -63,7 +60,7 @@ fn answer_message(held: &IndexedStore, message: &[u8], reply: &mut ReplyBuffer)
 fn answer_values(held: &mut IndexedStore, verb: Verb, args: &Words<'_>, reply: &mut ReplyBuffer)
     requires read { IsValue verb }
     requires lawful { Lawful verb args.now }
-    ensures does { Does (Plain verb args.now) held.old.next (state_of held.old) reply.new.bytes (state_of held.old) }
+    ensures does { IsAnswered verb args.now held.old reply.new.bytes }
     ensures stays { OnlyReads held.old held.new }
     ensures room { reply.old.room ≤ reply.new.room }
 {
@@ -81,7 +78,7 @@ fn answer_values(held: &mut IndexedStore, verb: Verb, args: &Words<'_>, reply: &
 fn answer_count(held: &mut IndexedStore, verb: Verb, args: &Words<'_>, reply: &mut ReplyBuffer)
     requires read { IsCount verb }
     requires lawful { Lawful verb args.now }
-    ensures does { Does (Plain verb args.now) held.old.next (state_of held.old) reply.new.bytes (state_of held.old) }
+    ensures does { IsAnswered verb args.now held.old reply.new.bytes }
     ensures stays { OnlyReads held.old held.new }
     ensures room { reply.old.room ≤ reply.new.room }
 {

@@ -3,8 +3,8 @@ ghost use Rattle.std.specs.Prelude.{◌≡◌, ◌<◌, ◌≤◌, length, IfOk,
 ghost use Rattle.cmd_parse.specs.Read.{Plain};
 ghost use Rattle.cmd_parse.specs.declared.command.Verb.TheVariants.{Rename};
 ghost use Rattle.ft_base.specs.Space.{doc_of};
-ghost use Rattle.ft_machine.specs.Reads.{hash_in};
 ghost use Rattle.ft_machine.specs.Step.{last_number};
+ghost use Rattle.hash_commands.specs.Hashes.{hash_held};
 ghost use Rattle.indexed_store.specs.Preparing.{Prepares, Stays, WaitsFor};
 
 use ft_base::{NoMemory, Words};
@@ -44,8 +44,7 @@ pub fn rename<'a>(held: &mut IndexedStore, args: &Words<'a>, reply: &mut ReplyBu
 fn copy_under(held: &mut IndexedStore, from: &[u8], to: &[u8]) -> Result<ReadyPut, NoMemory>
     requires number { held.old.next < last_number }
     requires there { is_some (doc_of held.old.space from.now) ≡ true }
-    ensures waits { IfOk result (λ put.
-        WaitsFor to.now (hash_in (doc_of held.old.space from.now)) put held.old held.new) }
+    ensures waits { IfOk result (λ put. WaitsFor to.now (hash_held held.old from.now) put held.old held.new) }
     ensures stays { Stays held.old held.new }
 {
     let hash = held.copy_of(from)?;

@@ -1,13 +1,11 @@
 //! HSET and HSETNX.
-ghost use Rattle.std.specs.Prelude.{◌≡◌, ◌<◌, ◌≤◌, ◌-◌, length, IfOk};
+ghost use Rattle.std.specs.Prelude.{◌≡◌, ◌<◌, ◌≤◌, length, IfOk};
 ghost use Rattle.cmd_parse.specs.Asking.{AreWords};
 ghost use Rattle.cmd_parse.specs.Read.{Plain};
 ghost use Rattle.cmd_parse.specs.declared.command.Verb.TheVariants.{Hset, Hsetnx};
-ghost use Rattle.ft_base.specs.Space.{doc_of};
-ghost use Rattle.ft_machine.specs.Reads.{hash_in};
 ghost use Rattle.ft_machine.specs.Step.{last_number};
-ghost use Rattle.ft_machine.specs.Writes.{set_pairs};
 ghost use Rattle.ft_meaning.specs.Meaning.{ValuesFit};
+ghost use Rattle.hash_commands.specs.Hashes.{fresh_fields, hash_with};
 ghost use Rattle.indexed_store.specs.Preparing.{OnlyReads, Prepares, Stays, WaitsFor};
 
 use ft_base::{HashRec, NoMemory, Words};
@@ -45,11 +43,9 @@ fn set_fields(
     requires number { held.old.next < last_number }
     requires some { 2 ≤ length pairs.now }
     requires words { AreWords pairs.now }
-    ensures waits { IfOk result (λ made. WaitsFor key.now
-        (set_pairs (hash_in (doc_of held.old.space key.now)) pairs.now) made.0 held.old held.new) }
-    ensures fresh { IfOk result (λ made. made.1
-        ≡ length (set_pairs (hash_in (doc_of held.old.space key.now)) pairs.now)
-        - length (hash_in (doc_of held.old.space key.now))) }
+    ensures waits { IfOk result (λ made.
+        WaitsFor key.now (hash_with held.old key.now pairs.now) made.0 held.old held.new) }
+    ensures fresh { IfOk result (λ made. made.1 ≡ fresh_fields held.old key.now pairs.now) }
     ensures stays { Stays held.old held.new }
 {
     let (hash, fresh) = copy_with(held, key, pairs)?;
@@ -65,11 +61,8 @@ fn copy_with(
 ) -> Result<(HashRec, usize), NoMemory>
     requires some { 2 ≤ length pairs.now }
     requires words { AreWords pairs.now }
-    ensures hash { IfOk result (λ made. made.0
-        ≡ set_pairs (hash_in (doc_of held.old.space key.now)) pairs.now) }
-    ensures fresh { IfOk result (λ made. made.1
-        ≡ length (set_pairs (hash_in (doc_of held.old.space key.now)) pairs.now)
-        - length (hash_in (doc_of held.old.space key.now))) }
+    ensures hash { IfOk result (λ made. made.0 ≡ hash_with held.old key.now pairs.now) }
+    ensures fresh { IfOk result (λ made. made.1 ≡ fresh_fields held.old key.now pairs.now) }
     ensures filled { IfOk result (λ made. 0 < length made.0) }
     ensures fits { IfOk result (λ made. ValuesFit made.0) }
     ensures stays { OnlyReads held.old held.new }

@@ -1,30 +1,32 @@
 //! Two maps: ids by key, and documents by id, of which the last may wait to be committed.
-ghost use Rattle.std.specs.Prelude.{◌≡◌, ◌<◌, [], None, Some, length, map, find, nat_eq, nat_lt, IfOk, IfSome, OnOk, OnErr};
+ghost use Rattle.std.specs.Prelude.{◌≡◌, ◌<◌, ℕ, [], None, Some, All, length, find, nat_eq, IfOk, IfSome, OnOk, OnErr, option_copied, option_map};
 ghost use Rattle.std.specs.Borrow.{sem};
-ghost use Rattle.std.specs.Option.{option_copied, option_map};
-ghost use Rattle.std.specs.Str.{bytes_eq};
-ghost use Rattle.std.specs.List.{All, IsDistinct};
-ghost use Rattle.std.specs.List.Sorted.{IsStrictlyIncreasing};
 ghost use Rattle.ft_base.specs.Space.{doc_of, write, erase};
 ghost use Rattle.hash_store.specs.Erasing.{erase_id};
-ghost use Rattle.hash_store.specs.Store.{after_read};
+ghost use Rattle.hash_store.specs.Maps.{IsStore};
+ghost use Rattle.hash_store.specs.Rows.{store_of};
+ghost use Rattle.hash_store.specs.Store.{Store, IdsRise, KeysDiffer, after_read, after_reads};
 
-use crate::by_id::{live_after, live_doc, take_out};
+use crate::by_id::{live_doc, take_out};
 use crate::by_key::{KeyIds, id_of};
 use crate::rows;
 use crate::rows::{add_rows, drop_waiting, forget_key, lead_nowhere, lead_to};
-use ft_base::{Doc, NoMemory};
+use crate::stored::Stored;
+use crate::walk::{AllRead, DocWalk};
+use ft_base::{Doc, NoMemory, Shared};
 use id_rows::IdRows;
 use std::alloc::Global;
-use std::collections::BTreeMap;
+use std::collections::HashMap;
+use std::hash::RandomState;
 use std::marker::Model;
 
 /// The documents, each found by its key and by its id, and one that was prepared.
 #[derive(Drop)]
 pub struct HashStore {
     alloc: Global,
+    hashing: RandomState,
     ids: KeyIds,
-    docs: IdRows<Doc>,
+    docs: IdRows<Stored>,
     // The id of the row that still waits to be committed.
     pending: Option<u64>,
     last: u64,
@@ -32,12 +34,7 @@ pub struct HashStore {
 }
 
 impl Model for HashStore {
-    ghost use Rattle.hash_store.specs.Store.{Store};
-
     ghost Value = { Store };
-
-    ghost use Rattle.hash_store.specs.Rows.{store_of};
-    ghost use Rattle.hash_store.specs.Maps.{IsStore};
 
     ghost view = { λ s. store_of s.pending s.last s.reads s.docs };
 
@@ -51,8 +48,6 @@ pub struct ReadyPut {
 }
 
 impl Model for ReadyPut {
-    ghost use Rattle.std.specs.Prelude.{ℕ};
-
     ghost Value = { ℕ };
 
     ghost view = { λ put. put.id };
@@ -61,13 +56,15 @@ impl Model for ReadyPut {
 impl HashStore {
     ghost use Rattle.hash_store.specs.Reading.{EndsAs};
 
-    /// A store without documents, and no memory taken.
-    pub fn new(alloc: Global) -> HashStore
+    /// A store without documents, and no memory taken. Keys are found by hashes that `hashing` makes, so that no client can choose
+    /// names that collide.
+    pub fn new(alloc: Global, hashing: RandomState) -> HashStore
         ensures { result ≡ record { space = []; reads = 0; ready = None; last = 0 } }
     {
         HashStore {
             alloc,
-            ids: BTreeMap::new(alloc),
+            hashing,
+            ids: HashMap::with_hasher(alloc, hashing),
             docs: IdRows::new(alloc),
             pending: None,
             last: 0,
@@ -80,29 +77,19 @@ impl HashStore {
         ensures* counts { sem 𝓛 (EndsAs self.entry (after_read (doc_of self.old.space key.now) self.old)) }
         ensures found { option_copied result ≡ doc_of self.old.space key.now }
     {
-        let doc = rows::doc_of(&self.ids, &self.docs, key)?;
+        let stored = rows::doc_of(&self.ids, &self.docs, key)?;
         self.reads = self.reads.saturating_add(1);
-        Some(doc)
+        Some(stored.doc())
     }
 
-    /// The document with the least id above one.
-    pub fn by_id_after(&mut self, id: u64) -> Option<&Doc>
-        ensures* counts { sem 𝓛 (EndsAs self.entry (after_read (find (λ doc. nat_lt id doc.id) self.old.space) self.old)) }
-        ensures found { option_copied result ≡ find (λ doc. nat_lt id doc.id) self.old.space }
-    {
-        let doc = live_after(&self.docs, self.pending, id)?;
-        self.reads = self.reads.saturating_add(1);
-        Some(doc)
-    }
-
-    /// The document of an id.
-    pub fn get_by_id(&mut self, id: u64) -> Option<&Doc>
+    /// The document of an id, which the reader may share.
+    pub fn get_by_id(&mut self, id: u64) -> Option<&Shared<Doc>>
         ensures* counts { sem 𝓛 (EndsAs self.entry (after_read (find (λ doc. nat_eq id doc.id) self.old.space) self.old)) }
         ensures found { option_copied result ≡ find (λ doc. nat_eq id doc.id) self.old.space }
     {
-        let doc = live_doc(&self.docs, self.pending, id)?;
+        let stored = live_doc(&self.docs, self.pending, id)?;
         self.reads = self.reads.saturating_add(1);
-        Some(doc)
+        Some(stored.shared())
     }
 
     /// The id of the key's document, which is not read.
@@ -116,15 +103,15 @@ impl HashStore {
     pub fn key_of(&self, id: u64) -> Option<&[u8]>
         ensures { option_copied result ≡ option_map (λ doc. doc.key) (find (λ doc. nat_eq id doc.id) self.now.space) }
     {
-        let doc = live_doc(&self.docs, self.pending, id)?;
-        Some(doc.key.as_slice())
+        let stored = live_doc(&self.docs, self.pending, id)?;
+        Some(stored.doc().key.as_slice())
     }
 
     /// The number of documents.
     pub fn len(&self) -> usize
         ensures len { result ≡ length self.now.space }
-        ensures rises { IsStrictlyIncreasing (map (λ doc. doc.id) self.now.space) }
-        ensures distinct { IsDistinct bytes_eq (map (λ doc. doc.key) self.now.space) }
+        ensures rises { IdsRise self.now.space }
+        ensures distinct { KeysDiffer self.now.space }
         ensures filled { All (λ doc. 0 < length doc.hash) self.now.space }
     {
         self.docs.len() - usize::from(self.pending.is_some())
@@ -135,6 +122,24 @@ impl HashStore {
         ensures { result ≡ self.now.reads }
     {
         self.reads
+    }
+
+    /// Counts all documents as handed out, so that a walk over them may begin.
+    pub fn read_all(&mut self) -> AllRead
+        ensures counts { self.new ≡ after_reads (length self.old.space) self.old }
+        ensures all { result ≡ length self.old.space }
+    {
+        let count = self.len();
+        self.reads = self.reads.saturating_add(count as u64);
+        AllRead::of(count)
+    }
+
+    /// All documents, in order of their ids, once they were counted.
+    pub fn walk(&self, read: AllRead) -> DocWalk<'_>
+        requires all { read ≡ length self.now.space }
+        ensures { result ≡ self.now.space }
+    {
+        DocWalk::over(&self.docs, read)
     }
 
     /// Makes room for a document, which nothing shows yet. One that was prepared before and never
@@ -190,17 +195,17 @@ impl HashStore {
         if self.pending == Some(id) {
             return; // It isn't written yet.
         }
-        if let Some(doc) = self.docs.remove(id) {
-            forget_key(&mut self.ids, &self.docs, self.pending, doc);
+        if let Some(gone) = self.docs.remove(id) {
+            forget_key(&mut self.ids, &self.docs, self.pending, gone);
         }
     }
 
-    /// Takes all documents out, and one that is prepared. It takes no memory.
+    /// Takes all documents out, and one that is prepared, and gives their memory back. It takes none.
     pub fn clear(&mut self)
         ensures { self.new ≡ record self.old { space = []; ready = None } }
     {
-        self.ids.clear();
-        self.docs.clear();
+        self.ids = HashMap::with_hasher(self.alloc, self.hashing);
+        self.docs = IdRows::new(self.alloc);
         self.pending = None;
     }
 }

@@ -13,8 +13,8 @@ use std::alloc::Global;
 /// The room for a reply at the start. A longer reply makes more.
 const REPLY_ROOM: usize = 64;
 
-/// Gives the events to the machine in order, and answers one outcome for each. Where memory is
-/// wanting, some of the first events were executed, and the others were not.
+/// Gives the events to the machine in order, and answers one outcome for each. Out of
+/// memory, some of the first events were executed, and the others were not.
 pub fn run<M: Machine>(
     alloc: Global,
     machine: &mut M,
@@ -27,7 +27,7 @@ pub fn run<M: Machine>(
     ensures count { IfOk result (λ outcomes. length outcomes ≡ length events.now) }
     ensures legal { IfOk result (λ outcomes. Leads (IsStep M.step)
         [] machine.old (entries_of events.now outcomes) machine.new) }
-    // The same of the events that were executed, where memory is wanting.
+    // The same of the events that were executed, out of memory.
     ensures first { OnErr result ((outcomes : List Outcome) × (length outcomes ≤ length events.now)
         × Leads (IsStep M.step) [] machine.old (entries_of events.now outcomes) machine.new) }
 

@@ -1,6 +1,7 @@
 pub mod LeastLaws
 pub mod BitLaws
 pub mod EntryLaws
+pub mod NumberLaws
 pub mod BlockLaws
 pub mod ReadAheadLaws
 pub mod ReadingLaws

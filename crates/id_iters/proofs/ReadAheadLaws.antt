@@ -3,6 +3,7 @@ use Rattle.std.proofs.Common.{◌≡◌, ℕ, ◌≤◌, ◌+◌, Bool, true, fa
 use Rattle.std.specs.Prelude.{nat_le}
 use Rattle.std.proofs.lemmas.Bool.{le-leb, leb-true}
 use Rattle.std.proofs.lemmas.Bool.Decides.{leb_tells}
+use Rattle.posting_block.specs.Coded.{AllFit}
 use Rattle.posting_block.specs.Rising.{RisesAbove}
 use Rattle.id_iters.specs.Ahead.{Gives, IsAhead, first_of, ids_from, live_from, wanted_ids}
 use Rattle.id_iters.specs.Least.{IsLeastAt, NoneBetween}
@@ -125,31 +126,35 @@ module _ {P : Type 0} (wants : P → Bool) where
   pub read_wanted : (from : ℕ) (es : List (ℕ × P)) (ids : List ℕ) → ids ≡ wanted_ids wants from es → ids_from from ids ≡ wanted_ids wants from es
   read_wanted from es ids e = ap (ids_from from) e ∙ from_above from 0 es
 
-  module _ (every : (hit : P) → wants hit ≡ true) where
-    all_wanted : (from low : ℕ) (es : List (ℕ × P)) → RisesAbove low es → from ≤ low + 1 → map (λ (e : ℕ × P). e.0) es ≡ wanted_ids wants from es
-    all_wanted from low [] rises h = refl
-    all_wanted from low (e ∷ es) rises h =
-        ap (λ l. e.0 ∷ l) (all_wanted from e.0 es rises.1 (omega (arith, h, rises.0)))
+  module _ (valid : P → Type 0) (every : (hit : P) → valid hit → wants hit ≡ true) where
+    all_wanted : (from low : ℕ) (es : List (ℕ × P)) → RisesAbove low es → AllFit valid es → from ≤ low + 1 → map (λ (e : ℕ × P). e.0) es ≡ wanted_ids wants from es
+    all_wanted from low [] rises fit h = refl
+    all_wanted from low (e ∷ es) rises fit h =
+        ap (λ l. e.0 ∷ l) (all_wanted from e.0 es rises.1 fit.2 (omega (arith, h, rises.0)))
         ∙ ap (λ b. map (λ (x : ℕ × P). x.0) (cond b (e ∷ filter (λ x. nat_le from x.0 && wants x.1) es) (filter (λ x. nat_le from x.0 && wants x.1) es)))
-        (sym (and_both (leb from e.0) (wants e.1) (le-leb from e.0 (omega (arith, h, rises.0))) (every e.1)))
+        (sym (and_both (leb from e.0) (wants e.1) (le-leb from e.0 (omega (arith, h, rises.0))) (every e.1 fit.1)))
 
-    from_all : (from low : ℕ) (es : List (ℕ × P)) → RisesAbove low es → ids_from from (map (λ (e : ℕ × P). e.0) es) ≡ wanted_ids wants from es
-    from_all from low [] rises = refl
-    from_all from low (e ∷ es) rises =
-        pick (leb from e.0) refl (from_all from e.0 es rises.1)
+    from_all : (from low : ℕ) (es : List (ℕ × P)) → RisesAbove low es → AllFit valid es → ids_from from (map (λ (e : ℕ × P). e.0) es) ≡ wanted_ids wants from es
+    from_all from low [] rises fit = refl
+    from_all from low (e ∷ es) rises fit =
+        pick (leb from e.0) refl (from_all from e.0 es rises.1 fit.2)
       where
         pick : (b : Bool) → leb from e.0 ≡ b → ids_from from (map (λ (x : ℕ × P). x.0) es) ≡ wanted_ids wants from es
             → cond b (e.0 ∷ map (λ (x : ℕ × P). x.0) es) (ids_from from (map (λ (x : ℕ × P). x.0) es))
             ≡ map (λ (x : ℕ × P). x.0) (cond (b && wants e.1) (e ∷ filter (λ x. nat_le from x.0 && wants x.1) es) (filter (λ x. nat_le from x.0 && wants x.1) es))
         pick true t more =
-            ap (λ l. e.0 ∷ l) (all_wanted from e.0 es rises.1 (omega (arith, leb-true from e.0 t)))
-            ∙ ap (λ b. map (λ (x : ℕ × P). x.0) (cond b (e ∷ filter (λ x. nat_le from x.0 && wants x.1) es) (filter (λ x. nat_le from x.0 && wants x.1) es))) (sym (every e.1))
+            ap (λ l. e.0 ∷ l) (all_wanted from e.0 es rises.1 fit.2 (omega (arith, leb-true from e.0 t)))
+            ∙ ap (λ b. map (λ (x : ℕ × P). x.0) (cond b (e ∷ filter (λ x. nat_le from x.0 && wants x.1) es) (filter (λ x. nat_le from x.0 && wants x.1) es))) (sym (every e.1 fit.1))
         pick false t more = more
 
-    pub read_all : (from : ℕ) (es : List (ℕ × P)) (ids : List ℕ) → RisesAbove 0 es → ids ≡ map (λ (e : ℕ × P). e.0) es → ids_from from ids ≡ wanted_ids wants from es
-    read_all from es ids rises e = ap (ids_from from) e ∙ from_all from 0 es rises
+    pub read_all : (from : ℕ) (es : List (ℕ × P)) (ids : List ℕ) → RisesAbove 0 es → AllFit valid es → ids ≡ map (λ (e : ℕ × P). e.0) es → ids_from from ids ≡ wanted_ids wants from es
+    read_all from es ids rises fit e = ap (ids_from from) e ∙ from_all from 0 es rises fit
 
 -- on_ok of a call that answers nothing
 pub on_ok : {A E : Type 0} (r : Result A E) (P Q : Type 0) → (P → Q) → OnOk r P → OnOk r Q
 on_ok (Ok x) P Q h on = h on
 on_ok (Err e) P Q h on = tt
+
+pub on_both : {A E : Type 0} (r : Result A E) (P Q R : Type 0) → (P → Q → R) → OnOk r P → OnOk r Q → OnOk r R
+on_both (Ok x) P Q R h one other = h one other
+on_both (Err e) P Q R h one other = tt

@@ -9,9 +9,9 @@ pub trait HitTest<P: Payload> {
 
     ghost wants: { Self → P → Bool };
 
-    /// Whether every hit is known to be wanted, so that none need be read.
+    /// Whether every hit that a list can hold is known to be wanted, so that none need be read.
     fn takes_all(&self) -> bool
-        ensures { result ≡ true → (hit : P) → wants self.now hit ≡ true };
+        ensures { result ≡ true → (hit : P) → P.valid hit → wants self.now hit ≡ true };
 
     /// Whether the hit is wanted.
     fn takes(&self, hit: &P) -> bool
@@ -69,7 +69,7 @@ impl HitTest<NumHit> for Interval {
     ghost wants = { λ test hit. lies_in test.low test.high hit };
 
     fn takes_all(&self) -> bool {
-        false
+        self.low == i64::MIN && self.high == i64::MAX
     }
 
     fn takes(&self, hit: &NumHit) -> bool {

@@ -1,6 +1,7 @@
 //! The ids of a block, all or those whose hit is wanted.
 ghost use Rattle.std.specs.Prelude.{◌≡◌, ◌&&◌, ◌++◌, ◌∷◌, if◌then◌else◌, [], List, ℕ, map, nat_le, IfOk, OnOk};
 ghost use Rattle.id_iters.specs.Ahead.{ids_from, wanted_ids};
+ghost use Rattle.posting_block.specs.Coded.{AllFit};
 ghost use Rattle.posting_block.specs.Places.{IsFound};
 ghost use Rattle.posting_block.specs.Rising.{RisesAbove};
 
@@ -30,6 +31,7 @@ pub(crate) fn read_ids<P: Payload, H: HitTest<P>>(
 fn read_all<P: Payload>(block: &Block<P>, ids: &mut Vec<u64>) -> Result<(), NoMemory>
     ensures ids { OnOk result (ids.new.items ≡ map (λ e. e.0) block.now) }
     ensures rises { RisesAbove 0 block.now }
+    ensures fits { OnOk result (AllFit P.valid block.now) }
 {
     ids.resize(block.len(), 0)?;
     let _ = block.ids_into(ids.as_mut_slice());

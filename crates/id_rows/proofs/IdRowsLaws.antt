@@ -1,11 +1,10 @@
 -- What becomes of the things when a row empties, a row comes or rows go.
-use Rattle.std.specs.Prelude.{◌≡◌, ◌≢◌, ℕ, zero, suc, ◌+◌, ◌-◌, ◌<◌, ◌≤◌, List, [], ◌∷◌, ◌++◌, true, false, not, nat_eq, nat_lt, Option, None, Some, is_some, length, take, filter, find, drop, slice_set, refl}
+use Rattle.std.specs.Prelude.{◌≡◌, ◌≢◌, ℕ, zero, suc, ◌+◌, ◌-◌, ◌<◌, ◌≤◌, List, [], ◌∷◌, ◌++◌, true, false, not, nat_eq, Option, None, Some, is_some, length, take, filter, drop, slice_set, refl}
 use Rattle.std.proofs.Common.{sym, ◌∙◌, ap, subst, arith, inl, inr}
 use Rattle.std.proofs.Math.Seq.{take-suc}
 use Rattle.std.proofs.lemmas.List.{map-append, take-append-drop, take_at, take_all}
 use Rattle.std.specs.Map.{keys_of, lookup, remove_entry}
 use Rattle.std.proofs.lemmas.Bool.{cases_Bool, eq-eqb, ne_eqb, false≢true}
-use Rattle.std.proofs.lemmas.Bool.Decides.{nat_tests}
 use Rattle.ft_base.specs.Rows.{Rows, Below}
 use Rattle.ft_base.proofs.RowsLaws.{length-remove_entry}
 use Rattle.id_rows.specs.declared.row.Row.{Row}
@@ -127,35 +126,6 @@ module _ {T : Type 0} (id_of : T → ℕ) where
   rise_swept low [] rise = tt
   rise_swept low (Full thing ∷ rows) rise = (rise.0, rise_swept (id_of thing + 1) rows rise.1)
   rise_swept low (Empty id ∷ rows) rise = rise_weaker (id + 1) low (filter (λ row. not (is_empty_row row)) rows) (omega (arith, rise.0)) (rise_swept (id + 1) rows rise.1)
-
-  -- ---- the next thing
-
-  -- a row that has no thing with an id above another one
-  abbrev pub IsPassed : List (Row T) → ℕ → ℕ → Type 0
-  IsPassed rows id place = (thing : T) → row_at_place rows place ≡ Full thing → id_of thing ≤ id
-
-  -- the first row that is not passed has the thing
-  pub next_at : (rows : List (Row T)) (id place : ℕ) (thing : T) → ((k : ℕ) → k < place → IsPassed rows id k) → place < length rows → row_at_place rows place ≡ Full thing → id < id_of thing → find (λ (row : ℕ × T). nat_lt id row.0) (full_rows id_of rows) ≡ Some (id_of thing, thing)
-  next_at [] id place thing passed within is more = absurd (omega arith)
-  next_at (Full first ∷ rows) id zero thing passed within is more =
-      let same : first ≡ thing = cc in
-      let later : nat_lt id (id_of first) ≡ true = rw same (grind (arith, nat_tests, more)) in
-      rw (later, same) refl
-  next_at (Empty other ∷ rows) id zero thing passed within is more = absurd cc
-  next_at (Full first ∷ rows) id (suc place) thing passed within is more =
-      let under : id_of first ≤ id = passed 0 (omega arith) first refl in
-      let test : nat_lt id (id_of first) ≡ false = grind (arith, nat_tests, under) in
-      rw test (next_at rows id place thing (λ k before. passed (suc k) (omega (arith, before))) (omega (arith, within)) is more)
-  next_at (Empty other ∷ rows) id (suc place) thing passed within is more = next_at rows id place thing (λ k before. passed (suc k) (omega (arith, before))) (omega (arith, within)) is more
-
-  -- where all are passed there is none
-  pub none_next : (rows : List (Row T)) (id : ℕ) → ((k : ℕ) → k < length rows → IsPassed rows id k) → find (λ (row : ℕ × T). nat_lt id row.0) (full_rows id_of rows) ≡ None
-  none_next [] id passed = refl
-  none_next (Full first ∷ rows) id passed =
-      let under : id_of first ≤ id = passed 0 (omega arith) first refl in
-      let test : nat_lt id (id_of first) ≡ false = grind (arith, nat_tests, under) in
-      rw test (none_next rows id (λ k within. passed (suc k) (omega (arith, within))))
-  none_next (Empty other ∷ rows) id passed = none_next rows id (λ k within. passed (suc k) (omega (arith, within)))
 
   -- ---- the first ids
 

@@ -1,2 +1,3 @@
--- Which things the rows have.
+-- Which things the rows have, and how they are given in turn.
 pub mod IdRows
+pub mod Walk

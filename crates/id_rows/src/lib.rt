@@ -10,8 +10,11 @@ mod near;
 mod places;
 mod row;
 mod rows;
+mod walk;
 
 /// What has an id.
 pub use has_id::HasId;
 /// The things, each found by its id.
 pub use rows::IdRows;
+/// A walk over all things.
+pub use walk::RowWalk;

@@ -4,9 +4,9 @@
 //! out once they are more than an eighth, so a removal moves some eight rows in the long run. Until
 //! then they keep ids next to one another, whose places need no search.
 ghost use Rattle.std.specs.Prelude.{◌≡◌, ◌++◌, ◌∷◌, [], ◌<◌, ◌≤◌, ◌-◌, ◌&&◌, ℕ, true, false, nat_eq, nat_lt};
-ghost use Rattle.std.specs.Prelude.{length, find, take, IfOk, OnOk, OnErr};
-ghost use Rattle.std.specs.Option.{option_copied, option_map};
-ghost use Rattle.std.specs.Map.{keys_of, lookup, remove_entry};
+ghost use Rattle.std.specs.Prelude.{length, take, IfOk, OnOk, OnErr};
+ghost use Rattle.std.specs.Option.{option_copied};
+ghost use Rattle.std.specs.Map.{keys_of, lookup, remove_entry, values_of};
 ghost use Rattle.ft_base.specs.Rows.{Below};
 ghost use Rattle.id_rows.specs.IdRows.{full_rows, Rise, place_id, row_at_place, is_empty_row, IsPlace};
 
@@ -14,6 +14,7 @@ use crate::has_id::HasId;
 use crate::near::place_near;
 use crate::places::{id_at, place_of};
 use crate::row::Row;
+use crate::walk::RowWalk;
 use ft_base::NoMemory;
 use std::alloc::Global;
 use std::marker::Model;
@@ -77,12 +78,11 @@ impl<T: HasId> IdRows<T> {
         thing_at(rows, at, id)
     }
 
-    /// The row with the least id above one.
-    pub fn after(&self, id: u64) -> Option<&T>
-        ensures { option_copied result ≡ option_map (λ row. row.1) (find (λ row. nat_lt id row.0) self.now) }
+    /// All things, in order of their ids: one pass for them all.
+    pub fn walk(&self) -> RowWalk<'_, T>
+        ensures { result ≡ values_of self.now }
     {
-        let rows = self.rows.as_slice();
-        first_after(rows, place_of(rows, id), id)
+        RowWalk::over(self.rows.as_slice())
     }
 
     /// The ids of the first rows, so many.
@@ -118,14 +118,6 @@ impl<T: HasId> IdRows<T> {
         }
         Some(thing)
     }
-
-    /// Takes all rows out. It takes no memory.
-    pub fn clear(&mut self)
-        ensures { self.new ≡ [] }
-    {
-        self.rows.clear();
-        self.full = 0;
-    }
 }
 
 // The thing of an id, whose row stands at a place if there is one.
@@ -147,21 +139,6 @@ fn is_at<T: HasId>(rows: &[Row<T>], at: usize, id: u64) -> bool
     ensures { result ≡ (nat_lt at (length rows.now) && nat_eq (place_id T.id_of rows.now at) id) }
 {
     at < rows.len() && id_at(rows, at) == id
-}
-
-// The first thing from a place on with an id above one, where no row before the place has such.
-fn first_after<T: HasId>(rows: &[Row<T>], place: usize, id: u64) -> Option<&T>
-    requires { (k : ℕ) → k < place → place_id T.id_of rows.now k < id }
-    ensures { option_copied result ≡ option_map (λ row. row.1) (find (λ row. nat_lt id row.0) (full_rows T.id_of rows.now)) }
-{
-    for at in place..rows.len() {
-        if let Row::Full(thing) = &rows[at] {
-            if thing.id() > id {
-                return Some(thing);
-            }
-        }
-    }
-    None
 }
 
 // The ids of the first full rows, so many.

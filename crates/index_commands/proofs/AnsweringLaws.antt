@@ -45,7 +45,7 @@ pub record IsQuery (what : Queried) (number : ℕ) (state : State) : Type 0 wher
   pub gives : (outcome : Outcome) → queried (index_of state.definitions what.name) what.params what.query (what.outcome number state) state outcome → given what.asks number state outcome
   pub may : MayWant what.asks
 
--- a fault that is not want of memory
+-- a fault other than out of memory
 abbrev IsKnown : QueryFault → Type 0
 IsKnown fault = let answer : Result Query QueryFault = Err fault in answer ≢ Err NoMemory
 

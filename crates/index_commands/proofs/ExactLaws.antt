@@ -1,5 +1,5 @@
 -- What is read for a search and for an aggregate, and what is told of an index, exactly.
-use Rattle.std.specs.Prelude.{◌≡◌, ◌≤◌, ℕ, List, length, Option, None, Some, Result, Ok, Err, IfOk, OnOk, find, refl}
+use Rattle.std.specs.Prelude.{◌≡◌, ◌≤◌, ℕ, List, Option, None, Some, Result, Ok, Err, IfOk, find, refl}
 use Rattle.std.proofs.Common.{ap, ◌∙◌, inl, inr}
 use Rattle.cmd_parse.specs.Aggregating.{Aggregating}
 use Rattle.cmd_parse.specs.Searching.{Searching}
@@ -10,18 +10,21 @@ use Rattle.ft_base.specs.Words.{first}
 use Rattle.ft_base.specs.Reply.{spelling}
 use Rattle.ft_base.specs.declared.definition.IndexDef.{IndexDef}
 use Rattle.ft_base.specs.declared.doc.Doc.{Doc}
+use Rattle.ft_base.specs.declared.query.Query.{Query}
 use Rattle.ft_base.specs.declared.reply.Reply.{Reply}
 use Rattle.ft_index.specs.Index.{Index}
 use Rattle.ft_base.specs.Memory.{want_of_memory}
-use Rattle.ft_machine.specs.Aggregating.{aggregate_rows, rows_reply}
 use Rattle.ft_machine.specs.Step.{Told}
 use Rattle.index_commands.specs.Exactness.{IsRefusal, ReadsAll, ReadsFew, ReadsFound, ReadsRows, Shows, TellsEntries, TellsExactly, TellsOf}
+use Rattle.index_commands.specs.Reading.{TellsRows}
+use Rattle.index_commands.specs.Told.{TellsIndex}
 use Rattle.ft_machine.specs.Info.{info_reply}
 use Rattle.ft_machine.specs.declared.counts.Counts.{Counts}
 use Rattle.ft_index.specs.Lists.{AllLists}
 use Rattle.ft_index.specs.Records.{all_entries}
 use Rattle.indexed_store.specs.Named.{is_named}
-use Rattle.hash_store.specs.Store.{reads_after}
+use Rattle.ft_meaning.specs.Holds.{found_of}
+use Rattle.hash_store.specs.Store.{Store}
 
 -- what a search found was answered, or out of memory
 pub reads-found : {E : Type 0} (what : Searching) (def : IndexDef) (docs : List Doc) (written : List ℕ) (made : Result Reply E) (old new : ℕ)
@@ -31,12 +34,12 @@ reads-found what def docs written (Ok reply) old new shows rises (inr want) = in
 reads-found what def docs written (Err e) old new shows rises want = inr (inr (want, rises))
 
 -- the rows of what an aggregate found were answered, or out of memory
-pub reads-made : {E : Type 0} (what : Aggregating) (def : IndexDef) (docs : List Doc) (written : List ℕ) (made : Result Reply E) (old new : ℕ)
-    → IfOk made (λ reply. reply ≡ rows_reply (aggregate_rows what.load what.steps def docs))
-    → OnOk made (new ≡ reads_after old (length docs)) → old ≤ new → Told made written → ReadsFound what written old new
-reads-made what def docs written (Ok reply) old new is reads rises (inl said) = inl (record { def = def; found = docs; made = said ∙ ap spelling is; reads = reads })
-reads-made what def docs written (Ok reply) old new is reads rises (inr want) = inr (inr (want, rises))
-reads-made what def docs written (Err e) old new is reads rises want = inr (inr (want, rises))
+pub reads-made : {E : Type 0} (what : Aggregating) (query : Query) (def : IndexDef) (written : List ℕ) (made : Result Reply E) (old new : Store)
+    → IfOk made (TellsRows what query def old new) → old.reads ≤ new.reads → Told made written → ReadsFound what written old.reads new.reads
+reads-made what query def written (Ok reply) old new tells rises (inl said) =
+    inl (record { def = def; found = found_of query def old.space; made = said ∙ ap spelling tells.told; reads = tells.reads })
+reads-made what query def written (Ok reply) old new tells rises (inr want) = inr (inr (want, rises))
+reads-made what query def written (Err e) old new tells rises want = inr (inr (want, rises))
 
 -- an aggregate that reads no more where it has no cursor
 pub reads-all : (what : Aggregating) (written : List ℕ) (old new : ℕ) → (what.cursor ≡ None → ReadsFound what written old new) → ReadsFew (Aggregate what) written old new
@@ -76,7 +79,7 @@ entries-of index def lists (Ok reply) counts its of_lists count made = record {
 }
 
 -- it was answered, or out of memory
-pub tells-told : {E : Type 0} (index : Index) (made : Result Reply E) (written : List ℕ) → IfOk made (λ reply. TellsEntries index reply) → Told made written → TellsOf (Some index) written
-tells-told index (Ok reply) written tells (inl said) = inl (reply, tells, said)
-tells-told index (Ok reply) written tells (inr want) = inr (want_of_memory, want)
-tells-told index (Err e) written tells want = inr (want_of_memory, want)
+pub tells-told : {E : Type 0} (index : Index) (cursors : ℕ) (made : Result Reply E) (written : List ℕ) → IfOk made (TellsIndex index cursors) → Told made written → TellsOf (Some index) written
+tells-told index cursors (Ok reply) written tells (inl said) = inl (reply, tells.exact, said)
+tells-told index cursors (Ok reply) written tells (inr want) = inr (want_of_memory, want)
+tells-told index cursors (Err e) written tells want = inr (want_of_memory, want)

@@ -6,7 +6,6 @@ use Rattle.std.specs.List.{All}
 use Rattle.std.specs.Option.{option_copied, option_map}
 use Rattle.std.proofs.lemmas.Bool.Decides.{nat_tests}
 use Rattle.std.proofs.lemmas.List.{length-append}
-use Rattle.std.proofs.lemmas.List.Elements.{All-cons, All-nil}
 use Rattle.std.proofs.lemmas.Result.{IfOk-weaker}
 use Rattle.std.proofs.lemmas.Slice.Eq.{bytes_eq-Decides}
 use Rattle.cmd_parse.specs.Read.{Asked, AlterIndex, CreateIndex, Plain}
@@ -15,7 +14,6 @@ use Rattle.ft_base.specs.Memory.{out_of_memory}
 use Rattle.ft_base.specs.Reply.{fits_wire, spelling}
 use Rattle.ft_base.specs.declared.definition.Field.{Field}
 use Rattle.ft_base.specs.declared.definition.IndexDef.{IndexDef}
-use Rattle.ft_base.specs.declared.doc.Doc.{Doc}
 use Rattle.ft_base.specs.declared.reply.Reply.{Reply}
 use Rattle.ft_base.specs.declared.reply.Reply.TheVariants.{Array, Bulk, Fault, Line}
 use Rattle.ft_index.specs.Index.{Index}
@@ -24,12 +22,9 @@ use Rattle.ft_schema.specs.Schema.{extended, has_any_alias, is_over}
 use Rattle.ft_schema.specs.declared.fault.SchemaFault.{SchemaFault}
 use Rattle.ft_schema.specs.declared.fault.SchemaFault.TheVariants as schema
 use Rattle.indexed_store.proofs.NamedLaws.{index_of-named}
-use Rattle.indexed_store.proofs.StepLaws.{row_of}
 use Rattle.ft_machine.specs.Definitions.{Defined, failures_over, index_of, with_index, without_index, without_members}
 use Rattle.indexed_store.specs.DefinitionsOf.{defined, definitions_of}
 use Rattle.indexed_store.specs.Named.{is_named}
-use Rattle.inverted_list.specs.Listing.{RisesAbove}
-use Rattle.ft_machine.specs.TagValues.{tag_values}
 use Rattle.ft_base.proofs.RepliesLaws.{fits-Bulk, shown-fits}
 use Rattle.ft_machine.proofs.Stepping.{gives, told, wants}
 use Rattle.ft_base.specs.Words.{first, second}
@@ -270,15 +265,8 @@ drop-two (word ∷ how ∷ args) number state written name there two is said = b
         ∙ ap (λ (i : Option Defined). record state { space = without_members i state.space; definitions = without_index state.definitions word; cursors = without_cursors_of i state.cursors }) found)
 
 -- FT._LIST
-names-listed : (indexes : List Index) → map (λ (index : Index). Bulk index.def.name) indexes ≡ map name_bulk (definitions_of indexes)
-names-listed [] = refl
-names-listed (index ∷ indexes) = ap (λ (rest : List Reply). Bulk index.def.name ∷ rest) (names-listed indexes)
-
-pub listed-names : (indexes : List Index) (names : List Reply) → names ≡ map (λ (index : Index). Bulk index.def.name) indexes → Array names ≡ listed (definitions_of indexes)
-listed-names indexes names is = ap Array (is ∙ names-listed indexes)
-
-pub names-fit : (indexes : List Index) (names : List Reply) → names ≡ map (λ (index : Index). Bulk index.def.name) indexes → IsTrue (fits_wire (Array names))
-names-fit indexes names is = subst (λ (rs : List Reply). IsTrue (fits_wire (Array rs))) (sym is) (shown-fits (λ (index : Index). Bulk index.def.name) indexes (λ index. fits-Bulk index.def.name))
+pub names-fit : (definitions : List Defined) (names : List Reply) → names ≡ map name_bulk definitions → IsTrue (fits_wire (Array names))
+names-fit definitions names is = subst (λ (rs : List Reply). IsTrue (fits_wire (Array rs))) (sym is) (shown-fits name_bulk definitions (λ index. fits-Bulk index.def.name))
 
 pub list-told : {E : Type 0} (args : List (List ℕ)) (indexes : List Index) (number : ℕ) (state : State) (written : List ℕ) (made : Result Reply E) → state.definitions ≡ definitions_of indexes
     → IfOk made (λ reply. reply ≡ listed (definitions_of indexes)) → Told made written → Does (Plain ListIndexes args) number state written state
@@ -302,13 +290,8 @@ tags-no_field args number state written index there none said =
     (sym (ap (λ (i : Option Defined). answered (tag_vals i (second args) state.space) state) there ∙ ap (λ (f : Option Field). answered (tags_reply f index.def state.space) state) none)) said refl
 
 pub tags-told : {E : Type 0} (args : List (List ℕ)) (number : ℕ) (state : State) (written : List ℕ) (index : Defined) (field : Field) (made : Result Reply E) → index_of state.definitions (first args) ≡ Some index
-    → tag_field index.def.fields (second args) ≡ Some field → IfOk made (λ reply. reply ≡ Array (map Bulk (tag_values index.def field state.space))) → Told made written → Does (Plain TagVals args) number state written state
+    → tag_field index.def.fields (second args) ≡ Some field → IfOk made (λ reply. reply ≡ tags_reply (Some field) index.def state.space) → Told made written → Does (Plain TagVals args) number state written state
 tags-told args number state written index field made there here is said =
     told (Plain TagVals args) number state written made tt
     (IfOk-weaker made _ _ (λ reply tags. ap (λ (r : Reply). answered r state) tags
     ∙ sym (ap (λ (i : Option Defined). answered (tag_vals i (second args) state.space) state) there ∙ ap (λ (f : Option Field). answered (tags_reply f index.def state.space) state) here)) is) said
-
--- ids that rise are above 0
-pub ids-above : (low : ℕ) (docs : List Doc) → RisesAbove low (map row_of docs) → All (λ (doc : Doc). 0 < doc.id) docs
-ids-above low [] rises = All-nil (λ (doc : Doc). 0 < doc.id)
-ids-above low (doc ∷ docs) rises = All-cons (λ (doc : Doc). 0 < doc.id) doc docs (omega (arith, rises.0)) (ids-above doc.id docs rises.1)

@@ -1,5 +1,5 @@
 -- What FT.INFO tells of an index is true of its documents.
-use Rattle.std.specs.Prelude.{◌≡◌, ◌≤◌, ◌+◌, ℕ, ℤ, List, [], ◌∷◌, Option, None, Some, Result, Ok, Err, IfOk, find, length, refl}
+use Rattle.std.specs.Prelude.{◌≡◌, ◌≤◌, ◌+◌, ℕ, ℤ, List, [], ◌∷◌, Option, None, Some, Result, Ok, Err, IfOk, IsTrue, find, length, refl}
 use Rattle.std.proofs.Common.{sym, ap, ◌∙◌, arith, subst}
 use Rattle.std.proofs.lemmas.List.{length-map}
 use Rattle.std.proofs.lemmas.Result.{IfOk-weaker}
@@ -7,7 +7,7 @@ use Rattle.cmd_parse.specs.Read.{Plain}
 use Rattle.cmd_parse.specs.declared.command.Verb.TheVariants.{Info}
 use Rattle.cursor_book.specs.Cursors.{cursors_of}
 use Rattle.cursor_book.specs.declared.cursor.Cursor.{Cursor}
-use Rattle.ft_base.specs.Reply.{spelling}
+use Rattle.ft_base.specs.Reply.{fits_wire, spelling}
 use Rattle.ft_base.specs.declared.definition.IndexDef.{IndexDef}
 use Rattle.ft_base.specs.declared.doc.Doc.{Doc}
 use Rattle.ft_base.specs.declared.reply.Reply.{Reply}
@@ -29,6 +29,8 @@ use Rattle.ft_machine.specs.Indexes.{unknown_index}
 use Rattle.ft_machine.specs.Machine.{State, answered}
 use Rattle.ft_machine.specs.Step.{Does, Told}
 use Rattle.index_commands.proofs.AnsweringLaws.{named}
+use Rattle.index_commands.specs.Exactness.{TellsEntries}
+use Rattle.index_commands.specs.Told.{TellsIndex}
 
 -- as many ids as rise up to a number are no more than the number
 pub rising-few : {X : Type 0} (low : ℕ) (rows : List (ℕ × X)) → RisesAbove low rows → low + length rows ≤ last_id low rows
@@ -71,9 +73,15 @@ told-of index def lists (Ok reply) docs records failures cursors its of_lists co
           ∙ ap (λ (n : ℕ). info_reply index.def (record { docs = length there; records = records; failures = index.failures; cursors = n })) are)));
     }
 
+-- so all is told that there is to tell
+pub tells-index : {E : Type 0} (index : Index) (cursors : ℕ) (made : Result Reply E)
+    → IfOk made (λ reply. (all : List Doc) (opened : List Cursor) → Indexes index all → cursors ≡ length (cursors_of index.def.serial opened) → Tells (defined index) all opened reply)
+    → IfOk made (λ reply. TellsEntries index reply) → IfOk made (λ reply. IsTrue (fits_wire reply)) → IfOk made (TellsIndex index cursors)
+tells-index index cursors (Ok reply) tells exact fits = record { tells = tells; exact = exact; fits = fits }
+tells-index index cursors (Err e) tells exact fits = tt
+
 -- what is told of an index is told of the documents that it stands for, and of the cursors that were counted
 pub told-at : {E : Type 0} (index : Index) (made : Result Reply E) (docs : List Doc) (opened : List Cursor) (cursors : ℕ) → Indexes index docs → cursors ≡ length (cursors_of index.def.serial opened)
-    → IfOk made (λ reply. (all : List Doc) (opened : List Cursor) → Indexes index all → cursors ≡ length (cursors_of index.def.serial opened) → Tells (defined index) all opened reply)
-    → IfOk made (λ reply. Tells (defined index) docs opened reply)
-told-at index (Ok reply) docs opened cursors stands are tells = tells docs opened stands are
-told-at index (Err e) docs opened cursors stands are tells = tt
+    → IfOk made (TellsIndex index cursors) → IfOk made (λ reply. Tells (defined index) docs opened reply)
+told-at index (Ok reply) docs opened cursors stands are told = told.tells docs opened stands are
+told-at index (Err e) docs opened cursors stands are told = tt

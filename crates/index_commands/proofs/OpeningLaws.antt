@@ -35,7 +35,7 @@ module _ (what : Aggregating) (spec : CursorSpec) (number : ℕ) (state : State)
   pub gives-opened : (def : IndexDef) (query : Query) → what.cursor ≡ Some spec → Gives (aggregate_gives what what.cursor number state def query) → Gives (opened what spec number state def query)
   gives-opened def query is may = subst (λ (c : Option CursorSpec). Gives (aggregate_gives what c number state def query)) is may
 
-  first-by : (serial : ℕ) (body : Body) (part : Part) (first : Option First) (written : List ℕ) → Gives (opened_by serial spec number body part state) → first ≡ first_left serial body part
+  first-by : (serial : ℕ) (body : Body) (part : Part) (first : Option First) (written : List ℕ) → Gives (opened_by serial spec number body part state) → first ≡ first_left serial body part.taken part.ends
       → written ≡ spelling (part_reply number part) → DoesFirst what spec number state first written
   first-by serial body part first written may left said = by_end part.ends may left
     where

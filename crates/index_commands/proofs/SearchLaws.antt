@@ -1,5 +1,5 @@
 -- A search is a command that has a query; what is shown of the documents of a set; and what a plan reads of an index.
-use Rattle.std.specs.Prelude.{◌≡◌, ℕ, List, Result, Ok, Err, Some, IfOk, IsTrue, OnOk, find, length, refl}
+use Rattle.std.specs.Prelude.{◌≡◌, ◌<◌, ℕ, List, Result, Ok, Err, Some, IfOk, IsTrue, OnOk, find, length, refl}
 use Rattle.std.proofs.Common.{sym, ap, arith, subst}
 use Rattle.std.proofs.lemmas.List.Elements.{All-filter}
 use Rattle.cmd_parse.specs.Read.{Search}
@@ -21,11 +21,12 @@ use Rattle.ft_machine.specs.Searching.{search_reply}
 use Rattle.ft_machine.specs.Shown.{found_reply}
 use Rattle.ft_machine.specs.Step.{last_number}
 use Rattle.hash_store.specs.Store.{Store, reads_after}
+use Rattle.indexed_store.proofs.HoldingLaws.{in_step-until}
 use Rattle.indexed_store.proofs.NamedLaws.{named-has}
 use Rattle.indexed_store.specs.Named.{is_named}
 use Rattle.indexed_store.specs.Standing.{IndexStands, InStep, markers_at}
 use Rattle.index_commands.specs.Exactness.{Shows}
-use Rattle.index_commands.specs.Reading.{IsReadable}
+use Rattle.index_commands.specs.Reading.{AreReadable, IsReadable}
 use Rattle.search_exec.specs.Ids.{docs_of, reads_for}
 use Rattle.index_commands.proofs.AnsweringLaws.{IsQuery, Queried}
 
@@ -70,7 +71,12 @@ index-read index def docs same readable = record {
 }
 
 -- an index of a store before the last event
-pub readable : (store : Store) (indexes : List Index) (name : List ℕ) (index : Index) → InStep store indexes last_number → Some index ≡ find (is_named name) indexes → IsReadable index store.space
+pub readable : (store : Store) (indexes : List Index) (name : List ℕ) (index : Index) → AreReadable store indexes → Some index ≡ find (is_named name) indexes → IsReadable index store.space
 readable store indexes name index step found =
     let stands = named-has (IndexStands store.space last_number (markers_at last_number)) indexes name index step.stand (sym found) in
     record { stands = stands.documents; sound = stands.sound; few = omega (arith, stands.earlier); values = step.documents.fit }
+
+-- the same of the store and the indexes that are held, as they are lent
+pub readable-held : (store : Store) (indexes lent : List Index) (next number : ℕ) → lent ≡ indexes → next ≡ number → number < last_number → InStep store indexes next → AreReadable store lent
+readable-held store indexes lent next number same is before step =
+    subst (AreReadable store) (sym same) (in_step-until store indexes next last_number (omega (arith, is, before)) step)

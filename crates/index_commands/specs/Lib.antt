@@ -1,5 +1,5 @@
 pub mod Exactness
 pub mod Found
-pub mod Gathered
 pub mod Parts
 pub mod Reading
+pub mod Told

@@ -1,18 +1,12 @@
 //! FT.AGGREGATE: the query is parsed by the fields of its index, and its steps make rows of the documents found.
-ghost use Rattle.std.specs.Prelude.{◌≡◌, ◌<◌, ◌≤◌, None, false, length, IfOk, IsTrue, OnOk};
+ghost use Rattle.std.specs.Prelude.{◌≡◌, ◌<◌, ◌≤◌, None, IfOk};
 ghost use Rattle.cmd_parse.specs.Aggregating.{aggregate_of};
 ghost use Rattle.cmd_parse.specs.Read.{Aggregate};
-ghost use Rattle.ft_base.specs.Reply.{fits_wire};
-ghost use Rattle.ft_base.specs.declared.limits.TheConstants.{MAX_WORD_BYTES};
 ghost use Rattle.ft_machine.specs.Aggregating.{aggregate_reply};
 ghost use Rattle.ft_machine.specs.Step.{last_number};
-ghost use Rattle.ft_meaning.specs.Holds.{found_of};
-ghost use Rattle.hash_store.specs.Store.{reads_after};
 ghost use Rattle.index_commands.specs.Exactness.{ReadsFound};
-ghost use Rattle.index_commands.specs.Reading.{HandsOut, IsAnswered, IsAnsweredOver, IsReadable, IsReplied};
-ghost use Rattle.indexed_store.specs.Changing.{is_write};
+ghost use Rattle.index_commands.specs.Reading.{AreReadable, HandsOut, IsAnswered, IsAnsweredOver, IsQuiet, IsReadable, IsReplied, IsWord, TellsRows};
 ghost use Rattle.indexed_store.specs.Preparing.{OnlyReads, Prepares};
-ghost use Rattle.indexed_store.specs.Standing.{InStep};
 
 use crate::ids::ids_found;
 use crate::opening::open_cursor;
@@ -35,12 +29,12 @@ pub fn aggregate<'a>(
     reply: &mut ReplyBuffer,
 ) -> Change<'a>
     requires number { held.old.next < last_number }
-    requires query { length asked.query.now ≤ MAX_WORD_BYTES }
+    requires query { IsWord asked.query.now }
     requires none { held.old.opens ≡ None }
     ensures prepares { Prepares (Aggregate (aggregate_of asked.entry)) held.old held.new reply.new.bytes result }
     // Without a cursor each document that is found is read once.
     ensures reads { asked.entry.cursor ≡ None → ReadsFound (aggregate_of asked.entry) reply.new.bytes held.old.reads held.new.reads }
-    ensures quiet { is_write result ≡ false }
+    ensures quiet { IsQuiet result }
     ensures room { reply.old.room ≤ reply.new.room }
 {
     match asked.cursor {
@@ -55,7 +49,7 @@ pub fn aggregate<'a>(
 /// Makes rows of the documents that a query finds in an index, and writes the reply.
 fn answer_aggregate(held: &mut IndexedStore, aggregate: &AggregateSpec<'_>, reply: &mut ReplyBuffer)
     requires number { held.old.next < last_number }
-    requires query { length aggregate.now.query.now ≤ MAX_WORD_BYTES }
+    requires query { IsWord aggregate.now.query.now }
     requires cursor { aggregate.now.cursor ≡ None }
     ensures does { IsAnswered (Aggregate (aggregate_of aggregate.now)) held.old reply.new.bytes }
     ensures stays { OnlyReads held.old held.new }
@@ -80,9 +74,9 @@ fn answer_in(
     aggregate: &AggregateSpec<'_>,
     reply: &mut ReplyBuffer,
 )
-    requires query { length aggregate.now.query.now ≤ MAX_WORD_BYTES }
+    requires query { IsWord aggregate.now.query.now }
     requires cursor { aggregate.now.cursor ≡ None }
-    requires step { InStep store.old indexes.now last_number }
+    requires step { AreReadable store.old indexes.now }
     ensures does { IsAnsweredOver (Aggregate (aggregate_of aggregate.now)) store.old.space indexes.now reply.new.bytes }
     ensures reads { ReadsFound (aggregate_of aggregate.now) reply.new.bytes store.old.reads store.new.reads }
     ensures store { HandsOut store.old store.new }
@@ -130,12 +124,8 @@ fn rows_in<L: Ledger>(
     requires parts { blank.parts ≡ L.parts }
     requires some { 0 < L.parts }
     requires readable { IsReadable index.now store.old.space }
-    ensures reply { IfOk result (λ reply. reply
-        ≡ aggregate_reply (aggregate_of aggregate.now) store.old.space index.now.def query.now) }
-    ensures fits { IfOk result (λ reply. IsTrue (fits_wire reply)) }
+    ensures reply { IfOk result (TellsRows (aggregate_of aggregate.now) query.now index.now.def store.old store.new) }
     ensures store { HandsOut store.old store.new }
-    ensures reads { OnOk result (store.new.reads ≡ reads_after store.old.reads
-        (length (found_of query.now index.now.def store.old.space))) }
 {
     let mut counter = Steps::<L>::new(blank);
     let iter = ids_found(store, index, alloc, query, 0, &mut counter)?;

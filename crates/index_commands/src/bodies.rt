@@ -4,10 +4,8 @@ ghost use Rattle.std.specs.List.{list_all};
 ghost use Rattle.agg_pipeline.specs.Stream.{is_of_rows};
 ghost use Rattle.cmd_parse.specs.Aggregating.{aggregate_of};
 ghost use Rattle.cursor_book.specs.declared.cursor.Body.TheVariants as body;
-ghost use Rattle.ft_machine.specs.Aggregating.{aggregate_rows};
 ghost use Rattle.ft_machine.specs.Opening.{body_of, cells_alone};
-ghost use Rattle.ft_meaning.specs.Holds.{found_of};
-ghost use Rattle.index_commands.specs.Reading.{HandsOut, IsReadable};
+ghost use Rattle.index_commands.specs.Reading.{HandsOut, IsReadable, rows_of};
 
 use crate::ids::ids_found;
 use agg_pipeline::{StreamSteps, are_of_rows};
@@ -64,8 +62,8 @@ fn rows_body(
     asked: &AggregateSpec<'_>,
 ) -> Result<Body, NoMemory>
     requires readable { IsReadable index.now store.old.space }
-    ensures body { IfOk result (λ made. made ≡ body.Rows (map cells_alone
-        (aggregate_rows asked.now.load asked.now.steps index.now.def (found_of query.now index.now.def store.old.space)))) }
+    ensures body { IfOk result (λ made. made
+        ≡ body.Rows (map cells_alone (rows_of (aggregate_of asked.now) store.old.space index.now.def query.now))) }
     ensures store { HandsOut store.old store.new }
 {
     let mut rows = all_rows::<Brand>(store, index, alloc, query, asked, Blank::new(1))?;
@@ -86,8 +84,7 @@ fn all_rows<L: Ledger>(
     requires parts { blank.parts ≡ L.parts }
     requires some { 0 < L.parts }
     requires readable { IsReadable index.now store.old.space }
-    ensures rows { IfOk result (λ rows. rows.items
-        ≡ aggregate_rows asked.now.load asked.now.steps index.now.def (found_of query.now index.now.def store.old.space)) }
+    ensures rows { IfOk result (λ rows. rows.items ≡ rows_of (aggregate_of asked.now) store.old.space index.now.def query.now) }
     ensures store { HandsOut store.old store.new }
 {
     let mut counter = Steps::<L>::new(blank);

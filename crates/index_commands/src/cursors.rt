@@ -1,14 +1,10 @@
 //! FT.CURSOR READ and DEL.
-ghost use Rattle.std.specs.Prelude.{◌≡◌, ◌<◌, ◌≤◌, ◌^◌, ℕ, None, false};
+ghost use Rattle.std.specs.Prelude.{◌≡◌, ◌<◌, ◌≤◌, ◌^◌, None};
 ghost use Rattle.cmd_parse.specs.Asked.{CursorDel, CursorRead};
-ghost use Rattle.ft_machine.specs.Machine.{State};
-ghost use Rattle.ft_machine.specs.Step.{Does, last_number};
-ghost use Rattle.index_commands.specs.Parts.{IsNext};
-ghost use Rattle.index_commands.specs.Reading.{HandsOut, IsReadable};
-ghost use Rattle.indexed_store.specs.Changing.{changed, is_write};
-ghost use Rattle.indexed_store.specs.DefinitionsOf.{definitions_of};
+ghost use Rattle.ft_machine.specs.Step.{last_number};
+ghost use Rattle.index_commands.specs.Parts.{IsNext, IsReadOver};
+ghost use Rattle.index_commands.specs.Reading.{AreReadable, HandsOut, IsQuiet, IsReadable};
 ghost use Rattle.indexed_store.specs.Preparing.{Prepares};
-ghost use Rattle.indexed_store.specs.Standing.{InStep};
 
 use crate::part::tell_part;
 use cursor_book::{Cursor, CursorBook};
@@ -30,7 +26,7 @@ pub fn read_cursor<'a>(
     requires none { held.old.opens ≡ None }
     requires id { id < 2 ^ 63 }
     ensures prepares { Prepares (CursorRead index.now id count) held.old held.new reply.new.bytes result }
-    ensures quiet { is_write result ≡ false }
+    ensures quiet { IsQuiet result }
     ensures room { reply.old.room ≤ reply.new.room }
 {
     read_in(
@@ -56,12 +52,10 @@ fn read_in<'a>(
     count: Option<u32>,
     reply: &mut ReplyBuffer,
 ) -> Change<'a>
-    requires step { InStep store.old indexes.now last_number }
+    requires step { AreReadable store.old indexes.now }
     requires id { id < 2 ^ 63 }
-    ensures does { (number : ℕ) (state : State) → state.space ≡ store.old.space → state.definitions ≡ definitions_of indexes.now
-        → state.cursors ≡ cursors.now
-        → Does (CursorRead name.now id count) number state reply.new.bytes (changed result None None state) }
-    ensures quiet { is_write result ≡ false }
+    ensures does { IsReadOver (CursorRead name.now id count) store.old.space indexes.now cursors.now result reply.new.bytes }
+    ensures quiet { IsQuiet result }
     ensures store { HandsOut store.old store.new }
     ensures room { reply.old.room ≤ reply.new.room }
 {
@@ -116,7 +110,7 @@ pub fn delete_cursor<'a>(
 ) -> Change<'a>
     requires none { held.old.opens ≡ None }
     ensures prepares { Prepares (CursorDel index.now id) held.old held.new reply.new.bytes result }
-    ensures quiet { is_write result ≡ false }
+    ensures quiet { IsQuiet result }
     ensures same { held.new ≡ held.old }
     ensures room { reply.old.room ≤ reply.new.room }
 {

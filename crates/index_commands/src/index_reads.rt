@@ -1,16 +1,9 @@
 //! FT._LIST and FT.TAGVALS.
-ghost use Rattle.std.specs.Prelude.{◌≡◌, ◌<◌, ◌≤◌, length, map, IfOk, IsTrue};
-ghost use Rattle.std.specs.List.{All, find};
-ghost use Rattle.std.specs.Option.{option_copied};
+ghost use Rattle.std.specs.Prelude.{◌≡◌, ◌≤◌, Some, length, map, option_copied, IfOk, IsTrue};
 ghost use Rattle.cmd_parse.specs.Read.{Plain};
 ghost use Rattle.cmd_parse.specs.declared.command.Verb.TheVariants.{ListIndexes, TagVals};
 ghost use Rattle.ft_base.specs.Reply.{fits_wire};
-ghost use Rattle.ft_base.specs.declared.doc.Doc.{Doc};
-ghost use Rattle.ft_base.specs.declared.reply.Reply.TheVariants.{Array, Bulk};
-ghost use Rattle.ft_index.specs.Index.{Index};
-ghost use Rattle.ft_machine.specs.Indexes.{listed, tag_field};
-ghost use Rattle.ft_machine.specs.Step.{Does};
-ghost use Rattle.ft_machine.specs.TagValues.{tag_values};
+ghost use Rattle.ft_machine.specs.Indexes.{listed, name_bulk, tag_field, tags_reply};
 ghost use Rattle.index_commands.specs.Reading.{HandsOut, IsAnswered, IsAnsweredOver};
 ghost use Rattle.indexed_store.specs.DefinitionsOf.{definitions_of};
 ghost use Rattle.indexed_store.specs.Preparing.{OnlyReads};
@@ -43,8 +36,7 @@ fn names_of_indexes(indexes: &[FtIndex], alloc: Global) -> Result<Reply, NoMemor
 }
 
 fn bulks_of_names(indexes: &[FtIndex], alloc: Global) -> Result<ListOf<Reply>, NoMemory>
-    ensures { IfOk result (λ names. names
-        ≡ map (λ (index : Index). Bulk index.def.name) indexes.now) }
+    ensures { IfOk result (λ names. names ≡ map name_bulk (definitions_of indexes.now)) }
 {
     let mut names = Vec::new(alloc);
     for index in indexes {
@@ -78,7 +70,6 @@ fn answer_tags_in(
     reply: &mut ReplyBuffer,
 )
     requires words { length args.now ≡ 2 }
-    requires ids { All (λ (doc : Doc). 0 < doc.id) store.old.space }
     ensures does { IsAnsweredOver (Plain TagVals args.now) store.old.space indexes.now reply.new.bytes }
     ensures store { HandsOut store.old store.new }
     ensures room { reply.old.room ≤ reply.new.room }
@@ -100,9 +91,7 @@ fn tags_reply(
     def: &IndexDef,
     field: &Field,
 ) -> Result<Reply, NoMemory>
-    requires ids { All (λ (doc : Doc). 0 < doc.id) store.old.space }
-    ensures reply { IfOk result (λ reply. reply
-        ≡ Array (map Bulk (tag_values def.now field.now store.old.space))) }
+    ensures reply { IfOk result (λ reply. reply ≡ tags_reply (Some field.now) def.now store.old.space) }
     ensures fits { IfOk result (λ reply. IsTrue (fits_wire reply)) }
     ensures store { HandsOut store.old store.new }
 {

@@ -1,20 +1,11 @@
 //! FT.INFO: what there is to tell of an index.
-ghost use Rattle.std.specs.Prelude.{◌≡◌, ◌<◌, ◌≤◌, ◌^◌, List, None, length, IfOk, IsTrue};
-ghost use Rattle.std.specs.List.{find};
+ghost use Rattle.std.specs.Prelude.{◌≡◌, ◌<◌, ◌≤◌, ◌^◌, None, length, IfOk};
 ghost use Rattle.cmd_parse.specs.Read.{Plain};
 ghost use Rattle.cmd_parse.specs.declared.command.Verb.TheVariants.{Info};
-ghost use Rattle.cursor_book.specs.Cursors.{cursors_of};
-ghost use Rattle.cursor_book.specs.declared.cursor.Cursor.{Cursor};
-ghost use Rattle.ft_base.specs.Reply.{fits_wire};
-ghost use Rattle.ft_base.specs.declared.doc.Doc.{Doc};
-ghost use Rattle.ft_index.specs.Index.{Indexes};
-ghost use Rattle.ft_base.specs.Words.{first};
-ghost use Rattle.ft_machine.specs.Info.{Tells};
-ghost use Rattle.ft_machine.specs.Step.{Does, last_number};
-ghost use Rattle.index_commands.specs.Exactness.{TellsEntries, TellsOf};
+ghost use Rattle.ft_machine.specs.Step.{last_number};
+ghost use Rattle.index_commands.specs.Exactness.{TellsExactly};
 ghost use Rattle.index_commands.specs.Reading.{IsAnswered};
-ghost use Rattle.indexed_store.specs.DefinitionsOf.{defined};
-ghost use Rattle.indexed_store.specs.Named.{is_named};
+ghost use Rattle.index_commands.specs.Told.{TellsIndex};
 ghost use Rattle.indexed_store.specs.Preparing.{OnlyReads};
 
 use crate::info_tree::info_reply;
@@ -32,7 +23,7 @@ pub fn answer_info(held: &mut IndexedStore, args: &Words<'_>, reply: &mut ReplyB
     requires none { held.old.opens ≡ None }
     ensures does { IsAnswered (Plain Info args.now) held.old reply.new.bytes }
     // As many records are told as the lists have entries.
-    ensures records { TellsOf (find (is_named (first args.now)) held.old.indexes) reply.new.bytes }
+    ensures records { TellsExactly (Plain Info args.now) held.old.indexes reply.new.bytes }
     ensures stays { OnlyReads held.old held.new }
     ensures reads { held.new.reads ≡ held.old.reads }
     ensures room { reply.old.room ≤ reply.new.room }
@@ -48,13 +39,10 @@ pub fn answer_info(held: &mut IndexedStore, args: &Words<'_>, reply: &mut ReplyB
 }
 
 /// What there is to tell of an index. Where its lists have more entries than a reply can say, or it has more cursors, that
-/// counts as want of memory.
+/// counts as running out of memory.
 fn told(index: &FtIndex, alloc: Global, cursors: usize) -> Result<Reply, NoMemory>
     requires few { index.now.table.last < 2 ^ 62 }
-    ensures tells { IfOk result (λ reply. (docs : List Doc) (opened : List Cursor) → Indexes index.now docs
-        → cursors ≡ length (cursors_of index.now.def.serial opened) → Tells (defined index.now) docs opened reply) }
-    ensures exact { IfOk result (λ reply. TellsEntries index.now reply) }
-    ensures fits { IfOk result (λ reply. IsTrue (fits_wire reply)) }
+    ensures tells { IfOk result (TellsIndex index.now cursors) }
 {
     let Some(records) = index.lists().records() else {
         return Err(AllocError);

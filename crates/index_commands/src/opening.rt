@@ -1,24 +1,17 @@
 //! FT.AGGREGATE with WITHCURSOR: the first rows, and a cursor for the others.
-ghost use Rattle.std.specs.Prelude.{◌≡◌, ◌<◌, ◌≤◌, None, Some, false, length, nat_le};
+ghost use Rattle.std.specs.Prelude.{◌≡◌, ◌<◌, ◌≤◌, None, Some, nat_le};
 ghost use Rattle.cmd_parse.specs.Aggregating.{aggregate_of};
 ghost use Rattle.cmd_parse.specs.Asked.{Aggregate};
-ghost use Rattle.cursor_book.specs.Cursors.{body_left};
-ghost use Rattle.ft_base.specs.declared.limits.TheConstants.{MAX_WORD_BYTES};
-ghost use Rattle.ft_machine.specs.Machine.{State};
 ghost use Rattle.ft_machine.specs.Opening.{body_of, most_cursors};
-ghost use Rattle.ft_machine.specs.Parts.{Part};
 ghost use Rattle.ft_machine.specs.Step.{last_number};
-ghost use Rattle.index_commands.specs.Parts.{DoesFirst, IsFirst, IsKept, first_left};
-ghost use Rattle.index_commands.specs.Reading.{HandsOut, IsReadable};
-ghost use Rattle.indexed_store.specs.Changing.{is_write};
-ghost use Rattle.indexed_store.specs.DefinitionsOf.{definitions_of};
+ghost use Rattle.index_commands.specs.Parts.{DoesFirstOver, IsFirst, IsKept, first_left};
+ghost use Rattle.index_commands.specs.Reading.{AreReadable, HandsOut, IsQuiet, IsReadable, IsWord};
 ghost use Rattle.indexed_store.specs.Preparing.{Prepares};
-ghost use Rattle.indexed_store.specs.Standing.{InStep};
 
 use crate::bodies::new_body;
 use crate::part::{PartTold, tell_part};
 use cmd_parse::{AggregateSpec, CursorSpec};
-use cursor_book::{Body, Cursor, Taken};
+use cursor_book::{Body, Cursor};
 use ft_base::Query;
 use ft_index::FtIndex;
 use hash_store::HashStore;
@@ -45,11 +38,11 @@ pub fn open_cursor<'a>(
     reply: &mut ReplyBuffer,
 ) -> Change<'a>
     requires number { held.old.next < last_number }
-    requires query { length asked.query.now ≤ MAX_WORD_BYTES }
+    requires query { IsWord asked.query.now }
     requires none { held.old.opens ≡ None }
     requires cursor { asked.cursor ≡ Some cursor }
     ensures prepares { Prepares (Aggregate (aggregate_of asked.entry)) held.old held.new reply.new.bytes result }
-    ensures quiet { is_write result ≡ false }
+    ensures quiet { IsQuiet result }
     ensures room { reply.old.room ≤ reply.new.room }
 {
     let number = held.next;
@@ -120,11 +113,10 @@ fn read_first(
     reply: &mut ReplyBuffer,
 ) -> Option<First>
     requires number { number < last_number }
-    requires query { length asked.query.now ≤ MAX_WORD_BYTES }
+    requires query { IsWord asked.query.now }
     requires cursor { asked.cursor ≡ Some cursor }
-    requires step { InStep store.old indexes.now last_number }
-    ensures does { (state : State) → state.space ≡ store.old.space → state.definitions ≡ definitions_of indexes.now
-        → DoesFirst (aggregate_of asked.entry) cursor number state result reply.new.bytes }
+    requires step { AreReadable store.old indexes.now }
+    ensures does { DoesFirstOver (aggregate_of asked.entry) cursor number store.old.space indexes.now result reply.new.bytes }
     ensures store { HandsOut store.old store.new }
     ensures room { reply.old.room ≤ reply.new.room }
 {
@@ -206,23 +198,13 @@ fn read_of(
 
 /// What a first read leaves, if it does not end the cursor.
 fn left_behind(serial: u64, body: Body, told: PartTold) -> Option<First>
-    ensures { (part : Part) → told.taken ≡ part.taken → told.ends ≡ part.ends → result ≡ first_left serial body part }
+    ensures { result ≡ first_left serial body told.taken told.ends }
 {
     if told.ends {
         drop(body);
         return None;
     }
-    Some(First {
-        serial,
-        body: body_left(body, told.taken),
-    })
-}
-
-/// What is left of a body behind a read.
-fn body_left(body: Body, taken: Taken) -> Body
-    ensures { result ≡ body_left taken body }
-{
     let mut body = body;
-    body.take(taken);
-    body
+    body.take(told.taken);
+    Some(First { serial, body })
 }

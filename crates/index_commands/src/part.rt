@@ -1,6 +1,5 @@
 //! A read of a cursor: the next of the rows that it kept, or those of the next documents that its query finds now.
-ghost use Rattle.std.specs.Prelude.{◌≡◌, ◌<◌, ◌≤◌, ◌∷◌, ◌^◌, [], if◌then◌else◌, pos, take, IfOk, IsTrue};
-ghost use Rattle.std.specs.List.{filter_map};
+ghost use Rattle.std.specs.Prelude.{◌≡◌, ◌<◌, ◌≤◌, ◌∷◌, ◌^◌, [], if◌then◌else◌, pos, filter_map, take, IfOk, IsTrue};
 ghost use Rattle.cursor_book.specs.declared.cursor.Taken.TheVariants as taken;
 ghost use Rattle.ft_base.specs.Reply.{fits_wire};
 ghost use Rattle.ft_base.specs.declared.reply.Reply.TheVariants.{Array, Number};

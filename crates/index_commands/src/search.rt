@@ -1,19 +1,14 @@
 //! FT.SEARCH: the query is parsed by the fields of its index, joined by the FILTERs, and answered by its plan. The store
 //! is read for the documents that are shown with their fields, or sorted by a field whose numbers the index does not keep,
 //! and for no other.
-ghost use Rattle.std.specs.Prelude.{◌≡◌, ◌<◌, ◌≤◌, None, length, IfOk};
+ghost use Rattle.std.specs.Prelude.{◌≡◌, ◌<◌, ◌≤◌, IfOk};
 ghost use Rattle.cmd_parse.specs.Read.{Search};
 ghost use Rattle.cmd_parse.specs.Seen.{search_of};
-ghost use Rattle.ft_base.specs.declared.limits.TheConstants.{MAX_WORD_BYTES};
-ghost use Rattle.ft_machine.specs.Counted.{counted, first_unknown};
 ghost use Rattle.ft_machine.specs.Searching.{search_reply};
 ghost use Rattle.ft_machine.specs.Step.{last_number};
-ghost use Rattle.ft_meaning.specs.Holds.{found_of};
-ghost use Rattle.index_commands.specs.Exactness.{ReadsRows, Shows};
-ghost use Rattle.index_commands.specs.Reading.{HandsOut, IsAnswered, IsAnsweredOver, IsReadable, IsReplied};
+ghost use Rattle.index_commands.specs.Exactness.{ReadsRows};
+ghost use Rattle.index_commands.specs.Reading.{AreReadable, HandsOut, IsAnswered, IsAnsweredOver, IsReadable, IsReplied, IsWord, NamesFields, ShowsCounted, ShowsNamed};
 ghost use Rattle.indexed_store.specs.Preparing.{OnlyReads};
-ghost use Rattle.indexed_store.specs.Standing.{InStep};
-ghost use Rattle.search_exec.specs.Ids.{docs_of};
 
 use crate::filters::{first_unknown, joined};
 use crate::ids::ids_found;
@@ -32,7 +27,7 @@ use std::sync::ledger::{Blank, Ledger};
 /// Searches an index, and writes the reply.
 pub fn answer_search(held: &mut IndexedStore, search: &SearchSpec<'_>, reply: &mut ReplyBuffer)
     requires number { held.old.next < last_number }
-    requires query { length search.now.query.now ≤ MAX_WORD_BYTES }
+    requires query { IsWord search.now.query.now }
     ensures does { IsAnswered (Search (search_of search.now)) held.old reply.new.bytes }
     ensures stays { OnlyReads held.old held.new }
     // No more is read than is shown, or has to be read to sort.
@@ -56,8 +51,8 @@ fn answer_in(
     search: &SearchSpec<'_>,
     reply: &mut ReplyBuffer,
 )
-    requires query { length search.now.query.now ≤ MAX_WORD_BYTES }
-    requires step { InStep store.old indexes.now last_number }
+    requires query { IsWord search.now.query.now }
+    requires step { AreReadable store.old indexes.now }
     ensures does { IsAnsweredOver (Search (search_of search.now)) store.old.space indexes.now reply.new.bytes }
     ensures reads { ReadsRows (search_of search.now) reply.new.bytes store.old.reads store.new.reads }
     ensures store { HandsOut store.old store.new }
@@ -104,9 +99,8 @@ fn found_joined(
     search: &SearchSpec<'_>,
 ) -> Result<Reply, NoMemory>
     requires readable { IsReadable index.now store.old.space }
-    requires fields { first_unknown index.now.def.fields (search_of search.now) ≡ None }
-    ensures shows { IfOk result (Shows (search_of search.now) index.now.def
-        (counted (search_of search.now) query index.now.def store.old.space) store.old.reads store.new.reads) }
+    requires fields { NamesFields (search_of search.now) index.now.def }
+    ensures shows { IfOk result (ShowsCounted (search_of search.now) query index.now.def store.old store.new) }
     ensures store { HandsOut store.old store.new }
 {
     match joined(alloc, query, index.def(), &search.filters) {
@@ -132,9 +126,8 @@ fn found_in<L: Ledger>(
     requires parts { blank.parts ≡ L.parts }
     requires some { 0 < L.parts }
     requires readable { IsReadable index.now store.old.space }
-    requires fields { first_unknown index.now.def.fields (search_of search.now) ≡ None }
-    ensures shows { IfOk result (Shows (search_of search.now) index.now.def
-        (docs_of (search_of search.now).keys (found_of query.now index.now.def store.old.space)) store.old.reads store.new.reads) }
+    requires fields { NamesFields (search_of search.now) index.now.def }
+    ensures shows { IfOk result (ShowsNamed (search_of search.now) query.now index.now.def store.old store.new) }
     ensures store { HandsOut store.old store.new }
 {
     let mut steps = Steps::<L>::new(blank);

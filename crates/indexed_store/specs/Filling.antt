@@ -1,12 +1,14 @@
--- How far an index has taken documents in order of their ids.
-use Rattle.std.specs.Prelude.{ℕ, List, filter, nat_le}
+-- What holds of an index that is being filled.
+use Rattle.std.specs.Prelude.{List}
 use Rattle.ft_base.specs.declared.doc.Doc.{Doc}
-use Rattle.hash_store.specs.Ahead.{ahead}
+use Rattle.ft_index.specs.Index.{Index, Indexes, IsIndex}
+use Rattle.ft_index.specs.Markers.{AreBefore}
+use Rattle.indexed_store.specs.Standing.{AreOfEvent}
+use Rattle.inverted_list.specs.declared.marker.Markers.{Markers}
 
--- the documents with ids of at most this
-abbrev pub upto : ℕ → List Doc → List Doc
-upto after docs = filter (λ (doc : Doc). nat_le doc.id after) docs
-
--- and the others, which a walk of the store has ahead of it
-abbrev pub beyond : ℕ → List Doc → List Doc
-beyond after docs = ahead after docs
+-- It has taken these documents. The markers of its lists are of its event, and were given before.
+pub record HasTaken (markers : Markers) (docs : List Doc) (index : Index) : Type 0 where
+  pub stands : Indexes index docs
+  pub sound : IsIndex index
+  pub before : AreBefore markers index.lists
+  pub given : AreOfEvent markers.event index

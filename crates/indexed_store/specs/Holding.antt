@@ -1,7 +1,10 @@
 -- What a contract sees of the documents, the indexes over them and the cursors, as one value.
-use Rattle.std.specs.Prelude.{◌≡◌, ◌≤◌, ◌<◌, ◌++◌, ℕ, List, [], Option, None, Some, length, max, option_to_list}
-use Rattle.std.specs.List.{All, AllByRecursion, AllPairs}
+use Rattle.std.specs.Prelude.{◌≡◌, ◌≤◌, ◌<◌, ◌++◌, ℕ, List, [], Option, None, Some, length, map, max, option_to_list}
+use Rattle.std.specs.Coded.{Coded, codes}
+use Rattle.std.specs.List.{All, AllByRecursion, AllPairs, IsDistinct}
+use Rattle.std.specs.Str.{bytes_eq}
 use Rattle.cursor_book.specs.Cursors.{cursor_of, live, without}
+use Rattle.cursor_book.specs.contracts.cursor.Cursor as cursor
 use Rattle.cursor_book.specs.declared.cursor.Cursor.{Cursor}
 use Rattle.ft_base.specs.declared.doc.Doc.{Doc}
 use Rattle.ft_index.specs.Index.{Index}
@@ -30,6 +33,14 @@ pub record Holding : Type 0 where
   pub reads : ℕ
   -- a number above those of all documents, markers and cursors; the next event has it or a later one
   pub next : ℕ
+
+-- it is stored as its fields are
+pub holding_code : Coded Holding
+holding_code = Prim.hlevel (codes, cursor.the_row.coded)
+
+-- no two documents have the same key
+abbrev pub HaveDistinctKeys : List Doc → Type 0
+HaveDistinctKeys docs = IsDistinct bytes_eq (map (λ (doc : Doc). doc.key) docs)
 
 -- ---- the cursor that waits is in the book already, where nobody sees it
 

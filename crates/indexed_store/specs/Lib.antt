@@ -1,7 +1,6 @@
 pub mod Changing
 pub mod Counting
 pub mod DefinitionsOf
-pub mod Filling
 pub mod Holding
 pub mod Indexing
 pub mod Named
@@ -9,3 +8,4 @@ pub mod Preparing
 pub mod Standing
 pub mod States
 pub mod Writing
+pub mod Filling

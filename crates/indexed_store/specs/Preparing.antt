@@ -16,6 +16,10 @@ use Rattle.indexed_store.specs.Standing.{AreApart, AreWritten, IndexStands, mark
 use Rattle.indexed_store.specs.Writing.{Waits}
 use Rattle.indexed_store.specs.declared.change.Change.{Change}
 
+-- a number is left for this event
+abbrev pub HasNumber : Holding → Type 0
+HasNumber held = held.next < last_number
+
 -- Documents were read at most.
 pub record OnlyReads (old new : Holding) : Type 0 where
   pub space : new.space ≡ old.space

@@ -3,11 +3,26 @@ ghost use Rattle.std.specs.Prelude.{◌≡◌, ◌<◌, ◌≤◌, ◌+◌, leng
 ghost use Rattle.ft_machine.specs.Definitions.{without_keys};
 ghost use Rattle.indexed_store.specs.Counting.{ids_of};
 
+use crate::held::IndexedStore;
 use ft_base::{NoMemory, Words};
 use hash_store::HashStore;
 
 /// How many keys DEL counts without memory.
 pub const MOST_COUNTED: usize = 1_024;
+
+impl IndexedStore {
+    /// How many documents the keys have, each counted once. Memory runs out for very many keys alone.
+    pub fn count_found(&mut self, keys: &Words<'_>) -> Result<usize, NoMemory>
+        ensures count { IfOk result (λ count.
+            count + length (without_keys self.old.space keys.now) ≡ length self.old.space) }
+        ensures none { IfOk result (λ count.
+            count ≡ 0 → without_keys self.old.space keys.now ≡ self.old.space) }
+        ensures many { IsErr result → MOST_COUNTED < length keys.now }
+        ensures same { self.new ≡ self.old }
+    {
+        count_found(&self.store, &mut self.ids, keys)
+    }
+}
 
 /// How many documents the keys have, each counted once.
 pub fn count_found(

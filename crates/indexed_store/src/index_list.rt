@@ -8,7 +8,24 @@ ghost use Rattle.indexed_store.specs.DefinitionsOf.{defined, definitions_of};
 ghost use Rattle.indexed_store.specs.Named.{is_named, without_named};
 ghost use Rattle.indexed_store.specs.Standing.{AreApart, IndexStands, InStep, markers_at};
 
+use crate::held::IndexedStore;
 use ft_index::FtIndex;
+
+impl IndexedStore {
+    /// The index of a name.
+    pub fn index_named(&self, name: &[u8]) -> Option<&FtIndex>
+        ensures { option_copied result ≡ find (is_named name.now) self.now.indexes }
+    {
+        index_named(self.indexes.as_slice(), name)
+    }
+
+    /// How many indexes there are.
+    pub fn index_count(&self) -> usize
+        ensures { result ≡ length self.now.indexes }
+    {
+        self.indexes.len()
+    }
+}
 
 /// The index of a name.
 pub fn index_named<'a>(indexes: &'a [FtIndex], name: &[u8]) -> Option<&'a FtIndex>

@@ -17,8 +17,6 @@ pub fn hgetall(store: &mut HashStore, alloc: Global, key: &[u8]) -> Result<Reply
         ≡ Array (in_turn (hash_in (doc_of store.old.space key.now)))) }
     ensures fits { IfOk result (λ reply. IsTrue (fits_wire reply)) }
     ensures store { store.new ≡ after_read (doc_of store.old.space key.now) store.old }
-    ensures space { store.new.space ≡ store.old.space }
-    ensures last { store.new.last ≡ store.old.last }
 {
     match store.get(key) {
         Some(doc) => in_turn(alloc, &doc.hash),
@@ -32,8 +30,6 @@ pub fn hkeys(store: &mut HashStore, alloc: Global, key: &[u8]) -> Result<Reply, 
         ≡ Array (names (hash_in (doc_of store.old.space key.now)))) }
     ensures fits { IfOk result (λ reply. IsTrue (fits_wire reply)) }
     ensures store { store.new ≡ after_read (doc_of store.old.space key.now) store.old }
-    ensures space { store.new.space ≡ store.old.space }
-    ensures last { store.new.last ≡ store.old.last }
 {
     match store.get(key) {
         Some(doc) => names_of(alloc, &doc.hash),
@@ -58,8 +54,6 @@ pub fn hvals(store: &mut HashStore, alloc: Global, key: &[u8]) -> Result<Reply, 
         ≡ Array (values (hash_in (doc_of store.old.space key.now)))) }
     ensures fits { IfOk result (λ reply. IsTrue (fits_wire reply)) }
     ensures store { store.new ≡ after_read (doc_of store.old.space key.now) store.old }
-    ensures space { store.new.space ≡ store.old.space }
-    ensures last { store.new.last ≡ store.old.last }
 {
     match store.get(key) {
         Some(doc) => all_values(alloc, &doc.hash),
@@ -82,8 +76,6 @@ fn all_values(alloc: Global, hash: &HashRec) -> Result<Reply, NoMemory>
 pub fn hlen(store: &mut HashStore, key: &[u8]) -> usize
     ensures count { result ≡ length (hash_in (doc_of store.old.space key.now)) }
     ensures store { store.new ≡ after_read (doc_of store.old.space key.now) store.old }
-    ensures space { store.new.space ≡ store.old.space }
-    ensures last { store.new.last ≡ store.old.last }
 {
     match store.get(key) {
         Some(doc) => doc.hash.len(),

@@ -22,8 +22,6 @@ pub fn hget(
         ≡ value_reply (get_field (hash_in (doc_of store.old.space key.now)) field.now)) }
     ensures fits { IfOk result (λ reply. IsTrue (fits_wire reply)) }
     ensures store { store.new ≡ after_read (doc_of store.old.space key.now) store.old }
-    ensures space { store.new.space ≡ store.old.space }
-    ensures last { store.new.last ≡ store.old.last }
 {
     match store.get(key) {
         Some(doc) => value_of(alloc, &doc.hash, field),
@@ -49,8 +47,6 @@ pub fn hmget(store: &mut HashStore, alloc: Global, args: &Words<'_>) -> Result<R
         (drop 1 args.now))) }
     ensures fits { IfOk result (λ reply. IsTrue (fits_wire reply)) }
     ensures store { store.new ≡ after_read (doc_of store.old.space (slice_index_or args.now 0 [])) store.old }
-    ensures space { store.new.space ≡ store.old.space }
-    ensures last { store.new.last ≡ store.old.last }
 {
     let fields = args.rest(1);
     match store.get(args.word(0)) {
@@ -74,8 +70,6 @@ fn values_of(alloc: Global, hash: &HashRec, fields: &Words<'_>) -> Result<Reply,
 pub fn hexists(store: &mut HashStore, key: &[u8], field: &[u8]) -> bool
     ensures there { result ≡ is_some (get_field (hash_in (doc_of store.old.space key.now)) field.now) }
     ensures store { store.new ≡ after_read (doc_of store.old.space key.now) store.old }
-    ensures space { store.new.space ≡ store.old.space }
-    ensures last { store.new.last ≡ store.old.last }
 {
     match store.get(key) {
         Some(doc) => doc.hash.get(field).is_some(),

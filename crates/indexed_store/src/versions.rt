@@ -15,8 +15,6 @@ use std::alloc::Global;
 /// A copy of a key's hash, without fields where there is none.
 pub fn copy_of(store: &mut HashStore, alloc: Global, key: &[u8]) -> Result<HashRec, NoMemory>
     ensures hash { IfOk result (λ hash. hash ≡ hash_in (doc_of store.old.space key.now)) }
-    ensures space { store.new.space ≡ store.old.space }
-    ensures last { store.new.last ≡ store.old.last }
     ensures store { store.new ≡ after_read (doc_of store.old.space key.now) store.old }
 {
     match store.get(key) {
@@ -47,8 +45,6 @@ pub fn left_of(
     ensures left { IfOk result (λ made. made.1
         ≡ without_fields (hash_in (doc_of store.old.space key.now)) fields.now) }
     ensures fewer { IfOk result (λ made. length made.1 ≤ made.0) }
-    ensures space { store.new.space ≡ store.old.space }
-    ensures last { store.new.last ≡ store.old.last }
     ensures store { store.new ≡ after_read (doc_of store.old.space key.now) store.old }
 {
     match store.get(key) {
@@ -111,8 +107,6 @@ fn keep_unless(
 /// The number that the value of a key's field is, 0 where it is not there.
 pub fn number_of(store: &mut HashStore, key: &[u8], field: &[u8]) -> Option<i64>
     ensures number { result ≡ number_in (get_field (hash_in (doc_of store.old.space key.now)) field.now) }
-    ensures space { store.new.space ≡ store.old.space }
-    ensures last { store.new.last ≡ store.old.last }
     ensures store { store.new ≡ after_read (doc_of store.old.space key.now) store.old }
 {
     match store.get(key) {

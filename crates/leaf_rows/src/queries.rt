@@ -55,7 +55,7 @@ pub fn query_of(
     parsed(alloc, text, &def, params)
 }
 
-// What is too long is answered like want of memory.
+// What is too long is answered as if memory ran out.
 fn parsed(
     alloc: Global,
     text: &[u8],

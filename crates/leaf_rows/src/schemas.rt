@@ -27,7 +27,7 @@ pub fn put(alloc: Global, call: &str, words: &[Vec<u8>], out: &mut Answer) -> bo
 }
 
 /// The index with these options and fields, as FT.CREATE has them. Where they define none it is answered
-/// like want of memory.
+/// as if memory ran out.
 pub fn index_of(alloc: Global, options: &[u8], fields: &[u8]) -> Result<IndexDef, NoMemory> {
     let text = create_text(alloc, options, fields)?;
     match created_by(alloc, text.as_slice()) {
@@ -44,7 +44,7 @@ fn create_text(alloc: Global, options: &[u8], fields: &[u8]) -> Result<Vec<u8>, 
     Ok(text)
 }
 
-// The answer to the words of FT.CREATE. Fewer than 5 are answered like want of memory.
+// The answer to the words of FT.CREATE. Fewer than 5 are answered as if memory ran out.
 fn created(alloc: Global, words: &[Vec<u8>]) -> Result<IndexDef, SchemaFault> {
     match frame_of(alloc, words)? {
         Some(frame) => read_index(alloc, frame.words()),
@@ -64,7 +64,7 @@ fn created_by(alloc: Global, text: &[u8]) -> Result<IndexDef, SchemaFault> {
     created(alloc, words.as_slice())
 }
 
-// The answer to the words of FT.ALTER. Fewer than 6 are answered like want of memory.
+// The answer to the words of FT.ALTER. Fewer than 6 are answered as if memory ran out.
 fn altered(alloc: Global, words: &[Vec<u8>]) -> Result<ListOf<Field>, SchemaFault> {
     match frame_of(alloc, words)? {
         Some(frame) => read_fields(alloc, frame.words()),

@@ -1,7 +1,7 @@
 -- What a contract sees of the ranges of a field: rows of a low and a posting list.
 use Rattle.std.specs.Prelude.{◌≡◌, ◌<◌, ℕ, suc, zero, Bool, true, false, cond, ◌&&◌, ℤ, negsuc, int_le, int_lt, List, [], ◌∷◌, Option, None, Some, IsTrue, length, sum_by}
 use Rattle.std.specs.List.{AllByRecursion, filter}
-use Rattle.std.specs.Map.{lookup}
+use Rattle.std.specs.Map.{lookup, set_value}
 use Rattle.std.specs.Ordering.{int_eq}
 use Rattle.posting_block.specs.declared.hits.NumHit.{NumHit}
 use Rattle.inverted_list.specs.Listing.{Listing, RisesAbove, last_id}
@@ -37,6 +37,10 @@ lies_at (row ∷ rows) low v = cond (int_eq low row.0) (lies_in row.0 (low_of ro
 -- the list of the row that begins at a low, where one does
 abbrev pub list_at : Rows → ℤ → Option (Listing NumHit)
 list_at rows low = lookup (int_eq low) rows
+
+-- the rows with this list in the row that begins at a low, where one does
+abbrev pub with_list : Rows → ℤ → Listing NumHit → Rows
+with_list rows low list = set_value (int_eq low) rows list
 
 -- the list without its entries
 abbrev pub bare : Listing NumHit → Listing NumHit

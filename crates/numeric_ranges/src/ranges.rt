@@ -1,12 +1,9 @@
 //! The ranges of a field: rows of a low and a posting list, in rising order of the lows.
-ghost use Rattle.std.specs.Prelude.{◌≡◌, ◌<◌, ◌≤◌, ◌+◌, ◌-◌, ◌*◌, ◌^◌, ◌↔◌, ◌++◌, ◌∷◌, [], ℕ, negsuc, Some, length, set, slice_get, IfOk, IfNone, IfSome, IsSome, IsTrue, OnOk, OnErr};
-ghost use Rattle.std.specs.List.{AllByRecursion, insert};
-ghost use Rattle.std.specs.Map.{set_value};
-ghost use Rattle.std.specs.Option.{option_copied, option_map};
-ghost use Rattle.std.specs.Ordering.{int_eq};
+ghost use Rattle.std.specs.Prelude.{◌≡◌, ◌<◌, ◌≤◌, ◌+◌, ◌-◌, ◌*◌, ◌^◌, ◌↔◌, ◌++◌, ◌∷◌, [], ℕ, negsuc, Some, length, insert, set, slice_get, IfOk, IfNone, IfSome, IsSome, IsTrue, OnOk, OnErr, option_copied, option_map};
+ghost use Rattle.std.specs.List.{AllByRecursion};
 ghost use Rattle.inverted_list.specs.Listing.{marker_of};
 ghost use Rattle.numeric_ranges.specs.Added.{added};
-ghost use Rattle.numeric_ranges.specs.Ranges.{AreParted, IsPartition, IsAbove, entries_in_rows, lies_at, list_at, meets, bare};
+ghost use Rattle.numeric_ranges.specs.Ranges.{Rows, AreParted, IsPartition, IsAbove, entries_in_rows, lies_at, list_at, with_list, meets, bare};
 ghost use Rattle.numeric_ranges.specs.Rows.{Held, rows_of};
 ghost use Rattle.numeric_ranges.specs.Values.{Entries};
 
@@ -29,9 +26,6 @@ pub struct Ranges {
 }
 
 impl Model for Ranges {
-    ghost use Rattle.numeric_ranges.specs.Ranges.{Rows};
-    ghost use Rattle.numeric_ranges.specs.Rows.{Held, rows_of};
-
     ghost Value = { Rows };
 
     ghost view = { λ r. rows_of r.rows.items };
@@ -141,7 +135,7 @@ impl Ranges {
     /// without entries in its place. It takes no memory.
     pub fn take_list(&mut self, low: i64) -> Option<List<NumHit>>
         ensures list { result ≡ list_at self.old low }
-        ensures left { IfSome result (λ l. self.new ≡ set_value (int_eq low) self.old (bare l)) }
+        ensures left { IfSome result (λ l. self.new ≡ with_list self.old low (bare l)) }
         ensures none { IfNone result (self.new ≡ self.old) }
     {
         take_from(&mut self.rows, self.alloc, low)
@@ -152,7 +146,7 @@ impl Ranges {
         requires there { IsSome (list_at self.old low) }
         requires lies { AllByRecursion (λ e. IsTrue (lies_at self.old low e.1.value))
             list.entries }
-        ensures { self.new ≡ set_value (int_eq low) self.old list }
+        ensures { self.new ≡ with_list self.old low list }
     {
         put_into(&mut self.rows, low, list);
     }
@@ -222,7 +216,7 @@ fn take_from(rows: &mut Vec<Row>, alloc: Global, low: i64) -> Option<List<NumHit
     requires held { Held rows.old.items }
     ensures list { result ≡ list_at (rows_of rows.old.items) low }
     ensures left { IfSome result (λ l. rows_of rows.new.items
-        ≡ set_value (int_eq low) (rows_of rows.old.items) (bare l)) }
+        ≡ with_list (rows_of rows.old.items) low (bare l)) }
     ensures none { IfNone result (rows_of rows.new.items ≡ rows_of rows.old.items) }
     ensures held { Held rows.new.items }
 {
@@ -238,7 +232,7 @@ fn put_into(rows: &mut Vec<Row>, low: i64, list: List<NumHit>)
     requires there { IsSome (list_at (rows_of rows.old.items) low) }
     requires lies { AllByRecursion (λ e. IsTrue (lies_at (rows_of rows.old.items) low e.1.value))
         list.entries }
-    ensures put { rows_of rows.new.items ≡ set_value (int_eq low) (rows_of rows.old.items) list }
+    ensures put { rows_of rows.new.items ≡ with_list (rows_of rows.old.items) low list }
     ensures held { Held rows.new.items }
 {
     let _ = list.len();

@@ -3,6 +3,8 @@ ghost use Rattle.std.specs.Prelude.{◌<◌, ◌^◌, [], ℕ, List, refl};
 ghost use Rattle.posting_block.specs.Leb.{leb, leb_value, leb_rest};
 ghost use Rattle.posting_block.specs.Zigzag.{zigzag, unzigzag};
 ghost use Rattle.posting_block.specs.Codes.{text_spelled, text_read, TextFits};
+ghost use Rattle.posting_block.specs.CodesLaws.{text_of, text_reads};
+ghost use Rattle.posting_block.specs.NumLaws.{num_reads};
 
 use crate::codes::{put_codes, read_codes, skip_codes};
 use crate::leb::{put_leb, read_step};
@@ -28,9 +30,6 @@ pub struct NumHit {
 }
 
 impl Payload for TextHit {
-    ghost use Rattle.posting_block.specs.Codes.{text_spelled, text_read, TextFits};
-    ghost use Rattle.posting_block.specs.CodesLaws.{text_of, text_reads};
-
     ghost spelled = { λ hit. text_spelled hit.places };
 
     ghost read = { λ bytes. text_of (text_read bytes) };
@@ -77,11 +76,6 @@ impl Payload for TagHit {
 }
 
 impl Payload for NumHit {
-    ghost use Rattle.std.specs.Prelude.{◌<◌, ◌^◌, ℕ, List};
-    ghost use Rattle.posting_block.specs.Leb.{leb, leb_value, leb_rest};
-    ghost use Rattle.posting_block.specs.Zigzag.{zigzag, unzigzag};
-    ghost use Rattle.posting_block.specs.NumLaws.{num_reads};
-
     ghost spelled = { λ hit. leb (zigzag hit.value) };
 
     ghost read = { λ bytes. (record { value = unzigzag (leb_value bytes) }, leb_rest bytes) };

@@ -82,7 +82,7 @@ module _ (def : IndexDef) (params : List Param) where
   lex_place (lex_fault.LoneEscape at) = at
   lex_place lex_fault.NoMemory = 0
 
-  -- What a text of these lexemes, or of this lexical fault, may be answered; want of memory says nothing of it.
+  -- What a text of these lexemes, or of this lexical fault, may be answered; running out of memory says nothing of it.
   abbrev pub Answers : ℕ → Result (List Lexeme) LexFault → Result Query QueryFault → Type 0
   Answers end lexed (Err NoMemory) = Unit {0}
   Answers end (Ok ts) (Ok q) = IsMeaning ts q

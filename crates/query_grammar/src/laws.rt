@@ -1,13 +1,12 @@
 //! Laws of the language, whatever code reads a text. Each function here does nothing: its contract is the law.
-ghost use Rattle.std.specs.Prelude.{◌≡◌, ◌⊎◌, ℕ, List, Ok};
+ghost use Rattle.std.specs.Prelude.{◌≡◌, ◌⊎◌, ℕ, List};
 ghost use Rattle.ft_base.specs.declared.definition.IndexDef.{IndexDef as Index};
 ghost use Rattle.ft_base.specs.declared.query.Param.{Param};
 ghost use Rattle.ft_base.specs.declared.query.Query.{Query};
 ghost use Rattle.query_lex.specs.Places.{Rise};
 ghost use Rattle.query_lex.specs.declared.lexeme.Lexeme.{Lexeme};
 ghost use Rattle.query_grammar.specs.declared.fault.QueryFault.{QueryFault as Fault};
-ghost use Rattle.query_grammar.specs.Answer.{Answers, IsFault, IsMeaning};
-ghost use Rattle.query_grammar.specs.Reading.{answer_of, whole_at};
+ghost use Rattle.query_grammar.specs.Answer.{IsFault, IsMeaning};
 
 /// The lexemes of a text have one tree at most.
 pub fn one_tree()
@@ -27,10 +26,4 @@ pub fn tree_or_fault()
         → ((q : Query) × IsMeaning def params ts q) ⊎ ((f : Fault) × IsFault def params end ts f) }
     ensures never_both { (def : Index) (params : List Param) (end : ℕ) (ts : List Lexeme)
         → (q : Query) (f : Fault) → IsMeaning def params ts q → IsFault def params end ts f → ⊥ }
-{}
-
-/// Reading them from the left, as far as their first fault, finds it, or else the tree.
-pub fn reading_answers()
-    ensures { (def : Index) (params : List Param) (end : ℕ) (ts : List Lexeme) → Rise 0 end ts
-        → Answers def params end (Ok ts) (answer_of end (whole_at def params ts)) }
 {}

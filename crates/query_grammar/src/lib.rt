@@ -7,8 +7,11 @@
 
 mod fault;
 mod laws;
+mod reading;
 
 /// Why a text is no query.
 pub use fault::QueryFault;
 /// A text has one answer.
-pub use laws::{one_fault, one_tree, reading_answers, tree_or_fault};
+pub use laws::{one_fault, one_tree, tree_or_fault};
+/// Reading finds it.
+pub use reading::reading_answers;

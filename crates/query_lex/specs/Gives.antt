@@ -6,7 +6,7 @@ use Rattle.query_lex.specs.declared.fault.Stop.{Stop}
 use Rattle.query_lex.specs.declared.fault.Stop.TheVariants.{Fault, NoMemory}
 use Rattle.query_lex.specs.Reading.{Next}
 
--- the code stops where reading does; want of memory says nothing of the bytes
+-- the code stops where reading does; running out of memory says nothing of the bytes
 abbrev pub Stops : {A : Type 0} → Stop → Result A Stop → Type 0
 Stops NoMemory read = Unit {0}
 Stops (Fault cause left) read = read ≡ Err (Fault cause left)
@@ -22,7 +22,7 @@ GivesNext view (Ok None) read = read ≡ Ok None
 GivesNext view (Ok (Some x)) read = read ≡ Ok (Some (view x))
 GivesNext view (Err stop) read = Stops stop read
 
--- A fault is the one that the text has; want of memory says nothing of it.
+-- A fault is the one that the text has; running out of memory says nothing of it.
 abbrev pub IsFaultOf : {A : Type 0} → LexFault → Result A LexFault → Type 0
 IsFaultOf answers.NoMemory read = Unit {0}
 IsFaultOf (answers.OpenQuote at) read = read ≡ Err (answers.OpenQuote at)

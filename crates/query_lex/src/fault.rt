@@ -35,7 +35,7 @@ pub enum Cause {
     LoneEscape,
 }
 
-/// Why reading stops: at a byte, with the number of bytes from it on, or for want of memory.
+/// Why reading stops: at a byte, with the number of bytes from it on, or out of memory.
 #[derive(Clone, Copy, Debug, PartialEq, Eq)]
 pub enum Stop {
     Fault { cause: Cause, left: usize },

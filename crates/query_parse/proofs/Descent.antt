@@ -14,7 +14,7 @@ use Rattle.query_grammar.specs.Answer.{place_of}
 use Rattle.query_grammar.specs.Faults.{has_other}
 use Rattle.query_grammar.specs.Grammar.{Sort, Part, Union}
 use Rattle.query_grammar.specs.declared.fault.QueryFault.TheVariants.{WrongKind}
-use Rattle.query_grammar.specs.Reading.{Reader, Deeper, Broken, Found, atom_at, begins_atom, behind_atom, behind_names, closed_with, comes, deeper, field_at, group_at, inside_at, is_quote_kind, names_at, next_sign, part_at, part_target, sort_at, target_with, unless_other}
+use Rattle.query_grammar.specs.Reading.{Reader, Deeper, Broken, Found, atom_at, begins_atom, behind_atom, behind_names, closed_with, comes, deeper, field_at, group_at, inside_at, is_quote_kind, names_at, next_sign, part_at, part_target, target_with, unless_other}
 use Rattle.query_grammar.specs.Reading as reading
 use Rattle.query_parse.specs.declared.stop.Stop.{Stop}
 use Rattle.query_parse.specs.Gives.{Gives}

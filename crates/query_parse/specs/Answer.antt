@@ -27,7 +27,7 @@ lexical (lex_fault.OpenQuote at) = Syntax at
 lexical (lex_fault.LoneEscape at) = Syntax at
 lexical lex_fault.NoMemory = NoMemory
 
--- The answer is what reading the text gives; want of memory says nothing of it.
+-- The answer is what reading the text gives; running out of memory says nothing of it.
 abbrev pub IsRead : Result Query QueryFault → Result Query QueryFault → Type 0
 IsRead (Ok q) read = read ≡ Ok q
 IsRead (Err NoMemory) read = Unit {0}

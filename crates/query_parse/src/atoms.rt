@@ -1,13 +1,8 @@
 //! Parts by themselves: words, prefixes, parameters and quotes; and the end of a group.
-ghost use Rattle.std.specs.Prelude.{◌≡◌, ◌∷◌, [], ◌≤◌, IfErr, IfOk, List, length, map, option_to_list};
-ghost use Rattle.query_grammar.specs.Faults.{faults_at};
-ghost use Rattle.query_grammar.specs.Meaning.{atom_parts, quote_parts, quoted, word_parts};
-ghost use Rattle.query_grammar.specs.Reading.{closed_with, next_sign, unless};
-ghost use Rattle.query_grammar.specs.Values.{param_of};
-ghost use Rattle.query_parse.specs.Gives.{Gives, IsFound};
-ghost use Rattle.query_grammar.specs.declared.fault.QueryFault.TheVariants.{NoParam};
-ghost use Rattle.ft_base.specs.declared.definition.IndexDef.{IndexDef};
-ghost use Rattle.ft_base.specs.declared.query.Param.{Param};
+ghost use Rattle.std.specs.Prelude.{◌≡◌, ◌∷◌, [], ◌≤◌, IfOk, length, map, option_to_list};
+ghost use Rattle.query_grammar.specs.Meaning.{quote_parts, quoted, word_parts};
+ghost use Rattle.query_parse.specs.Gives.{GivesClosed, GivesPart, GivesValue};
+ghost use Rattle.query_parse.specs.Steps.{single_of};
 ghost use Rattle.ft_base.specs.declared.query.Query.TheVariants as tree;
 ghost use Rattle.query_lex.specs.declared.lexeme.LexKind.TheVariants as kinds;
 ghost use Rattle.token_text.specs.Tokens.{is_stop, lowered};
@@ -26,9 +21,7 @@ use token_text::{TextTokens, tokens};
 
 /// The union that a group holds, at its end.
 pub fn closed<'a>(sides: Vec<Query>, lexemes: &'a [Lexeme]) -> Read<'a, Option<Query>>
-    ensures read { (def : IndexDef) (params : List Param)
-        → Gives (λ x. (option_to_list x.0, x.1.now)) result
-        (closed_with def params (next_sign lexemes.now) sides.items lexemes.now) }
+    ensures read { GivesClosed sides.items lexemes.now result }
     ensures within { IfOk result (λ x. length x.1.now ≤ length lexemes.now) }
 {
     match next_sign(lexemes) {
@@ -44,13 +37,8 @@ pub fn single<'a>(
     lexeme: &Lexeme,
     rest: &'a [Lexeme],
 ) -> Read<'a, Option<Query>>
-    ensures read { Gives (λ x. (option_to_list x.0, x.1.now)) result
-        (unless (faults_at parser.now.params lexeme.now) rest.now
-        (Ok (
-          atom_parts parser.now.def.now.stops.words parser.now.params
-              fields.now lexeme.now.kind,
-          rest.now,
-        ))) }
+    ensures read { GivesPart result
+        (single_of parser.now.def.now parser.now.params fields.now lexeme.now rest.now) }
     ensures rest { IfOk result (λ x. x.1.now ≡ rest.now) }
 {
     match &lexeme.kind {
@@ -75,13 +63,9 @@ fn word_param<'a>(
     at: usize,
     rest: &'a [Lexeme],
 ) -> Read<'a, Option<Query>>
-    ensures read { Gives (λ x. (option_to_list x.0, x.1.now)) result
-        (unless (faults_at parser.now.params (record { at = at; kind = kinds.Param name.now })) rest.now
-        (Ok (
-          atom_parts parser.now.def.now.stops.words parser.now.params
-              fields.now (kinds.Param name.now),
-          rest.now,
-        ))) }
+    ensures read { GivesPart result
+        (single_of parser.now.def.now parser.now.params fields.now
+        (record { at = at; kind = kinds.Param name.now }) rest.now) }
     ensures rest { IfOk result (λ x. x.1.now ≡ rest.now) }
 {
     let value = param_at(&parser.params, name, at, rest)?;
@@ -96,13 +80,9 @@ fn prefix_param<'a>(
     at: usize,
     rest: &'a [Lexeme],
 ) -> Read<'a, Option<Query>>
-    ensures read { Gives (λ x. (option_to_list x.0, x.1.now)) result
-        (unless (faults_at parser.now.params (record { at = at; kind = kinds.ParamPrefix name.now })) rest.now
-        (Ok (
-          atom_parts parser.now.def.now.stops.words parser.now.params
-              fields.now (kinds.ParamPrefix name.now),
-          rest.now,
-        ))) }
+    ensures read { GivesPart result
+        (single_of parser.now.def.now parser.now.params fields.now
+        (record { at = at; kind = kinds.ParamPrefix name.now }) rest.now) }
     ensures rest { IfOk result (λ x. x.1.now ≡ rest.now) }
 {
     let value = param_at(&parser.params, name, at, rest)?;
@@ -116,9 +96,7 @@ fn param_at<'p, 'a>(
     at: usize,
     rest: &'a [Lexeme],
 ) -> Result<&'p [u8], Stop<'a>>
-    ensures ok { IfOk result (λ value. param_of params.now name.now ≡ Some value.now) }
-    ensures err { IfErr result (λ stop. (param_of params.now name.now ≡ None)
-        × IsFound stop (NoParam at) rest.now) }
+    ensures { GivesValue params.now name.now at rest.now result }
 {
     match params.get(name) {
         Some(value) => Ok(value),

@@ -1,14 +1,11 @@
 //! What attributes make of the part before them, and their faults.
-ghost use Rattle.std.specs.Prelude.{◌≡◌, ◌≤◌, ℕ, Bool, List, IfErr, IfOk, length, option_map, option_to_list};
-ghost use Rattle.std.specs.List.{flat_map};
-ghost use Rattle.query_lex.specs.declared.lexeme.Lexeme.{Lexeme};
+ghost use Rattle.std.specs.Prelude.{◌≡◌, ◌≤◌, IfErr, IfOk, length, option_map, option_to_list, flat_map};
 ghost use Rattle.query_grammar.specs.Faults.{attribute_faults, has_no_order, pair_faults};
 ghost use Rattle.query_grammar.specs.Meaning.{asks_order, attribute_of, attributed, order_in, slop_in};
-ghost use Rattle.ft_base.specs.declared.query.Query.{Query};
-ghost use Rattle.query_grammar.specs.Reading.{Closed, behind_arrow, behind_atom, broken_by, next_sign, with_block};
-ghost use Rattle.query_parse.specs.Blocks.{block_of, rest_of};
+ghost use Rattle.query_grammar.specs.Reading.{Closed, behind_atom, broken_by, next_sign, with_block};
+ghost use Rattle.query_parse.specs.Blocks.{IsBehindArrow, StopsBehindArrow, block_of, rest_of};
 ghost use Rattle.query_parse.specs.Faults.{first};
-ghost use Rattle.query_parse.specs.Gives.{Gives, Stops};
+ghost use Rattle.query_parse.specs.Gives.{GivesPart};
 ghost use Rattle.query_parse.specs.Seen.{pair_of, pairs_of};
 
 use crate::blocks::{Block, Pair, pairs};
@@ -30,7 +27,7 @@ pub fn attributed<'a>(
     part: Option<Query>,
     lexemes: &'a [Lexeme],
 ) -> Read<'a, Option<Query>>
-    ensures read { Gives (λ x. (option_to_list x.0, x.1.now)) result
+    ensures read { GivesPart result
         (behind_atom parser.now.def.now parser.now.params is_quote
         (option_to_list part) (next_sign lexemes.now) lexemes.now) }
     ensures within { IfOk result (λ x. length x.1.now ≤ length lexemes.now) }
@@ -49,14 +46,10 @@ pub fn attributed<'a>(
 
 /// The attributes in braces that stand behind an arrow.
 fn block_at<'a>(parser: &Parser<'_>, lexemes: &'a [Lexeme]) -> Result<Block<'a>, Stop<'a>>
-    ensures read { IfOk result (λ block. (at : ℕ) (is_quote : Bool) (parts : List Query)
-        → behind_arrow parser.now.def.now parser.now.params at is_quote parts
-        (next_sign lexemes.now) lexemes.now
-        ≡ with_block parser.now.def.now parser.now.params at is_quote parts
-        (block_of parser.now.def.now parser.now.params block)) }
-    ensures stops { IfErr result (λ stop. (at : ℕ) (is_quote : Bool) (parts : List Query)
-        → Stops stop (behind_arrow parser.now.def.now parser.now.params at is_quote parts
-        (next_sign lexemes.now) lexemes.now)) }
+    ensures read { IfOk result
+        (IsBehindArrow parser.now.def.now parser.now.params lexemes.now) }
+    ensures stops { IfErr result
+        (StopsBehindArrow parser.now.def.now parser.now.params lexemes.now) }
     ensures within { IfOk result (λ block. length (rest_of block) ≤ length lexemes.now) }
 {
     let Some(Sign::AttrOpen) = next_sign(lexemes) else {
@@ -73,7 +66,7 @@ fn with_block<'a>(
     part: Option<Query>,
     block: Block<'a>,
 ) -> Read<'a, Option<Query>>
-    ensures read { Gives (λ x. (option_to_list x.0, x.1.now)) result
+    ensures read { GivesPart result
         (with_block parser.now.def.now parser.now.params at is_quote (option_to_list part)
         (block_of parser.now.def.now parser.now.params block.entry)) }
     ensures rest { IfOk result (λ x. x.1.now ≡ rest_of block.entry) }
@@ -101,7 +94,7 @@ fn with_pairs<'a>(
     pairs: &[Pair<'_>],
     rest: &'a [Lexeme],
 ) -> Read<'a, Option<Query>>
-    ensures read { Gives (λ x. (option_to_list x.0, x.1.now)) result
+    ensures read { GivesPart result
         (with_block parser.now.def.now parser.now.params at is_quote (option_to_list part)
         (Closed (pairs_of pairs.now) rest.now)) }
     ensures rest { IfOk result (λ x. x.1.now ≡ rest.now) }
@@ -124,7 +117,7 @@ fn behind_pairs<'a>(
     pairs: &[Pair<'_>],
     rest: &'a [Lexeme],
 ) -> Read<'a, Option<Query>>
-    ensures read { Gives {A = List Query × List Lexeme} (λ x. (option_to_list x.0, x.1.now)) result
+    ensures read { GivesPart result
         (Err (broken_by parser.now.def.now parser.now.params
         (attribute_faults parser.now.params at (pairs_of pairs.now) (option_to_list part)) rest.now)) }
     ensures rest { IfOk result (λ x. x.1.now ≡ rest.now) }

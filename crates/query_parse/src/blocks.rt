@@ -1,13 +1,7 @@
 //! Attributes in their braces, up to the closing one or to where the grammar goes no further.
-ghost use Rattle.std.specs.Prelude.{◌≡◌, ◌++◌, ◌∷◌, ◌||◌, ◌≤◌, ℕ, [], IfOk, List, OnOk, length};
-ghost use Rattle.std.specs.Str.{bytes_eq};
-ghost use Rattle.ft_base.specs.declared.definition.IndexDef.{IndexDef};
-ghost use Rattle.ft_base.specs.declared.query.Param.{Param};
-ghost use Rattle.query_lex.specs.declared.lexeme.Lexeme.{Lexeme};
-ghost use Rattle.query_grammar.specs.Form as form;
-ghost use Rattle.query_grammar.specs.Reading as reading;
-ghost use Rattle.query_grammar.specs.Reading.{behind_name, names_of, next_sign, pair_with, pairs_at};
-ghost use Rattle.query_parse.specs.Blocks.{IsShorter, IsWithin, and_one, block_of, rest_of, stepped};
+ghost use Rattle.std.specs.Prelude.{◌≡◌, ◌++◌, ◌∷◌, ◌||◌, ◌≤◌, ℕ, [], IfOk, List, OnOk, length, bytes_eq};
+ghost use Rattle.query_grammar.specs.Reading.{pairs_at};
+ghost use Rattle.query_parse.specs.Blocks.{IsBehindName, IsClosed, IsNext, IsOpen, IsShorter, IsWithin, and_one, block_of, rest_of};
 ghost use Rattle.query_parse.specs.NameKeys.{HasNames, holds};
 ghost use Rattle.query_parse.specs.Seen.{pairs_of};
 
@@ -105,8 +99,7 @@ fn closed<'a>(
     last: Option<Pair<'a>>,
     rest: &'a [Lexeme],
 ) -> Result<Block<'a>, NoMemory>
-    ensures read { IfOk result (λ block. (def : IndexDef) (params : List Param)
-        → block_of def params block ≡ reading.Closed (and_one (pairs_of pairs.entry.items) last.entry) rest.now) }
+    ensures read { IfOk result (IsClosed pairs.entry.items last.entry rest.now) }
     ensures rest { IfOk result (λ block. rest_of block ≡ rest.now) }
 {
     Ok(Block::Closed(and_one(pairs, last)?, rest))
@@ -117,8 +110,7 @@ fn open<'a>(
     last: Option<Pair<'a>>,
     rest: &'a [Lexeme],
 ) -> Result<Block<'a>, NoMemory>
-    ensures read { IfOk result (λ block. (def : IndexDef) (params : List Param)
-        → block_of def params block ≡ reading.Open (and_one (pairs_of pairs.entry.items) last.entry) rest.now) }
+    ensures read { IfOk result (IsOpen pairs.entry.items last.entry rest.now) }
     ensures rest { IfOk result (λ block. rest_of block ≡ rest.now) }
 {
     Ok(Block::Open(and_one(pairs, last)?, rest))
@@ -137,11 +129,7 @@ fn and_one<'a>(pairs: Vec<Pair<'a>>, pair: Option<Pair<'a>>) -> Result<Vec<Pair<
 
 /// What stands next, behind attributes of these names.
 fn next_step<'a>(params: &Params<'_>, names: &NameSet, lexemes: &'a [Lexeme]) -> Step<'a>
-    ensures read { (def : IndexDef)
-        (others : List form.Pair → List Lexeme → reading.Block def params.now)
-        (before : List form.Pair) → HasNames names.now (names_of def params.now before)
-        → stepped def params.now others before result
-        ≡ pair_with def params.now others before (next_sign lexemes.now) lexemes.now }
+    ensures read { IsNext params.now names.now lexemes.now result }
     ensures shorter { IsShorter result lexemes.now }
 {
     let [first, ..] = lexemes else {
@@ -162,12 +150,7 @@ fn next_step<'a>(params: &Params<'_>, names: &NameSet, lexemes: &'a [Lexeme]) ->
 
 /// What stands behind the name of an attribute.
 fn named<'a>(params: &Params<'_>, at: usize, name: &'a [u8], lexemes: &'a [Lexeme]) -> Step<'a>
-    ensures read { (def : IndexDef)
-        (others : List form.Pair → List Lexeme → reading.Block def params.now)
-        (before : List form.Pair)
-        → stepped def params.now others before result
-        ≡ behind_name def params.now others before at name.now
-        (next_sign lexemes.now) lexemes.now }
+    ensures read { IsBehindName params.now at name.now lexemes.now result }
     ensures shorter { IsWithin result lexemes.now }
 {
     let Some(Sign::Colon) = next_sign(lexemes) else {

@@ -1,10 +1,10 @@
 //! All that may hold one another: unions, the parts side by side in them, the signs before these,
 //! groups and fields.
-ghost use Rattle.std.specs.Prelude.{◌≡◌, ◌≤◌, ◌<◌, length, option_to_list, IfOk};
+ghost use Rattle.std.specs.Prelude.{◌≡◌, ◌≤◌, ◌<◌, length, IfOk};
 ghost use Rattle.query_grammar.specs.Grammar.{Atom, Inter, Part, Unary, Union};
 ghost use Rattle.query_grammar.specs.Meaning.{denied, optional};
 ghost use Rattle.query_grammar.specs.Reading.{deeper, field_at, group_at, next_sign, part_target, signed_at, target_with};
-ghost use Rattle.query_parse.specs.Gives.{Gives};
+ghost use Rattle.query_parse.specs.Gives.{Gives, GivesPart};
 ghost use Rattle.query_parse.specs.Reads.{reads, reads_inside};
 
 use crate::atoms::{closed, single};
@@ -101,7 +101,7 @@ fn unary<'a>(
     levels: u32,
     lexemes: &'a [Lexeme],
 ) -> Read<'a, Option<Query>>
-    ensures read { Gives (λ x. (option_to_list x.0, x.1.now)) result
+    ensures read { GivesPart result
         (reads parser.now.def.now parser.now.params fields.now levels Unary lexemes.now) }
     ensures shorter { IfOk result (λ x. length x.1.now < length lexemes.now) }
 {
@@ -138,7 +138,7 @@ fn denied_part<'a>(
     at: usize,
     lexemes: &'a [Lexeme],
 ) -> Read<'a, Option<Query>>
-    ensures read { Gives (λ x. (option_to_list x.0, x.1.now)) result
+    ensures read { GivesPart result
         (signed_at parser.now.def.now parser.now.params denied
         (deeper parser.now.def.now parser.now.params levels) fields.now at lexemes.now) }
     ensures within { IfOk result (λ x. length x.1.now ≤ length lexemes.now) }
@@ -159,7 +159,7 @@ fn optional_part<'a>(
     at: usize,
     lexemes: &'a [Lexeme],
 ) -> Read<'a, Option<Query>>
-    ensures read { Gives (λ x. (option_to_list x.0, x.1.now)) result
+    ensures read { GivesPart result
         (signed_at parser.now.def.now parser.now.params optional
         (deeper parser.now.def.now parser.now.params levels) fields.now at lexemes.now) }
     ensures within { IfOk result (λ x. length x.1.now ≤ length lexemes.now) }
@@ -180,7 +180,7 @@ fn part<'a>(
     levels: u32,
     lexemes: &'a [Lexeme],
 ) -> Read<'a, Option<Query>>
-    ensures read { Gives (λ x. (option_to_list x.0, x.1.now)) result
+    ensures read { GivesPart result
         (reads parser.now.def.now parser.now.params fields.now levels Part lexemes.now) }
     ensures shorter { IfOk result (λ x. length x.1.now < length lexemes.now) }
 {
@@ -198,7 +198,7 @@ fn atom<'a>(
     levels: u32,
     lexemes: &'a [Lexeme],
 ) -> Read<'a, Option<Query>>
-    ensures read { Gives (λ x. (option_to_list x.0, x.1.now)) result
+    ensures read { GivesPart result
         (reads parser.now.def.now parser.now.params fields.now levels Atom lexemes.now) }
     ensures shorter { IfOk result (λ x. length x.1.now < length lexemes.now) }
 {
@@ -226,7 +226,7 @@ fn group<'a>(
     at: usize,
     lexemes: &'a [Lexeme],
 ) -> Read<'a, Option<Query>>
-    ensures read { Gives (λ x. (option_to_list x.0, x.1.now)) result
+    ensures read { GivesPart result
         (group_at parser.now.def.now parser.now.params
         (deeper parser.now.def.now parser.now.params levels) fields.now at lexemes.now) }
     ensures within { IfOk result (λ x. length x.1.now ≤ length lexemes.now) }
@@ -248,7 +248,7 @@ fn inside<'a>(
     levels: u32,
     lexemes: &'a [Lexeme],
 ) -> Read<'a, Option<Query>>
-    ensures read { Gives (λ x. (option_to_list x.0, x.1.now)) result
+    ensures read { GivesPart result
         (reads_inside parser.now.def.now parser.now.params fields.now levels lexemes.now) }
     ensures within { IfOk result (λ x. length x.1.now ≤ length lexemes.now) }
 {
@@ -264,7 +264,7 @@ fn field<'a>(
     at: usize,
     lexemes: &'a [Lexeme],
 ) -> Read<'a, Option<Query>>
-    ensures read { Gives (λ x. (option_to_list x.0, x.1.now)) result
+    ensures read { GivesPart result
         (field_at parser.now.def.now parser.now.params
         (deeper parser.now.def.now parser.now.params levels) at lexemes.now) }
     ensures within { IfOk result (λ x. length x.1.now ≤ length lexemes.now) }
@@ -287,7 +287,7 @@ fn target<'a>(
     numbers: Vec<u16>,
     lexemes: &'a [Lexeme],
 ) -> Read<'a, Option<Query>>
-    ensures read { Gives (λ x. (option_to_list x.0, x.1.now)) result
+    ensures read { GivesPart result
         (target_with parser.now.def.now parser.now.params
         (λ fields sort. reads parser.now.def.now parser.now.params fields levels sort)
         numbers.items (next_sign lexemes.now) lexemes.now) }
@@ -308,7 +308,7 @@ fn part_target<'a>(
     numbers: Vec<u16>,
     lexemes: &'a [Lexeme],
 ) -> Read<'a, Option<Query>>
-    ensures read { Gives (λ x. (option_to_list x.0, x.1.now)) result
+    ensures read { GivesPart result
         (part_target parser.now.def.now parser.now.params
         (λ fields sort. reads parser.now.def.now parser.now.params fields levels sort)
         numbers.items lexemes.now) }

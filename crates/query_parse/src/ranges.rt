@@ -1,10 +1,10 @@
 //! Ranges of numbers in their brackets.
-ghost use Rattle.std.specs.Prelude.{◌≡◌, ◌<◌, ◌≤◌, IfNone, IfOk, IfSome, length, negsuc, option_to_list, pos};
+ghost use Rattle.std.specs.Prelude.{◌≡◌, ◌<◌, ◌≤◌, IfNone, IfOk, IfSome, length, negsuc, pos};
 ghost use Rattle.ft_base.specs.declared.definition.IndexDef.{IndexDef};
 ghost use Rattle.query_grammar.specs.Grammar.{is_edge};
 ghost use Rattle.query_grammar.specs.Meaning.{edge_bound, range_high, range_low};
 ghost use Rattle.query_grammar.specs.Reading.{edge_at, range_at, range_by, range_target, value_at};
-ghost use Rattle.query_parse.specs.Gives.{Gives};
+ghost use Rattle.query_parse.specs.Gives.{Gives, GivesPart};
 ghost use Rattle.query_parse.specs.Seen.{edge_of};
 
 use crate::fields::{Needed, has_other};
@@ -31,7 +31,7 @@ pub fn range_target<'a>(
     numbers: &[u16],
     lexemes: &'a [Lexeme],
 ) -> Read<'a, Option<Query>>
-    ensures read { Gives (λ x. (option_to_list x.0, x.1.now)) result
+    ensures read { GivesPart result
         (range_target parser.now.def.now parser.now.params numbers.now lexemes.now) }
     ensures within { IfOk result (λ x. length x.1.now ≤ length lexemes.now) }
 {
@@ -50,7 +50,7 @@ pub fn range_target<'a>(
 /// A range of a field, behind its opening bracket.
 #[tactic(auto, unfolding(query_grammar::specs::Reading::range_at))]
 fn range<'a>(parser: &Parser<'_>, field: u16, lexemes: &'a [Lexeme]) -> Read<'a, Option<Query>>
-    ensures read { Gives (λ x. (option_to_list x.0, x.1.now)) result
+    ensures read { GivesPart result
         (range_at parser.now.def.now parser.now.params field lexemes.now) }
     ensures within { IfOk result (λ x. length x.1.now ≤ length lexemes.now) }
 {

@@ -1,8 +1,7 @@
 //! Why reading stops.
 ghost use Rattle.std.specs.Prelude.{◌≡◌, List, IfOk, option_to_list};
 ghost use Rattle.ft_base.specs.declared.query.Query.{Query};
-ghost use Rattle.query_lex.specs.declared.lexeme.Lexeme.{Lexeme};
-ghost use Rattle.query_parse.specs.Gives.{Gives};
+ghost use Rattle.query_parse.specs.Gives.{GivesPart};
 ghost use Rattle.query_parse.specs.declared.stop.Stop.TheVariants as stops;
 
 use ft_base::{NoMemory, Query};
@@ -46,8 +45,7 @@ pub fn followed<'a>(
     rest: &'a [Lexeme],
 ) -> Read<'a, Option<Query>>
     ensures read { (parts : List Query) → IfOk part (λ left. option_to_list left ≡ parts)
-        → Gives {A = List Query × List Lexeme} (λ x. (option_to_list x.0, x.1.now)) result
-        (Ok (parts, rest.now)) }
+        → GivesPart result (Ok (parts, rest.now)) }
     ensures rest { IfOk result (λ x. x.1.now ≡ rest.now) }
 {
     Ok((part?, rest))

@@ -1,8 +1,8 @@
 //! Tags in their braces.
-ghost use Rattle.std.specs.Prelude.{◌≡◌, ◌<◌, ◌≤◌, [], IfOk, length, option_to_list, slice_get};
+ghost use Rattle.std.specs.Prelude.{◌≡◌, ◌<◌, ◌≤◌, [], IfOk, length, slice_get};
 ghost use Rattle.query_grammar.specs.Meaning.{case_of, tag_text};
 ghost use Rattle.query_grammar.specs.Reading.{tags_at, tags_target};
-ghost use Rattle.query_parse.specs.Gives.{Gives};
+ghost use Rattle.query_parse.specs.Gives.{Gives, GivesPart};
 ghost use Rattle.query_parse.specs.Steps.{tag_at};
 
 use crate::fields::{Needed, has_other};
@@ -20,7 +20,7 @@ pub fn tags_target<'a>(
     numbers: &[u16],
     lexemes: &'a [Lexeme],
 ) -> Read<'a, Option<Query>>
-    ensures read { Gives (λ x. (option_to_list x.0, x.1.now)) result
+    ensures read { GivesPart result
         (tags_target parser.now.def.now parser.now.params numbers.now lexemes.now) }
     ensures within { IfOk result (λ x. length x.1.now ≤ length lexemes.now) }
 {

@@ -7,6 +7,7 @@ pub mod FieldLaws
 pub mod PrefixLaws
 pub mod TagLaws
 pub mod RangeLaws
+pub mod AskedLaws
 pub mod MeetLaws
 pub mod NameLaws
 pub mod KnownLaws

@@ -1,6 +1,6 @@
 -- What lists have at the id of a document is what the document has.
 use Rattle.std.proofs.Common.{◌≡◌, ◌≢◌, ℕ, ℤ, ◌<◌, ◌≤◌, ◌^◌, Bool, true, false, ◌&&◌, List, [], ◌∷◌, map, Option, Some, None, refl, sym, ap, ◌∙◌, subst, inl, inr, arith}
-use Rattle.std.specs.Prelude.{is_some, int_le, negsuc}
+use Rattle.std.specs.Prelude.{is_some, int_le, negsuc, pos}
 use Rattle.std.specs.List.{flat_map, list_any, slice_get}
 use Rattle.std.specs.Str.{bytes_eq}
 use Rattle.std.proofs.lemmas.Bool.{cases_Bool, false≢true}
@@ -24,6 +24,7 @@ use Rattle.numeric_ranges.specs.Ranges.{Rows, list_at}
 use Rattle.phrase_match.specs.Phrase.{has, rises}
 use Rattle.posting_block.specs.declared.hits.NumHit.{NumHit}
 use Rattle.term_dict.specs.Tags.{tags_of}
+use Rattle.query_plan.specs.Asked.{asked_of_each}
 use Rattle.query_plan.specs.Finds.{AreOf, finds}
 use Rattle.query_plan.specs.Plans.{IsIn, Tells}
 use Rattle.query_plan.specs.Sought.{all_sought, section_of, words_with}
@@ -32,7 +33,8 @@ use Rattle.query_plan.proofs.CodeLaws.{codes_rise, codes_apart}
 use Rattle.query_plan.proofs.EntryLaws as entry
 use Rattle.query_plan.proofs.FieldLaws.{phrase_in, word_in}
 use Rattle.query_plan.proofs.PrefixLaws.{any_flat, begins_among, listed}
-use Rattle.query_plan.proofs.RangeLaws.{nothing_of, number_in, ranges_have, section_map, unranged}
+use Rattle.query_plan.proofs.AskedLaws.{asked_any}
+use Rattle.query_plan.proofs.RangeLaws.{nothing_of, number_in, ranges_have, row_here, unranged}
 use Rattle.query_plan.proofs.TagLaws.{tags_are}
 use Rattle.query_plan.proofs.WordLaws as word
 use Rattle.token_text.specs.declared.token.Token.{Token}
@@ -105,21 +107,20 @@ module _ (def : IndexDef) (held : Held) (named : Named) (docs : List Doc) (are :
           (ap (λ (h : Held). is_some (h.tags field tag)) (sym are.same)
           ∙ has_list (λ hit. true) doc.id (held.tags field tag) (word.tag_at def held named docs are doc among field tag ∙ there))
 
-  pub range_meets : (field : ℕ) (low high : ℤ) (from to : ℕ) → int_le (negsuc 9223372036854775807) low ≡ true
+  pub range_meets : (field : ℕ) (low high : ℤ) (from to : ℕ) → int_le (negsuc 9223372036854775807) low ≡ true → int_le high (pos 9223372036854775807) ≡ true
       → ((place : ℕ) (number : ℤ) → int_le low number ≡ true → int_le number high ≡ true → lies_at (named.lows field) place number ≡ true → (from ≤ place) × (place < to))
-      → list_any (λ n. range_has low high (entries_of (held.ranges field n)) doc.id) (section_of (named.lows field) from to) ≡ (has_of def doc).range field low high
-  range_meets field low high from to bound met =
+      → list_any (λ (set : ℕ → Bool). set doc.id) (section_of (asked_of_each held field low high (named.lows field)) from to) ≡ (has_of def doc).range field low high
+  range_meets field low high from to bound top met =
       by_slot (rows_of are.lists.ranges field) (are.has.numbers field) (ap (λ (n : Named). n.lows field) are.names) (λ n. ap (λ (h : Held). h.ranges field n) are.same)
     where
       by_slot : (slot : Option Rows) → NumbersHave def are.live field docs slot → named.lows field ≡ lows_of slot → ((n : ℤ) → held.ranges field n ≡ list_from slot n)
-          → list_any (λ n. range_has low high (entries_of (held.ranges field n)) doc.id) (section_of (named.lows field) from to) ≡ (has_of def doc).range field low high
+          → list_any (λ (set : ℕ → Bool). set doc.id) (section_of (asked_of_each held field low high (named.lows field)) from to) ≡ (has_of def doc).range field low high
       by_slot None numbers lows ranges =
-          ap (λ (ls : List ℤ). list_any (λ n. range_has low high (entries_of (held.ranges field n)) doc.id) ls) (ap (λ (ls : List ℤ). section_of ls from to) lows ∙ nothing_of from to)
+          ap (list_any (λ (set : ℕ → Bool). set doc.id)) (ap (λ (ls : List ℤ). section_of (asked_of_each held field low high ls) from to) lows ∙ nothing_of from to)
           ∙ sym (unranged low high doc (slice_get def.fields field) numbers)
       by_slot (Some rows) numbers lows ranges =
-          ap (λ (ls : List ℤ). list_any (λ n. range_has low high (entries_of (held.ranges field n)) doc.id) ls)
-          (ap (λ (ls : List ℤ). section_of ls from to) lows ∙ section_map (λ (row : ℤ × Listing NumHit). row.0) rows from to)
-          ∙ any_map (λ n. range_has low high (entries_of (held.ranges field n)) doc.id) (λ (row : ℤ × Listing NumHit). row.0) (section_of rows from to)
+          ap (λ (ls : List ℤ). list_any (λ (set : ℕ → Bool). set doc.id) (section_of (asked_of_each held field low high ls) from to)) lows
+          ∙ asked_any held field low high bound top rows doc.id from to numbers.partition.lie (λ k row at. ranges row.0 ∙ row_here rows numbers.partition.lows k row at)
           ∙ any_cong _ (λ (row : ℤ × Listing NumHit). range_has low high (entries_of (list_at rows row.0)) doc.id) (section_of rows from to)
           (λ row. ap (λ (list : Option (Listing NumHit)). range_has low high (entries_of list) doc.id) (ranges row.0))
           ∙ ranges_have low high doc.id rows numbers.partition bound numbers.entries from to numbers.parted

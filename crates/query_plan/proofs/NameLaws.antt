@@ -1,8 +1,8 @@
--- Going from word to word of those that have lists, and from range to range.
-use Rattle.std.proofs.Common.{◌≡◌, ℕ, ℤ, zero, suc, ◌≤◌, ◌+◌, Bool, true, ◌&&◌, List, [], ◌∷◌, ◌++◌, append-nil, append_assoc, add-one, map, filter, find, Option, Some, None, refl, sym, ap, ◌∙◌, subst, inl, inr, arith}
+-- Going from word to word of those that have lists.
+use Rattle.std.proofs.Common.{◌≡◌, ℕ, Bool, true, ◌&&◌, List, [], ◌∷◌, ◌++◌, append-nil, append_assoc, map, filter, find, Option, Some, None, refl, sym, ap, ◌∙◌, subst, inl, inr}
 use Rattle.std.specs.Cmp.{tied_itself}
 use Rattle.std.specs.Cmp.Lexicographic.{nat_list_cmp_total}
-use Rattle.std.specs.List.{AllByRecursion, slice_get}
+use Rattle.std.specs.List.{AllByRecursion}
 use Rattle.std.specs.List.Sorted.{IsStrictlySortedBy}
 use Rattle.std.specs.Ordering.{is_lt, ordering_reverse}
 use Rattle.std.specs.declared.cmp.Ordering.{Ordering}
@@ -10,10 +10,8 @@ use Rattle.std.specs.declared.cmp.Ordering.TheVariants.{Less, Equal, Greater}
 use Rattle.std.proofs.lemmas.Bool.{cases_Bool, and_parts, and_right, false≢true}
 use Rattle.std.proofs.lemmas.Map.Keys.{sorted_head, sorted_tail}
 use Rattle.ft_meaning.specs.Holds.{begins}
-use Rattle.id_iters.specs.declared.list_name.ListName.{ListName}
-use Rattle.id_iters.specs.declared.list_name.ListName.TheVariants as names
 use Rattle.inverted_list.specs.Names.{NamesRise, is_after, next_name, word_cmp}
-use Rattle.query_plan.specs.Sought.{section_of, words_with}
+use Rattle.query_plan.specs.Sought.{words_with}
 
 -- ---- words
 
@@ -118,42 +116,3 @@ gathered_more name old new word left rest all before is more =
 
 pub gathered_all : {X Y : Type 0} (name : X → Y) (old : List Y) (left : List X) (all : List Y) → old ++ map name left ≡ all → left ≡ [] → old ≡ all
 gathered_all name old left all before none = sym (append-nil old) ∙ (ap (λ xs. old ++ map name xs) (sym none) ∙ before)
-
--- ---- ranges
-
-abbrev pub range_name : ℕ → ℤ → ListName
-range_name field low = names.Range field low
-
-pub lows_none : (lows : List ℤ) (at : ℕ) → section_of lows at at ≡ []
-lows_none [] zero = refl
-lows_none [] (suc at) = refl
-lows_none (low ∷ lows) zero = refl
-lows_none (low ∷ lows) (suc at) = lows_none lows at
-
-lows_further : (field : ℕ) (lows : List ℤ) (from at : ℕ) (low : ℤ) → from ≤ at → slice_get lows at ≡ Some low
-    → map (range_name field) (section_of lows from (suc at)) ≡ map (range_name field) (section_of lows from at) ++ names.Range field low ∷ []
-lows_further field [] from at low within is = absurd (cc (is))
-lows_further field (n ∷ lows) zero zero low within is =
-    let same : n ≡ low = cc (is) in
-    ap (λ (m : ℤ). names.Range field m ∷ []) same
-lows_further field (n ∷ lows) (suc from) zero low within is = absurd (omega (arith, within))
-lows_further field (n ∷ lows) zero (suc at) low within is =
-    ap (λ rest. range_name field n ∷ rest) (lows_further field lows zero at low (omega arith) is)
-lows_further field (n ∷ lows) (suc from) (suc at) low within is = lows_further field lows from at low (omega (arith, within)) is
-
-pub lows_more : (field : ℕ) (lows : List ℤ) (from at : ℕ) (low : ℤ) → from ≤ at → slice_get lows at ≡ Some low
-    → map (range_name field) (section_of lows from (at + 1)) ≡ map (range_name field) (section_of lows from at) ++ names.Range field low ∷ []
-lows_more field lows from at low within is = rw add-one (lows_further field lows from at low within is)
-
-lows_over : (lows : List ℤ) (from at : ℕ) → slice_get lows at ≡ None → section_of lows from (suc at) ≡ section_of lows from at
-lows_over [] zero zero none = refl
-lows_over [] zero (suc at) none = refl
-lows_over [] (suc from) zero none = refl
-lows_over [] (suc from) (suc at) none = refl
-lows_over (low ∷ lows) from zero none = absurd (cc (none))
-lows_over (low ∷ lows) zero (suc at) none = ap (λ rest. low ∷ rest) (lows_over lows zero at none)
-lows_over (low ∷ lows) (suc from) (suc at) none = lows_over lows from at none
-
--- behind the last range there is none
-pub lows_ended : (lows : List ℤ) (from at : ℕ) → slice_get lows at ≡ None → section_of lows from (at + 1) ≡ section_of lows from at
-lows_ended lows from at none = rw add-one (lows_over lows from at none)

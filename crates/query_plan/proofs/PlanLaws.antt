@@ -1,6 +1,6 @@
 -- What the sets of a query's parts tell of documents.
 use Rattle.std.proofs.Common.{◌≡◌, ℕ, ℤ, ◌<◌, ◌≤◌, Bool, true, false, not, ◌&&◌, List, [], ◌∷◌, ◌++◌, map, length, Option, Some, None, refl, sym, ap, ◌∙◌, subst, arith}
-use Rattle.std.specs.Prelude.{IfOk, Result, int_le, negsuc}
+use Rattle.std.specs.Prelude.{IfOk, Result, int_le, negsuc, pos}
 use Rattle.std.specs.List.{list_all, list_any}
 use Rattle.std.proofs.Math.Bool.{and-true, or-false}
 use Rattle.std.proofs.lemmas.Bool.{le-leb}
@@ -26,12 +26,13 @@ use Rattle.id_iters.specs.declared.list_name.ListName.{ListName}
 use Rattle.id_iters.specs.declared.list_name.ListName.TheVariants as names
 use Rattle.id_iters.specs.declared.phrase.PhraseIter.{PhraseIter}
 use Rattle.phrase_match.specs.Phrase.{within}
+use Rattle.query_plan.specs.Asked.{asked_of_each}
 use Rattle.query_plan.specs.Plans.{AllReady, AllTell, Joins, Tells, ids_of, some_has}
 use Rattle.query_plan.specs.Sought.{all_sought, section_of, words_with}
 use Rattle.query_plan.specs.declared.size.Planned.{Planned}
 use Rattle.query_plan.proofs.AnyLaws.{any_cong}
+use Rattle.query_plan.proofs.AskedLaws.{section_as}
 use Rattle.query_plan.proofs.MeetLaws.{phrase_meets, prefix_meets, range_meets, tags_meet, word_meets}
-use Rattle.query_plan.proofs.NameLaws.{range_name}
 
 module _ (def : IndexDef) (held : Held) (named : Named) where
   -- ---- parts that read lists
@@ -65,28 +66,25 @@ module _ (def : IndexDef) (held : Held) (named : Named) where
         ∙ tags_meet def held named docs are doc among field parts;
   }
 
-  pub range_tells : (field : ℕ) (low high : ℤ) (looked : Fields) (from to : ℕ) (found : List ListName) (ids : ℕ → Bool)
-      → ids ≡ some_has held found looked low high → found ≡ map (range_name field) (section_of (named.lows field) from to)
-      → int_le (negsuc 9223372036854775807) low ≡ true
+  pub range_tells : (field : ℕ) (low high : ℤ) (from to : ℕ) (ids : ℕ → Bool)
+      → ids ≡ (λ id. list_any (λ (set : ℕ → Bool). set id) (section_of (asked_of_each held field low high (named.lows field)) from to))
+      → int_le (negsuc 9223372036854775807) low ≡ true → int_le high (pos 9223372036854775807) ≡ true
       → ((place : ℕ) (number : ℤ) → int_le low number ≡ true → int_le number high ≡ true → lies_at (named.lows field) place number ≡ true → (from ≤ place) × (place < to))
       → Tells def held named (λ doc. (has_of def doc).range field low high) ids
-  range_tells field low high looked from to found ids same are_named bound met = record {
+  range_tells field low high from to ids same bound top met = record {
     at = λ docs doc are among.
-        ap (λ (set : ℕ → Bool). set doc.id) same
-        ∙ ap (λ ns. some_has held ns looked low high doc.id) are_named
-        ∙ any_map (λ name. list_has held name looked low high doc.id) (range_name field) (section_of (named.lows field) from to)
-        ∙ range_meets def held named docs are doc among field low high from to bound met;
+        ap (λ (set : ℕ → Bool). set doc.id) same ∙ range_meets def held named docs are doc among field low high from to bound top met;
   }
 
   -- the same where the ends are known by equations
-  pub range_tells_as : (field : ℕ) (low high l h : ℤ) (looked : Fields) (from to : ℕ) (found : List ListName) (ids : ℕ → Bool) → l ≡ low → h ≡ high
-      → ids ≡ some_has held found looked l h → found ≡ map (range_name field) (section_of (named.lows field) from to)
-      → int_le (negsuc 9223372036854775807) low ≡ true
+  pub range_tells_as : (field : ℕ) (low high l h : ℤ) (from to : ℕ) (ids : ℕ → Bool) → l ≡ low → h ≡ high
+      → ids ≡ (λ id. list_any (λ (set : ℕ → Bool). set id) (section_of (asked_of_each held field l h (named.lows field)) from to))
+      → int_le (negsuc 9223372036854775807) low ≡ true → int_le high (pos 9223372036854775807) ≡ true
       → ((place : ℕ) (number : ℤ) → int_le l number ≡ true → int_le number h ≡ true → lies_at (named.lows field) place number ≡ true → (from ≤ place) × (place < to))
       → Tells def held named (λ doc. (has_of def doc).range field low high) ids
-  range_tells_as field low high l h looked from to found ids is_low is_high same are_named bound met =
-      range_tells field low high looked from to found ids
-      (same ∙ ap (λ n. some_has held found looked n h) is_low ∙ ap (λ n. some_has held found looked low n) is_high) are_named bound
+  range_tells_as field low high l h from to ids is_low is_high same bound top met =
+      range_tells field low high from to ids
+      (same ∙ ap {B = ℕ → Bool} (λ (sets : List (ℕ → Bool)) id. list_any (λ (set : ℕ → Bool). set id) sets) (section_as held field low high (named.lows field) from to l h is_low is_high)) bound top
       (λ place number above below. met place number (ap (λ (n : ℤ). int_le n number) is_low ∙ above) (ap (int_le number) is_high ∙ below))
 
   pub phrase_tells : (phrase : PhraseIter) (looked : Fields) (words : List (List ℕ)) (slop : Option ℕ) (in_order : Bool) (ids : ℕ → Bool)

@@ -131,6 +131,13 @@ covered row (next ∷ rows) v from =
       | inr n ↦ or_right (ranges.lies_in row.0 (Some next.0) v) (rows_lie (next ∷ rows) v) (covered next rows v (le_from_not_lt v next.0 n))
     ]
 
+-- the list of a row that is there
+pub row_here : (rows : Rows) → LowsRise rows → (k : ℕ) (row : ℤ × Listing NumHit) → slice_get rows k ≡ Some row → list_at rows row.0 ≡ Some row.1
+row_here rows rise k row at =
+    let here : get_or rows k row ≡ row = get_or_from_slice_get rows k row row at in
+    list_here row.0 rows k row rise (slice_get_within rows k row at) (ap (λ (r : ℤ × Listing NumHit). r.0) here)
+    ∙ ap (λ (r : ℤ × Listing NumHit). Some r.1) here
+
 module _ (low high : ℤ) (id : ℕ) where
   -- the entries of a row that no number of the interval lies in have none of its numbers
   row_none : (row : ℤ × Listing NumHit) (next : Option ℤ) (es : Entries) → AllByRecursion (λ e. IsTrue (ranges.lies_in row.0 next e.1.value)) es
@@ -202,11 +209,7 @@ module _ (low high : ℤ) (id : ℕ) where
         ∙ rows_have es parts
       where
         own : (k : ℕ) (row : ℤ × Listing NumHit) → slice_get rows k ≡ Some row → range_has low high (entries_of (list_at rows row.0)) id ≡ range_has low high row.1.entries id
-        own k row at =
-            let here : get_or rows k row ≡ row = get_or_from_slice_get rows k row row at in
-            ap (λ (list : Option (Listing NumHit)). range_has low high (entries_of list) id)
-            (list_here row.0 rows k row partition.lows (slice_get_within rows k row at) (ap (λ (r : ℤ × Listing NumHit). r.0) here)
-            ∙ ap (λ (r : ℤ × Listing NumHit). Some r.1) here)
+        own k row at = ap (λ (list : Option (Listing NumHit)). range_has low high (entries_of list) id) (row_here rows partition.lows k row at)
 
         never : (k : ℕ) → (k < from) ⊎ (to ≤ k) → (from ≤ k) × (k < to) → ⊥
         never k (inl h) both = omega (arith, h, both.0)
@@ -216,3 +219,8 @@ module _ (low high : ℤ) (id : ℕ) where
 pub above_least : (n : ℤ) → SFits w64 n → int_le (negsuc 9223372036854775807) n ≡ true
 above_least (pos n) fits = refl
 above_least (negsuc n) fits = le-leb n 9223372036854775807 (omega (arith, fits.sfits))
+
+-- nor is one above the greatest
+pub below_greatest : (n : ℤ) → SFits w64 n → int_le n (pos 9223372036854775807) ≡ true
+below_greatest (pos n) fits = le-leb n 9223372036854775807 (omega (arith, fits.sfits))
+below_greatest (negsuc n) fits = refl

@@ -290,3 +290,8 @@ lists_set {X = X} held has names plans made joins same = λ i id. at id i
         ∙ sym (any_map (λ (set : ℕ → Bool). set id) (λ planned. ids_of held planned) plans)
         ∙ ap (list_any (λ (set : ℕ → Bool). set id)) same
         ∙ any_map (λ (set : ℕ → Bool). set id) has names
+
+-- and parts with the ids of sets what some set has
+pub sets_joined : (held : Held) (sets : List (ℕ → Bool)) (plans : List Planned) (made : Planned) → Joins plans (made ∷ [])
+    → map (λ planned. ids_of held planned) plans ≡ sets → ids_of held made ≡ (λ id. list_any (λ (set : ℕ → Bool). set id) sets)
+sets_joined held sets plans made joins same = lists_set held (λ (set : ℕ → Bool). set) sets plans made joins (same ∙ sym (map_same sets))

@@ -33,6 +33,14 @@ pub record Tells (def : IndexDef) (held : Held) (named : Named) (test : Doc → 
 abbrev pub ids_of : Held → Planned → ℕ → Bool
 ids_of held planned = (about held planned.iter).has
 
+-- the part has all ids or none, whatever lists there are
+abbrev pub HasAllIf : Bool → Planned → Type 0
+HasAllIf all planned = (held : Held) → ids_of held planned ≡ (λ id. all)
+
+-- it may be asked from any number on, whatever lists there are
+abbrev pub AlwaysReady : Planned → Type 0
+AlwaysReady planned = (held : Held) (from : ℕ) → Ready held planned.iter from
+
 -- the parts tell of queries, in their order
 pub record AllTell (def : IndexDef) (held : Held) (named : Named) (queries : List Query) (plans : List Planned) : Type 0 where
   pub at : (docs : List Doc) (doc : Doc) → AreOf def held named docs → IsIn doc docs
@@ -56,6 +64,10 @@ PartsOpen held after plans = AllByRecursion (λ (planned : Planned). AllOpen hel
 
 abbrev pub PartsKnown : (ListName → Option Place) → List Planned → Type 0
 PartsKnown known plans = AllByRecursion (λ (planned : Planned). AllKnown known (leaves_of planned.iter)) plans
+
+-- where a place is known in the list of each leaf of a part, one is known in those of other parts' leaves
+abbrev pub KnowsLeavesOf : List Planned → Planned → Type 0
+KnowsLeavesOf plans made = (known : ListName → Option Place) → AllKnown known (leaves_of made.iter) → PartsKnown known plans
 
 -- Parts are put together to others that have the same ids in all, may be asked where they could, and have the same leaves.
 pub record Joins (old new : List Planned) : Type 0 where

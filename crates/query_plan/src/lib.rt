@@ -5,6 +5,7 @@
 //! Read `specs/Finds.antt` first, then `planner.rt` and `query_tree.rt`.
 #![tactic(auto)]
 
+mod asked;
 mod known;
 mod leaves;
 mod phrases;

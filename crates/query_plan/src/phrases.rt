@@ -1,16 +1,12 @@
 //! Phrases as sets of ids.
-ghost use Rattle.std.specs.Prelude.{◌≡◌, ◌≤◌, ◌+◌, ◌∷◌, ◌++◌, [], ℕ, map, slice_get, IfOk, IsSome, OnOk};
-ghost use Rattle.std.specs.List.{list_any};
-ghost use Rattle.ft_meaning.specs.Holds.{has_of, named};
+ghost use Rattle.std.specs.Prelude.{◌≡◌, ◌≤◌, ◌+◌, [], IfOk, IsSome, OnOk};
 ghost use Rattle.ft_meaning.specs.Meaning.{has_words};
 ghost use Rattle.id_iters.specs.Fitting.{IsOpenAt, leaves_of};
-ghost use Rattle.id_iters.specs.Held.{Held};
-ghost use Rattle.id_iters.specs.Leaves.{list_names};
 ghost use Rattle.id_iters.specs.Places.{LeavesReady, WordReady};
 ghost use Rattle.id_iters.specs.Ready.{Ready};
 ghost use Rattle.query_plan.specs.Known.{KnownFit, place_of};
-ghost use Rattle.query_plan.specs.Plans.{AllKnown, AllOpen, Gains, Tells, ids_of};
-ghost use Rattle.query_plan.specs.Sought.{passes};
+ghost use Rattle.query_plan.specs.Phrases.{AreOfWords, has_phrase, has_words_at, is_searched, is_searched_at};
+ghost use Rattle.query_plan.specs.Plans.{AllKnown, AllOpen, AlwaysReady, Gains, HasAllIf, Tells, ids_of};
 
 use crate::leaves::{copy_of, leaf_of};
 use crate::size::{Planned, word_size};
@@ -38,7 +34,7 @@ pub fn plan_phrase<T: Lists, L: Ledger>(
     requires { KnownFit (T.held sources.now.lists.now) sources.now.after (place_of sources.now.known.now) }
     ensures set { IfOk result (λ planned.
         Tells sources.now.def.now (T.held sources.now.lists.now) (T.named sources.now.lists.now)
-        (λ doc. (has_of sources.now.def.now doc).phrase phrase.now.fields.now phrase.now.words.now phrase.now.slop phrase.now.in_order)
+        (has_phrase sources.now.def.now phrase.now.fields.now phrase.now.words.now phrase.now.slop phrase.now.in_order)
         (ids_of (T.held sources.now.lists.now) planned)) }
     ensures ready { IfOk result (λ planned.
         Ready (T.held sources.now.lists.now) planned.iter (sources.now.after + 1)) }
@@ -66,8 +62,7 @@ fn phrase_iter<T: Lists, L: Ledger>(
     steps: &mut Steps<L>,
 ) -> Result<PhraseIter, NoMemory>
     requires { KnownFit (T.held sources.now.lists.now) sources.now.after (place_of sources.now.known.now) }
-    ensures words { IfOk result (λ iter. list_names iter.words
-        ≡ map (λ word. ListName.Word word) phrase.now.words.now) }
+    ensures words { IfOk result (λ iter. AreOfWords phrase.now.words.now iter.words) }
     ensures fields { IfOk result (λ iter. iter.fields ≡ phrase.now.fields.now) }
     ensures slop { IfOk result (λ iter. iter.slop ≡ phrase.now.slop) }
     ensures in_order { IfOk result (λ iter. iter.in_order ≡ phrase.now.in_order) }
@@ -92,9 +87,8 @@ fn phrase_iter<T: Lists, L: Ledger>(
 
 // All ids where one of the fields is searched, and else none.
 fn plan_no_words(def: &IndexDef, fields: &Fields) -> Planned
-    ensures set { (held : Held) → ids_of held result
-        ≡ (λ id. list_any has_words (named def.now fields.now)) }
-    ensures ready { (held : Held) (from : ℕ) → Ready held result.iter from }
+    ensures set { HasAllIf (is_searched def.now fields.now) result }
+    ensures ready { AlwaysReady result }
     ensures leaves { leaves_of result.iter ≡ [] }
 {
     if is_searched(def, fields) {
@@ -106,7 +100,7 @@ fn plan_no_words(def: &IndexDef, fields: &Fields) -> Planned
 
 // Whether the words of one of the fields are found.
 fn is_searched(def: &IndexDef, fields: &Fields) -> bool
-    ensures { result ≡ list_any has_words (named def.now fields.now) }
+    ensures { result ≡ is_searched def.now fields.now }
 {
     match fields {
         Fields::All => def.fields.as_slice().iter().any(|field| has_words(field)),
@@ -115,13 +109,13 @@ fn is_searched(def: &IndexDef, fields: &Fields) -> bool
 }
 
 fn has_words_at(fields: &[Field], numbers: &[u16]) -> bool
-    ensures { result ≡ list_any (λ number. passes has_words (slice_get fields.now number)) numbers.now }
+    ensures { result ≡ has_words_at fields.now numbers.now }
 {
     numbers.iter().any(|number| is_searched_at(fields, *number))
 }
 
 fn is_searched_at(fields: &[Field], number: u16) -> bool
-    ensures { result ≡ passes has_words (slice_get fields.now number) }
+    ensures { result ≡ is_searched_at fields.now number }
 {
     match fields.get(usize::from(number)) {
         Some(field) => has_words(field),
@@ -151,8 +145,7 @@ fn phrase_leaves<T: Lists, L: Ledger>(
     steps: &mut Steps<L>,
 ) -> Result<ListOf<Leaf>, NoMemory>
     requires { KnownFit (T.held sources.now.lists.now) sources.now.after (place_of sources.now.known.now) }
-    ensures names { IfOk result (λ leaves.
-        list_names leaves ≡ map (λ word. ListName.Word word) phrase.now.words.now) }
+    ensures names { IfOk result (AreOfWords phrase.now.words.now) }
     ensures ready { IfOk result (λ leaves.
         LeavesReady (T.held sources.now.lists.now) leaves (sources.now.after + 1)) }
     ensures placed { IfOk result (λ leaves.
@@ -175,8 +168,7 @@ fn add_leaves<T: Lists, L: Ledger>(
 ) -> Result<(), NoMemory>
     requires known { KnownFit (T.held sources.now.lists.now) sources.now.after (place_of sources.now.known.now) }
     requires empty { leaves.old ≡ [] }
-    ensures names { OnOk result
-        (list_names leaves.new ≡ map (λ word. ListName.Word word) phrase.now.words.now) }
+    ensures names { OnOk result (AreOfWords phrase.now.words.now leaves.new) }
     ensures ready { OnOk result
         (LeavesReady (T.held sources.now.lists.now) leaves.new (sources.now.after + 1)) }
     ensures placed { OnOk result

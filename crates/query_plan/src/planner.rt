@@ -1,6 +1,5 @@
 //! The plan of a query over the lists of an index.
-ghost use Rattle.std.specs.Prelude.{◌≡◌, ◌≤◌, ◌+◌, ℕ, List, IfOk};
-ghost use Rattle.std.specs.List.{All};
+ghost use Rattle.std.specs.Prelude.{◌≡◌, ◌≤◌, ◌+◌, ℕ, List, IfOk, All};
 ghost use Rattle.ft_base.specs.declared.doc.Doc.{Doc};
 ghost use Rattle.id_iters.specs.Fitting.{HasFitting, IsPlaced, leaves_of};
 ghost use Rattle.id_iters.specs.Held.{AreLists};

@@ -1,21 +1,23 @@
 //! Intervals of numbers as sets of ids.
-ghost use Rattle.std.specs.Prelude.{◌≡◌, ◌≤◌, ◌+◌, map, IfOk};
+ghost use Rattle.std.specs.Prelude.{◌≡◌, ◌≤◌, ◌+◌, [], map, IfOk, OnOk};
 ghost use Rattle.ft_meaning.specs.Holds.{has_of};
 ghost use Rattle.id_iters.specs.Fitting.{leaves_of};
 ghost use Rattle.id_iters.specs.Ready.{Ready};
+ghost use Rattle.query_plan.specs.Asked.{asked_of_each};
 ghost use Rattle.query_plan.specs.Known.{KnownFit, place_of};
-ghost use Rattle.query_plan.specs.Plans.{AllKnown, AllOpen, Tells, ids_of};
+ghost use Rattle.query_plan.specs.Plans.{AllKnown, AllOpen, AllReady, PartsKnown, PartsOpen, Tells, ids_of};
 ghost use Rattle.query_plan.specs.Sought.{section_of};
 
-use crate::leaves::plan_lists;
-use crate::size::Planned;
-use crate::sources::{Sources, Wanted};
-use ft_base::{Fields, NoMemory, Span, Steps};
-use id_iters::{ListName, Lists};
-use std::alloc::Global;
+use crate::asked::plan_one_range;
+use crate::size::{Planned, add_planned};
+use crate::sources::Sources;
+use crate::union::some_of;
+use ft_base::{NoMemory, Span, Steps};
+use id_iters::Lists;
 use std::sync::ledger::Ledger;
 
-/// The documents whose number in a field lies between two ends, both included.
+/// The documents whose number in a field lies between two ends, both included. Of a range that lies whole between them no
+/// number is read.
 pub fn plan_range<T: Lists, L: Ledger>(
     sources: &Sources<T>,
     field: u16,
@@ -37,32 +39,43 @@ pub fn plan_range<T: Lists, L: Ledger>(
     ensures counts { steps.old ≤ steps.new }
 {
     let span = sources.lists.ranges_between(field, low, high);
-    let found = ranges_in(sources.alloc, sources.lists, field, span)?;
-    let wanted = Wanted {
-        fields: &Fields::All,
-        low,
-        high,
-    };
-    plan_lists(sources, found, &wanted, steps)
+    let mut plans = Vec::new(sources.alloc);
+    plan_each_range(sources, field, span, low, high, &mut plans, steps)?;
+    Ok(some_of(sources.alloc, plans)?)
 }
 
-// The lists of the ranges from one place on and before another one.
-fn ranges_in<T: Lists>(
-    alloc: Global,
-    lists: &T,
+// The ids of each range from one place on and before another one go into a vector that has none.
+fn plan_each_range<T: Lists, L: Ledger>(
+    sources: &Sources<T>,
     field: u16,
     span: Span,
-) -> Result<Vec<ListName>, NoMemory>
-    requires { span.from ≤ span.to }
-    ensures { IfOk result (λ found. found.items ≡ map (λ low. ListName.Range field low)
-        (section_of ((T.named lists.now).lows field) span.from span.to)) }
+    low: i64,
+    high: i64,
+    plans: &mut Vec<Planned>,
+    steps: &mut Steps<L>,
+) -> Result<(), NoMemory>
+    requires known { KnownFit (T.held sources.now.lists.now) sources.now.after (place_of sources.now.known.now) }
+    requires ordered { span.from ≤ span.to }
+    requires empty { plans.old.items ≡ [] }
+    ensures set { OnOk result (map (λ planned. ids_of (T.held sources.now.lists.now) planned) plans.new.items
+        ≡ section_of (asked_of_each (T.held sources.now.lists.now) field low high ((T.named sources.now.lists.now).lows field)) span.from span.to) }
+    ensures ready { OnOk result
+        (AllReady (T.held sources.now.lists.now) plans.new.items (sources.now.after + 1)) }
+    ensures placed { OnOk result
+        (PartsOpen (T.held sources.now.lists.now) sources.now.after plans.new.items) }
+    ensures free { OnOk result
+        (PartsKnown (place_of sources.now.known.now) plans.new.items → steps.new ≡ steps.old) }
+    ensures counts { steps.old ≤ steps.new }
 {
-    let mut found = Vec::new(alloc);
     'places: for place in span.from..span.to {
-        let Some(low) = lists.low_at(field, place) else {
+        let Some(least) = sources.lists.low_at(field, place) else {
             continue;
         };
-        found.push(ListName::Range { field, low })?;
+        let next = sources.lists.low_at(field, place + 1);
+        add_planned(
+            plans,
+            plan_one_range(sources, field, least, next, low, high, steps),
+        )?;
     }
-    Ok(found)
+    Ok(())
 }

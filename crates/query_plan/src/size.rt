@@ -1,10 +1,7 @@
 //! Planned parts, and how many ids each has at most.
-ghost use Rattle.std.specs.Prelude.{◌≡◌, [], true, false, ℕ, OnOk};
+ghost use Rattle.std.specs.Prelude.{◌≡◌, [], true, false, OnOk};
 ghost use Rattle.id_iters.specs.Fitting.{leaves_of};
-ghost use Rattle.id_iters.specs.Held.{Held};
-ghost use Rattle.id_iters.specs.Ready.{Ready};
-ghost use Rattle.id_iters.specs.Sets.{about};
-ghost use Rattle.query_plan.specs.Plans.{Gains};
+ghost use Rattle.query_plan.specs.Plans.{AlwaysReady, Gains, HasAllIf};
 
 use ft_base::NoMemory;
 use id_iters::{Iter, ListName, Lists};
@@ -19,8 +16,8 @@ pub struct Planned {
 impl Planned {
     /// No id.
     pub fn none() -> Planned
-        ensures set { (held : Held) → (about held result.iter).has ≡ (λ id. false) }
-        ensures ready { (held : Held) (from : ℕ) → Ready held result.iter from }
+        ensures set { HasAllIf false result }
+        ensures ready { AlwaysReady result }
         ensures leaves { leaves_of result.iter ≡ [] }
     {
         Planned {
@@ -31,8 +28,8 @@ impl Planned {
 
     /// All ids.
     pub fn all() -> Planned
-        ensures set { (held : Held) → (about held result.iter).has ≡ (λ id. true) }
-        ensures ready { (held : Held) (from : ℕ) → Ready held result.iter from }
+        ensures set { HasAllIf true result }
+        ensures ready { AlwaysReady result }
         ensures leaves { leaves_of result.iter ≡ [] }
     {
         Planned {

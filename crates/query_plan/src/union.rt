@@ -1,13 +1,11 @@
 //! Parts put together.
-ghost use Rattle.std.specs.Prelude.{◌≡◌, ◌≤◌, ◌+◌, ◌-◌, ◌*◌, ◌++◌, not, ℕ, [], ◌∷◌, length, IfOk, OnOk, Option};
+ghost use Rattle.std.specs.Prelude.{◌≡◌, ◌≤◌, ◌+◌, ◌-◌, ◌*◌, ◌++◌, not, ℕ, [], ◌∷◌, length, IfOk, OnOk};
 ghost use Rattle.std.specs.List.{list_all};
 ghost use Rattle.id_iters.specs.Fitting.{leaves_of};
 ghost use Rattle.id_iters.specs.Held.{Held};
 ghost use Rattle.id_iters.specs.Ready.{Ready};
-ghost use Rattle.id_iters.specs.declared.list_name.ListName.{ListName};
-ghost use Rattle.inverted_list.specs.declared.place.Place.{Place};
 ghost use Rattle.query_plan.specs.Groups.{Gathers};
-ghost use Rattle.query_plan.specs.Plans.{AllKnown, AllOpen, AllReady, Joins, PartsKnown, PartsOpen, ids_of};
+ghost use Rattle.query_plan.specs.Plans.{AllOpen, AllReady, Joins, KnowsLeavesOf, PartsOpen, ids_of};
 
 use crate::size::Planned;
 use ft_base::{ListOf, NoMemory};
@@ -94,8 +92,7 @@ pub fn every_of(alloc: Global, plans: Vec<Planned>) -> Result<Planned, NoMemory>
         → AllReady held plans.items from → Ready held made.iter from) }
     ensures placed { IfOk result (λ made. (held : Held) (after : ℕ)
         → PartsOpen held after plans.items → AllOpen held after (leaves_of made.iter)) }
-    ensures known { IfOk result (λ made. (known : ListName → Option Place)
-        → AllKnown known (leaves_of made.iter) → PartsKnown known plans.items) }
+    ensures known { IfOk result (KnowsLeavesOf plans.items) }
 {
     let mut ordered = plans;
     ordered.sort_by_key(|planned| planned.size)?;

@@ -1,18 +1,12 @@
 //! A buffer for one reply after another, which always has room for a short one.
-ghost use Rattle.reply_buffer.specs.declared.short_reply.TheConstants.{SHORT_REPLY};
-ghost use Rattle.std.specs.Prelude.{◌≡◌, ◌<◌, ◌≤◌, ◌+◌, ◌⊎◌, [], false, length, pos, true, vec_capacity, Option, is_some, IfOk, IsTrue};
-ghost use Rattle.cmd_parse.specs.declared.command.CmdFault.TheVariants.{Arity};
-ghost use Rattle.cmd_parse.specs.Refusals.{refusal};
+ghost use Rattle.std.specs.Prelude.{◌≡◌, ◌≤◌, ◌+◌, [], false, length, pos, true, vec_capacity, IfOk};
 ghost use Rattle.ft_base.specs.Memory.{out_of_memory};
-ghost use Rattle.ft_base.specs.Reply.{fits_wire, spelling};
-ghost use Rattle.ft_base.specs.declared.doc.Doc.{Doc};
-ghost use Rattle.ft_base.specs.declared.reply.Reply.TheVariants.{Bulk, Fault, Line, Number};
-ghost use Rattle.ft_machine.specs.Reads.{kind_of, one_if};
-ghost use Rattle.ft_machine.specs.Searching.{unknown_field};
+ghost use Rattle.ft_base.specs.Reply.{spelling};
+ghost use Rattle.ft_base.specs.declared.reply.Reply.TheVariants.{Fault, Number};
+ghost use Rattle.ft_machine.specs.Reads.{one_if};
 ghost use Rattle.ft_machine.specs.Step.{Told};
-ghost use Rattle.ft_schema.specs.Refusals.{schema_refusal};
-ghost use Rattle.query_grammar.specs.Refusals.{query_refusal};
-ghost use Rattle.reply_buffer.specs.Written.{IsWritten};
+ghost use Rattle.reply_buffer.specs.Refused.{HasShortName, field_refused, query_refused, refused, schema_refused};
+ghost use Rattle.reply_buffer.specs.Written.{CanBeWritten, HasRoom, IsEchoed, IsWritten, TellsKind};
 
 use crate::made_reply::{put_if_made, put_made};
 use crate::message::put_message;
@@ -34,15 +28,13 @@ pub struct ReplyBuffer {
 }
 
 impl Model for ReplyBuffer {
-    ghost use Rattle.std.specs.Prelude.{◌≤◌, vec_capacity};
-    ghost use Rattle.reply_buffer.specs.Written.{Written};
-    ghost use Rattle.reply_buffer.specs.declared.short_reply.TheConstants.{SHORT_REPLY};
+    ghost use Rattle.reply_buffer.specs.Written.{HasRoom, Written, written_in};
 
     ghost Value = { Written };
 
-    ghost view = { λ reply. record { bytes = reply.bytes.items; room = vec_capacity reply.bytes } };
+    ghost view = { λ reply. written_in reply.bytes };
 
-    ghost invariant = { λ reply. SHORT_REPLY ≤ vec_capacity reply.bytes };
+    ghost invariant = { λ reply. HasRoom reply.bytes };
 }
 
 impl ReplyBuffer {
@@ -57,7 +49,7 @@ impl ReplyBuffer {
 
     /// Over bytes that are lent until they are given back. It takes no memory.
     pub fn over(alloc: Global, bytes: &mut Vec<u8>) -> ReplyBuffer
-        requires { SHORT_REPLY ≤ vec_capacity bytes.old }
+        requires { HasRoom bytes.old }
         ensures bytes { result.bytes ≡ bytes.old.items }
         ensures room { result.room ≡ vec_capacity bytes.old }
     {
@@ -103,8 +95,8 @@ impl ReplyBuffer {
 
     /// Writes why the words of a command of this name ask nothing.
     pub fn set_refusal(&mut self, name: &[u8], fault: CmdFault)
-        requires { fault ≡ Arity → length name.now ≤ 12 }
-        ensures bytes { self.new.bytes ≡ spelling (Fault (refusal name.now fault)) }
+        requires { HasShortName name.now fault }
+        ensures bytes { self.new.bytes ≡ refused name.now fault }
         ensures room { self.old.room ≤ self.new.room }
     {
         self.bytes.clear();
@@ -113,7 +105,7 @@ impl ReplyBuffer {
 
     /// Writes why words are no schema.
     pub fn set_schema_refusal(&mut self, fault: SchemaFault)
-        ensures bytes { self.new.bytes ≡ spelling (Fault (schema_refusal fault)) }
+        ensures bytes { self.new.bytes ≡ schema_refused fault }
         ensures room { self.old.room ≤ self.new.room }
     {
         self.bytes.clear();
@@ -122,7 +114,7 @@ impl ReplyBuffer {
 
     /// Writes why a text is no query.
     pub fn set_query_refusal(&mut self, fault: QueryFault)
-        ensures bytes { self.new.bytes ≡ spelling (Fault (query_refusal fault)) }
+        ensures bytes { self.new.bytes ≡ query_refused fault }
         ensures room { self.old.room ≤ self.new.room }
     {
         self.bytes.clear();
@@ -131,14 +123,14 @@ impl ReplyBuffer {
 
     /// Writes that the name at a word is no field's of the index.
     pub fn set_unknown_field(&mut self, at: u32)
-        ensures bytes { self.new.bytes ≡ spelling (Fault (unknown_field at)) }
+        ensures bytes { self.new.bytes ≡ field_refused at }
         ensures room { self.old.room ≤ self.new.room }
     {
         self.bytes.clear();
         put_unknown_field(at, &mut self.bytes);
     }
 
-    /// Writes that memory was wanting.
+    /// Writes that memory ran out.
     pub fn set_no_memory(&mut self)
         ensures bytes { self.new.bytes ≡ spelling out_of_memory }
         ensures room { self.old.room ≤ self.new.room }
@@ -176,27 +168,25 @@ impl ReplyBuffer {
 
     /// Writes whether a key has a hash or nothing.
     pub fn set_kind(&mut self, there: bool)
-        ensures bytes { (doc : Option Doc) → there ≡ is_some doc
-            → self.new.bytes ≡ spelling (Line (kind_of doc)) }
+        ensures bytes { TellsKind there self.new.bytes }
         ensures room { self.old.room ≤ self.new.room }
     {
         self.bytes.clear();
         put_kind(there, &mut self.bytes);
     }
 
-    /// Writes a message as it is, or that memory was wanting.
+    /// Writes a message as it is, or that memory ran out.
     pub fn set_message(&mut self, alloc: Global, message: &[u8])
-        ensures bytes { (self.new.bytes ≡ spelling (Bulk message.now))
-            ⊎ (self.new.bytes ≡ spelling out_of_memory) }
+        ensures bytes { IsEchoed message.now self.new.bytes }
         ensures room { self.old.room ≤ self.new.room }
     {
         self.bytes.clear();
         put_message(alloc, message, &mut self.bytes);
     }
 
-    /// Writes what was made, or that memory was wanting.
+    /// Writes what was made, or that memory ran out.
     pub fn set_made(&mut self, made: Result<Reply, NoMemory>)
-        requires { IfOk made (λ reply. IsTrue (fits_wire reply)) }
+        requires { CanBeWritten made }
         ensures told { Told made self.new.bytes }
         ensures room { self.old.room ≤ self.new.room }
     {
@@ -206,7 +196,7 @@ impl ReplyBuffer {
 
     /// The same, and answers whether it was made and written.
     pub fn set_if_made(&mut self, made: Result<Reply, NoMemory>) -> bool
-        requires { IfOk made (λ reply. IsTrue (fits_wire reply)) }
+        requires { CanBeWritten made }
         ensures written { result ≡ true → IsWritten made self.new.bytes }
         ensures wanting { result ≡ false → self.new.bytes ≡ spelling out_of_memory }
         ensures room { self.old.room ≤ self.new.room }

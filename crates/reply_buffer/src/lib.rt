@@ -1,6 +1,6 @@
 //! The replies of commands, written to a buffer, most of them without memory.
 //!
-//! A buffer has room for 64 bytes at the least, which a number, a refusal or the text for want of memory always fits.
+//! A buffer has room for 64 bytes at the least, which a number, a refusal or the text for out of memory always fits.
 //! Read `buffer.rt` first, then `short_reply.rt`, `refusals.rt` for the texts of refusals and `made_reply.rt` for longer
 //! replies.
 #![tactic(auto)]

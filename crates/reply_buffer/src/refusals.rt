@@ -1,16 +1,13 @@
 //! Replies to words that ask nothing, and to queries that are none. They take no memory.
-ghost use Rattle.std.specs.Prelude.{◌≡◌, ◌≤◌, ◌+◌, ◌++◌, [], length, vec_capacity};
+ghost use Rattle.std.specs.Prelude.{◌≡◌, ◌≤◌, ◌+◌, ◌++◌, length, vec_capacity};
 ghost use Rattle.std.specs.Fmt.{decimal};
 ghost use Rattle.ft_base.specs.Reply.{spelling};
 ghost use Rattle.ft_base.specs.declared.reply.Reply.TheVariants.{Fault};
-ghost use Rattle.cmd_parse.specs.declared.command.CmdFault.TheVariants.{Arity};
-ghost use Rattle.cmd_parse.specs.Refusals.{refusal};
-ghost use Rattle.ft_machine.specs.Searching.{unknown_field};
-ghost use Rattle.ft_schema.specs.Refusals.{schema_refusal};
-ghost use Rattle.query_grammar.specs.Refusals.{query_refusal};
+ghost use Rattle.reply_buffer.specs.Refused.{HasShortName, field_refused, query_refused, refused, schema_refused, wrong_number};
+ghost use Rattle.reply_buffer.specs.Written.{IsCleared};
 ghost use Rattle.token_text.specs.Tokens.{lowered};
 
-use crate::short_reply::{SHORT_REPLY, put_fault, put_no_memory, put_short};
+use crate::short_reply::{put_fault, put_no_memory, put_short};
 use cmd_parse::CmdFault;
 use ft_schema::SchemaFault;
 use itoa::Buffer;
@@ -18,10 +15,9 @@ use query_grammar::QueryFault;
 
 /// Writes why the words of a command of this name ask nothing.
 pub fn put_refusal(name: &[u8], fault: CmdFault, out: &mut Vec<u8>)
-    requires name { fault ≡ Arity → length name.now ≤ 12 }
-    requires empty { out.old.items ≡ [] }
-    requires room { SHORT_REPLY ≤ vec_capacity out.old }
-    ensures fault { out.new.items ≡ spelling (Fault (refusal name.now fault)) }
+    requires name { HasShortName name.now fault }
+    requires cleared { IsCleared out.old }
+    ensures fault { out.new.items ≡ refused name.now fault }
     ensures room { vec_capacity out.old ≤ vec_capacity out.new }
 {
     match fault {
@@ -41,9 +37,8 @@ pub fn put_refusal(name: &[u8], fault: CmdFault, out: &mut Vec<u8>)
 /// Writes that the number of words is wrong. No command has a longer name than twelve bytes.
 fn put_arity(name: &[u8], out: &mut Vec<u8>)
     requires name { length name.now ≤ 12 }
-    requires empty { out.old.items ≡ [] }
-    requires room { SHORT_REPLY ≤ vec_capacity out.old }
-    ensures fault { out.new.items ≡ spelling (Fault (refusal name.now Arity)) }
+    requires cleared { IsCleared out.old }
+    ensures fault { out.new.items ≡ wrong_number name.now }
     ensures room { vec_capacity out.old ≤ vec_capacity out.new }
 {
     put_short(out, b"-ERR wrong number of arguments for '");
@@ -64,9 +59,8 @@ fn put_lowered(out: &mut Vec<u8>, word: &[u8])
 
 /// Writes why words are no schema.
 pub fn put_schema_refusal(fault: SchemaFault, out: &mut Vec<u8>)
-    requires empty { out.old.items ≡ [] }
-    requires room { SHORT_REPLY ≤ vec_capacity out.old }
-    ensures fault { out.new.items ≡ spelling (Fault (schema_refusal fault)) }
+    requires { IsCleared out.old }
+    ensures fault { out.new.items ≡ schema_refused fault }
     ensures room { vec_capacity out.old ≤ vec_capacity out.new }
 {
     match fault {
@@ -82,9 +76,8 @@ pub fn put_schema_refusal(fault: SchemaFault, out: &mut Vec<u8>)
 
 /// Writes why a text is no query.
 pub fn put_query_refusal(fault: QueryFault, out: &mut Vec<u8>)
-    requires empty { out.old.items ≡ [] }
-    requires room { SHORT_REPLY ≤ vec_capacity out.old }
-    ensures fault { out.new.items ≡ spelling (Fault (query_refusal fault)) }
+    requires { IsCleared out.old }
+    ensures fault { out.new.items ≡ query_refused fault }
     ensures room { vec_capacity out.old ≤ vec_capacity out.new }
 {
     match fault {
@@ -100,9 +93,8 @@ pub fn put_query_refusal(fault: QueryFault, out: &mut Vec<u8>)
 
 /// Writes that the name at a word is no field's of the index.
 pub fn put_unknown_field(at: u32, out: &mut Vec<u8>)
-    requires empty { out.old.items ≡ [] }
-    requires room { SHORT_REPLY ≤ vec_capacity out.old }
-    ensures fault { out.new.items ≡ spelling (Fault (unknown_field at)) }
+    requires { IsCleared out.old }
+    ensures fault { out.new.items ≡ field_refused at }
     ensures room { vec_capacity out.old ≤ vec_capacity out.new }
 {
     put_at(b"Unknown field at word ", at, out);
@@ -111,8 +103,7 @@ pub fn put_unknown_field(at: u32, out: &mut Vec<u8>)
 /// Writes a text and a word's number behind it.
 fn put_at(text: &[u8], at: u32, out: &mut Vec<u8>)
     requires text { length text.now ≤ 40 }
-    requires empty { out.old.items ≡ [] }
-    requires room { SHORT_REPLY ≤ vec_capacity out.old }
+    requires cleared { IsCleared out.old }
     ensures fault { out.new.items ≡ spelling (Fault (text.now ++ decimal at)) }
     ensures room { vec_capacity out.old ≤ vec_capacity out.new }
 {
@@ -122,8 +113,7 @@ fn put_at(text: &[u8], at: u32, out: &mut Vec<u8>)
 /// Writes a text and a number behind it.
 fn put_place(text: &[u8], at: usize, out: &mut Vec<u8>)
     requires text { length text.now ≤ 40 }
-    requires empty { out.old.items ≡ [] }
-    requires room { SHORT_REPLY ≤ vec_capacity out.old }
+    requires cleared { IsCleared out.old }
     ensures fault { out.new.items ≡ spelling (Fault (text.now ++ decimal at)) }
     ensures room { vec_capacity out.old ≤ vec_capacity out.new }
 {

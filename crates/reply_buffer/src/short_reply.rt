@@ -1,10 +1,10 @@
 //! Replies for which there is always room, so that writing them needs no memory.
-ghost use Rattle.std.specs.Prelude.{◌≡◌, ◌++◌, ◌+◌, ◌≤◌, [], length, Option, is_some, pos, vec_capacity};
+ghost use Rattle.std.specs.Prelude.{◌≡◌, ◌++◌, ◌+◌, ◌≤◌, [], length, pos, vec_capacity};
 ghost use Rattle.ft_base.specs.Reply.{spelling};
-ghost use Rattle.ft_base.specs.declared.doc.Doc.{Doc};
-ghost use Rattle.ft_base.specs.declared.reply.Reply.TheVariants.{Fault, Line, Number};
+ghost use Rattle.ft_base.specs.declared.reply.Reply.TheVariants.{Fault, Number};
 ghost use Rattle.ft_base.specs.Memory.{out_of_memory};
-ghost use Rattle.ft_machine.specs.Reads.{kind_of, one_if};
+ghost use Rattle.ft_machine.specs.Reads.{one_if};
+ghost use Rattle.reply_buffer.specs.Written.{IsCleared, TellsKind};
 
 use itoa::Buffer;
 
@@ -34,10 +34,9 @@ pub fn put_fault(out: &mut Vec<u8>, text: &[u8])
     put_short(out, b"\r\n");
 }
 
-/// Writes that memory was wanting.
+/// Writes that memory ran out.
 pub fn put_no_memory(out: &mut Vec<u8>)
-    requires empty { out.old.items ≡ [] }
-    requires fits { SHORT_REPLY ≤ vec_capacity out.old }
+    requires { IsCleared out.old }
     ensures fault { out.new.items ≡ spelling out_of_memory }
     ensures room { vec_capacity out.old ≤ vec_capacity out.new }
 {
@@ -46,8 +45,7 @@ pub fn put_no_memory(out: &mut Vec<u8>)
 
 /// Writes a number. It takes no memory.
 pub fn put_number(number: usize, out: &mut Vec<u8>)
-    requires empty { out.old.items ≡ [] }
-    requires room { SHORT_REPLY ≤ vec_capacity out.old }
+    requires { IsCleared out.old }
     ensures number { out.new.items ≡ spelling (Number (pos number)) }
     ensures room { vec_capacity out.old ≤ vec_capacity out.new }
 {
@@ -59,8 +57,7 @@ pub fn put_number(number: usize, out: &mut Vec<u8>)
 
 /// The same of a number that may be below 0.
 pub fn put_signed(number: i64, out: &mut Vec<u8>)
-    requires empty { out.old.items ≡ [] }
-    requires room { SHORT_REPLY ≤ vec_capacity out.old }
+    requires { IsCleared out.old }
     ensures number { out.new.items ≡ spelling (Number number) }
     ensures room { vec_capacity out.old ≤ vec_capacity out.new }
 {
@@ -72,8 +69,7 @@ pub fn put_signed(number: i64, out: &mut Vec<u8>)
 
 /// Writes 1 where something is so, else 0. It takes no memory.
 pub fn put_flag(so: bool, out: &mut Vec<u8>)
-    requires empty { out.old.items ≡ [] }
-    requires room { SHORT_REPLY ≤ vec_capacity out.old }
+    requires { IsCleared out.old }
     ensures flag { out.new.items ≡ spelling (one_if so) }
     ensures room { vec_capacity out.old ≤ vec_capacity out.new }
 {
@@ -82,9 +78,8 @@ pub fn put_flag(so: bool, out: &mut Vec<u8>)
 
 /// Writes whether a key has a hash or nothing. It takes no memory.
 pub fn put_kind(there: bool, out: &mut Vec<u8>)
-    requires empty { out.old.items ≡ [] }
-    requires room { SHORT_REPLY ≤ vec_capacity out.old }
-    ensures kind { (doc : Option Doc) → there ≡ is_some doc → out.new.items ≡ spelling (Line (kind_of doc)) }
+    requires { IsCleared out.old }
+    ensures kind { TellsKind there out.new.items }
     ensures room { vec_capacity out.old ≤ vec_capacity out.new }
 {
     if there {

@@ -2,12 +2,11 @@
 //! was read, and the spans of the command taken last. What is fed is held once and lent from where
 //! it lies.
 ghost use Rattle.std.specs.Prelude.{◌≡◌, ◌≢◌, ℕ, ◌+◌, ◌-◌, ◌≤◌, ◌<◌, ◌^◌, ◌++◌, [], length, drop};
-ghost use Rattle.std.specs.Prelude.{vec_capacity, IfOk, OnOk, OnErr, IsOk, Err};
+ghost use Rattle.std.specs.Prelude.{vec_capacity, IfOk, OnOk, OnErr};
 ghost use Rattle.ft_base.specs.Words.{KeepsLimits};
 ghost use Rattle.ft_base.specs.Spans.{LieIn, words_of};
-ghost use Rattle.resp_wire.specs.Wire.{request_at};
 ghost use Rattle.resp_wire.specs.Stream.{FaultAt, ended, stream_of, with_command, NextIsLong};
-ghost use Rattle.resp_wire.specs.Decoding.{fed, room, StopsAt};
+ghost use Rattle.resp_wire.specs.Decoding.{Decoding, fed, room, StopsAt};
 ghost use Rattle.resp_wire.specs.Reached.{IsBegun};
 ghost use Rattle.resp_wire.specs.Taking.{stop_answer, left_at, IsStop};
 
@@ -56,13 +55,7 @@ struct Front {
 }
 
 impl Model for Decoder {
-    ghost use Rattle.std.specs.Prelude.{◌+◌, ◌-◌, ◌≤◌, ◌^◌, length, drop, vec_capacity};
-    ghost use Rattle.resp_wire.specs.Decoding.{Decoding};
-
     ghost Value = { Decoding };
-
-    ghost use Rattle.ft_base.specs.Spans.{LieIn, words_of};
-    ghost use Rattle.resp_wire.specs.Reached.{IsBegun};
 
     ghost view = { λ d. record {
       taken = d.gone + d.front.start;
@@ -159,7 +152,7 @@ impl Decoder {
         ensures again { (fault : FaultAt) → StopsAt self.old fault
             → result ≡ Take.Fault fault.at fault.kind }
 
-        // Want of memory is answered only for a command that is whole, and nothing is lost.
+        // Running out of memory is answered only for a command that is whole, and nothing is lost.
         ensures kept { result ≡ Take.NoMemory → self.new ≡ record self.old { words = [] } }
         ensures many { result ≡ Take.NoMemory → NextIsLong (stream_of self.old.left).commands }
 

@@ -3,6 +3,10 @@ use Rattle.std.specs.Prelude.{List, [], ◌∷◌, if◌then◌else◌}
 use Rattle.std.specs.Ordering.{is_lt}
 use Rattle.std.specs.declared.cmp.Ordering.{Ordering}
 
+-- an order, as what it answers of two values
+abbrev pub Comparison : Type 0 → Type 0
+Comparison A = A → A → Ordering
+
 -- a value goes before the first one that isn't less than it
 abbrev pub placed : {A : Type 0} → (A → A → Ordering) → A → List A → List A
 placed order x [] = x ∷ []

@@ -12,6 +12,7 @@ use ft_base::{Bytes, ListOf, NoMemory, put_int, read_int};
 use ft_server::{Exit, run};
 use row_text::{Row, fits, put_lines, read_reply, read_row, wanted_lines};
 use std::alloc::Global;
+use std::hash::RandomState;
 use std::io;
 use std::sync::Wait;
 
@@ -43,7 +44,8 @@ struct Tally {
 
 fn main(rt: HostRuntime) -> io::Result<()> {
     let text = io::read_to_string(rt.alloc(), rt.reader())?;
-    let tally = run_all(&rt, rt.alloc(), text.as_str())?;
+    let hashing = RandomState::new(&rt)?;
+    let tally = run_all(&rt, rt.alloc(), hashing, text.as_str())?;
     let told = std::str::from_utf8(tally.told.as_slice()).unwrap_or("?");
     println!(rt;
         "{told}{} sessions, {} rows, {} differ",
@@ -52,23 +54,29 @@ fn main(rt: HostRuntime) -> io::Result<()> {
 }
 
 // Runs the sessions of a text.
-fn run_all<R: Wait>(rt: &R, alloc: Global, text: &str) -> Result<Tally, NoMemory> {
+fn run_all<R: Wait>(
+    rt: &R,
+    alloc: Global,
+    hashing: RandomState,
+    text: &str,
+) -> Result<Tally, NoMemory> {
     let mut tally = no_tally(alloc);
-    run_lines(rt, alloc, text, &mut tally)?;
+    run_lines(rt, alloc, hashing, text, &mut tally)?;
     Ok(tally)
 }
 
 fn run_lines<R: Wait>(
     rt: &R,
     alloc: Global,
+    hashing: RandomState,
     text: &str,
     tally: &mut Tally,
 ) -> Result<(), NoMemory> {
     let mut session = no_session(alloc);
     for line in text.lines() {
-        take_line(rt, alloc, line, &mut session, tally)?;
+        take_line(rt, alloc, hashing, line, &mut session, tally)?;
     }
-    end_session(rt, alloc, &mut session, tally)
+    end_session(rt, alloc, hashing, &mut session, tally)
 }
 
 // A session without a name and rows, as before the first one.
@@ -94,12 +102,13 @@ fn no_tally(alloc: Global) -> Tally {
 fn take_line<R: Wait>(
     rt: &R,
     alloc: Global,
+    hashing: RandomState,
     line: &str,
     session: &mut Session,
     tally: &mut Tally,
 ) -> Result<(), NoMemory> {
     match line.strip_prefix("== ") {
-        Some(name) => begin_session(rt, alloc, name, session, tally),
+        Some(name) => begin_session(rt, alloc, hashing, name, session, tally),
         None => take_session_line(alloc, line, session),
     }
 }
@@ -107,11 +116,12 @@ fn take_line<R: Wait>(
 fn begin_session<R: Wait>(
     rt: &R,
     alloc: Global,
+    hashing: RandomState,
     name: &str,
     session: &mut Session,
     tally: &mut Tally,
 ) -> Result<(), NoMemory> {
-    end_session(rt, alloc, session, tally)?;
+    end_session(rt, alloc, hashing, session, tally)?;
     session.name.push_str(name)
 }
 
@@ -143,12 +153,13 @@ fn put_moments(session: &mut Session) -> Result<(), NoMemory> {
 fn end_session<R: Wait>(
     rt: &R,
     alloc: Global,
+    hashing: RandomState,
     session: &mut Session,
     tally: &mut Tally,
 ) -> Result<(), NoMemory> {
     if !session.rows.is_empty() {
         tally.sessions = tally.sessions.saturating_add(1);
-        run_session(rt, alloc, session, tally)?;
+        run_session(rt, alloc, hashing, session, tally)?;
     }
     session.name.clear();
     session.rows.clear();
@@ -246,11 +257,12 @@ fn put_first<'a>(out: &mut Vec<u8>, text: &'a [u8], number: i64) -> Result<&'a [
 fn run_session<R: Wait>(
     rt: &R,
     alloc: Global,
+    hashing: RandomState,
     session: &Session,
     tally: &mut Tally,
 ) -> Result<(), NoMemory> {
     let mut out = Vec::new(alloc);
-    let exit = answer(rt, alloc, session, &mut out)?;
+    let exit = answer(rt, alloc, hashing, session, &mut out)?;
     check_session(alloc, session, out.as_slice(), exit, tally)
 }
 
@@ -258,11 +270,12 @@ fn run_session<R: Wait>(
 fn answer<R: Wait>(
     rt: &R,
     alloc: Global,
+    hashing: RandomState,
     session: &Session,
     out: &mut Vec<u8>,
 ) -> Result<Exit, NoMemory> {
     let mut link = link_for(alloc, session.rows.as_slice())?;
-    let exit = script(rt, alloc, session.moments.as_slice(), &mut link);
+    let exit = script(rt, alloc, hashing, session.moments.as_slice(), &mut link);
     out.extend_from_slice(link.output())?;
     Ok(exit)
 }
@@ -306,14 +319,20 @@ fn link_over(alloc: Global, requests: Vec<u8>) -> Result<MemLink, NoMemory> {
 }
 
 // Serves the link, with a moment for each command.
-fn script<R: Wait>(rt: &R, alloc: Global, moments: &[u64], link: &mut MemLink) -> Exit {
+fn script<R: Wait>(
+    rt: &R,
+    alloc: Global,
+    hashing: RandomState,
+    moments: &[u64],
+    link: &mut MemLink,
+) -> Exit {
     let Ok(words) = words_of(alloc, "script") else {
         return Exit::NoMemory;
     };
     let Ok(mut clock) = clock_of(alloc, moments) else {
         return Exit::NoMemory;
     };
-    run(rt, alloc, words.as_slice(), link, &mut clock)
+    run(rt, alloc, hashing, words.as_slice(), link, &mut clock)
 }
 
 // A clock of these moments, and one behind them, for which nobody asks: a clock has one at least.

@@ -22,6 +22,7 @@ use making::{make_clocks, make_doors};
 use sleep_pace::SleepPace;
 use std::alloc::Global;
 use std::env;
+use std::hash::RandomState;
 use std::io::ErrorKind;
 use std::marker::PhantomData;
 use std::process::ExitCode;
@@ -37,37 +38,39 @@ fn main(rt: HostRuntime) -> ExitCode {
         Ok(words) => words,
         Err(exit) => return end(&rt, exit),
     };
-    let words = words.as_slice();
-    let Some((port, workers)) = place_of(rt.alloc(), words) else {
+    let line = words.as_slice();
+    let Ok(hashing) = RandomState::new(&rt) else {
+        return without_hashing(&rt);
+    };
+    let alloc = rt.alloc();
+    let Some((port, workers)) = place_of(alloc, line) else {
         let mut clock = SystemClock { rt };
         let mut link = StdLink::new(rt.stdin(), rt.stdout());
-        let exit = run(&rt, rt.alloc(), words, &mut link, &mut clock);
-        return end(&rt, exit);
+        return end(&rt, run(&rt, alloc, hashing, line, &mut link, &mut clock));
     };
-    let doors = match make_doors(&rt, rt.alloc(), port, workers) {
+    let doors = match make_doors(&rt, alloc, port, workers) {
         Ok(doors) => doors,
         Err(exit) => return without_doors(&rt, exit),
     };
-    let Ok(clocks) = make_clocks(&rt, rt.alloc(), workers) else {
+    let Ok(clocks) = make_clocks(&rt, alloc, workers) else {
         return end(&rt, Exit::NoMemory);
     };
-    let Ok(stop) = Arc::new(rt.alloc(), AtomicBool::new(false)) else {
+    let Ok(stop) = Arc::new(alloc, AtomicBool::new(false)) else {
         return end(&rt, Exit::NoMemory);
     };
     let _ = eprintln!(rt; "rsearch: listening on 127.0.0.1:{port}, {workers} workers");
-    let own = rt;
     // The closure has to name the door's type of links, which only its contract speaks of.
     let named: PhantomData<TcpLink> = PhantomData;
     let mut spawner = ThreadSpawner {
         start: |job| {
             let _named = named;
-            start_thread(&own, job)
+            start_thread(&rt, job)
         },
         faults: 0,
         of: PhantomData,
     };
     let pace = SleepPace::new(rt, stop);
-    let (exit, _works) = serve(&rt, rt.alloc(), words, doors, &mut spawner, clocks, pace);
+    let (exit, _works) = serve(&rt, alloc, hashing, line, doors, &mut spawner, clocks, pace);
     end(&rt, exit)
 }
 
@@ -101,6 +104,14 @@ fn place_of(alloc: Global, words: &[String]) -> Option<(u16, u16)>
         Ok(Form::Serve { port, workers }) => Some((port, workers)),
         _ => None,
     }
+}
+
+/// Says that the system has no random bytes for the hashing of keys.
+fn without_hashing(rt: &HostRuntime) -> ExitCode
+    ensures { exit_status result ≡ status_of Exit.NoMemory }
+{
+    let _ = eprintln!(rt; "rsearch: no random bytes");
+    end(rt, Exit::NoMemory)
 }
 
 /// Says that the port cannot be listened at, where that is why there are no doors.

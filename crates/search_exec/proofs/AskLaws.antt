@@ -10,6 +10,7 @@ use Rattle.std.proofs.lemmas.Bool.{cases_Bool, and_parts, and_right, eqb-true, f
 use Rattle.std.proofs.lemmas.Bool.Decides.{nat_tests}
 use Rattle.std.proofs.lemmas.Map.Keys.{sorted_from_strictly_increasing, sorted_head, sorted_tail}
 use Rattle.ft_base.specs.declared.doc.Doc.{Doc}
+use Rattle.hash_store.specs.Store.{Store, reads_after}
 use Rattle.id_iters.specs.Held.{Held}
 use Rattle.id_iters.specs.Least.{IsLeast, IsLeastAt, NoneFrom}
 use Rattle.id_iters.specs.Sets.{About, about, in_set, living}
@@ -136,3 +137,20 @@ pub iter-same : (held : Held) (first now : Iter) (from : ℕ) (said answer : Opt
     → IsLeast (in_set held first) from answer
 iter-same held first now from said answer same is least =
     subst (λ (answer : Option ℕ). IsLeast (in_set held first) from answer) is (subst (λ (part : About). IsLeast (living held.live part) from said) same least)
+
+-- ---- the store that is read on the way
+
+-- only documents were read, and then more
+pub read-on : (first old new : Store) (reads : ℕ) → old ≡ record first { reads = old.reads } → new ≡ record old { reads = reads } → new ≡ record first { reads = new.reads }
+read-on first old new reads was next = next ∙ λ i. record (was i) { reads = sym (ap (λ (store : Store). store.reads) next) i }
+
+-- so many were read, and then so many more
+pub read-more : (first old new : Store) (some more : ℕ) → old ≡ record first { reads = reads_after first.reads some } → new ≡ record old { reads = reads_after old.reads more }
+    → new ≡ record first { reads = reads_after first.reads (some + more) }
+read-more first old new some more was next =
+    let both : reads_after (reads_after first.reads some) more ≡ reads_after first.reads (some + more) = omega arith in
+    next ∙ ((λ i. record (was i) { reads = reads_after ((was i).reads) more }) ∙ ap (λ (reads : ℕ). record first { reads = reads }) both)
+
+-- what is found at first is found
+pub found-still : (first old : Store) (reads id : ℕ) (doc : Doc) → old ≡ record first { reads = reads } → doc_at id first.space ≡ Some doc → doc_at id old.space ≡ Some doc
+found-still first old reads id doc was found = ap (λ (store : Store). doc_at id store.space) was ∙ found

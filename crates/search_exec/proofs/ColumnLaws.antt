@@ -17,7 +17,7 @@ use Rattle.ft_base.specs.declared.doc.Doc.{Doc}
 use Rattle.ft_base.specs.declared.reply.Reply.{Reply}
 use Rattle.ft_base.specs.declared.reply.Reply.TheVariants.{Array, Bulk, Number}
 use Rattle.ft_machine.specs.Counted.{num_or_null}
-use Rattle.hash_store.specs.Store.{reads_after}
+use Rattle.hash_store.specs.Store.{Store, reads_after}
 use Rattle.id_iters.specs.Least.{IsLeastAt}
 use Rattle.row_sort.proofs.OrderLaws.{row_weak}
 use Rattle.row_sort.proofs.SortingLaws.{first-push, length-sorted}
@@ -30,7 +30,7 @@ use Rattle.search_exec.proofs.AskLaws.{IsAsked, asked-next}
 use Rattle.search_exec.proofs.FieldLaws.{sorted-map, then-alone}
 use Rattle.search_exec.specs.Ids.{AreKnown, doc_at, docs_in}
 use Rattle.search_exec.specs.Pages.{reads_of, reads_shown}
-use Rattle.search_exec.specs.Ranks.{AreRanked, docs_at, first_ids, ranked_id}
+use Rattle.search_exec.specs.Ranks.{AreRanked, docs_at, first_ids, offered, page_at, ranked_id, reads_at}
 use Rattle.search_exec.specs.Shapes.{order_by, page_by, row_by, value_by}
 use Rattle.search_exec.specs.declared.shape.Shape.{Shape}
 use Rattle.search_exec.specs.declared.shape.SortKey.{SortKey}
@@ -69,12 +69,12 @@ ranked-next number by most total old new docs doc taken ranked =
 
 -- An id that is answered is offered.
 pub ranked-asked : (number : ℕ → Option ℤ) (by : List Direction) (most total : ℕ) (old new : First ℕ) (has : ℕ → Bool) (docs : List Doc) (from id : ℕ)
-    → new.rows ≡ take old.most (sorted (row_order old.by) (old.rows ++ ranked_id number id ∷ [])) → old.most ≡ most → old.by ≡ by
+    → new ≡ offered old (ranked_id number id) → old.most ≡ most → old.by ≡ by
     → IsStrictlyIncreasing (map (λ (doc : Doc). doc.id) docs) → AreKnown has docs → IsLeastAt has from id
     → IsAsked (AreRanked number by most total old.rows) has docs from → IsAsked (AreRanked number by most (total + 1) new.rows) has docs (id + 1)
 ranked-asked number by most total old new has docs from id is is_most is_by rise known least asked =
     let taken : new.rows ≡ take most (sorted (row_order by) (old.rows ++ ranked_id number id ∷ [])) =
-    is ∙ (λ i. take (is_most i) (sorted (row_order (is_by i)) (old.rows ++ ranked_id number id ∷ []))) in
+    ap (λ (first : First ℕ). first.rows) is ∙ (λ i. take (is_most i) (sorted (row_order (is_by i)) (old.rows ++ ranked_id number id ∷ []))) in
     asked-next (AreRanked number by most total old.rows) (AreRanked number by most (total + 1) new.rows) has docs from id rise least (known.stored id least.passes)
     (λ (so_far : List Doc) (doc : Doc) (found : doc_at id docs ≡ Some doc).
     ranked-next number by most total old.rows new.rows so_far doc
@@ -196,15 +196,17 @@ reads-both true start first more = omega arith
 reads-both false start first more = omega arith
 
 -- and how many are read then
-pub reads-next : (shape : Shape) (rows : List (Ranked ℕ)) (row : Ranked ℕ) (space now : List Doc) (start old new : ℕ) → now ≡ space
-    → old ≡ reads_after start (reads_shown shape (length (docs_at rows space))) → new ≡ reads_after old (reads_shown shape (length (option_to_list (doc_at row.item now))))
-    → new ≡ reads_after start (reads_shown shape (length (docs_at (rows ++ row ∷ []) space)))
-reads-next shape rows row space now start old new same was next =
-    let more = option_to_list (doc_at row.item space) in
+pub reads-next : (shape : Shape) (rows : List (Ranked ℕ)) (row : Ranked ℕ) (first old new : Store)
+    → old ≡ record first { reads = reads_after first.reads (reads_shown shape (length (docs_at rows first.space))) }
+    → new ≡ record old { reads = reads_after old.reads (reads_shown shape (length (option_to_list (doc_at row.item old.space)))) }
+    → new ≡ record first { reads = reads_after first.reads (reads_shown shape (length (docs_at (rows ++ row ∷ []) first.space))) }
+reads-next shape rows row first old new was next =
+    let more = option_to_list (doc_at row.item first.space) in
     next
-    ∙ ((λ i. reads_after (was i) (reads_shown shape (length (option_to_list (doc_at row.item (same i))))))
-    ∙ (reads-both shape.no_content start (length (docs_at rows space)) (length more)
-    ∙ ap (λ (n : ℕ). reads_after start (reads_shown shape n)) (sym (length-append (docs_at rows space) more) ∙ ap length (sym (docs_at-more rows row space)))))
+    ∙ ((λ i. record (was i) { reads = reads_after ((was i).reads) (reads_shown shape (length (option_to_list (doc_at row.item ((was i).space))))) })
+    ∙ ap (λ (reads : ℕ). record first { reads = reads })
+    (reads-both shape.no_content first.reads (length (docs_at rows first.space)) (length more)
+    ∙ ap (λ (n : ℕ). reads_after first.reads (reads_shown shape n)) (sym (length-append (docs_at rows first.space) more) ∙ ap length (sym (docs_at-more rows row first.space)))))
 
 -- shown by its key alone
 pub key-shown : (shape : Shape) (found : Option Doc) → shape.no_content ≡ true
@@ -232,7 +234,7 @@ module _ (shape : Shape) (key : SortKey) (number : ℕ → Option ℤ) (has : �
   -- What is shown of the first ids, as they were handed out, is the reply.
   pub column-page : {E F : Type 0} (made : Result Reply E) (offered : Result ℕ F) (rows : List (Ranked ℕ)) (old : First ℕ) → old.by ≡ key.by ∷ [] → old.most ≡ shape.offset + shape.num
       → IfOk made (λ reply. IsOk offered)
-      → IfOk made (λ reply. IfOk offered (λ total. reply ≡ Array (Number (pos total) ∷ flat_map (row_by shape) (docs_at (drop shape.offset rows) space))))
+      → IfOk made (λ reply. IfOk offered (λ total. reply ≡ page_at shape total rows space))
       → IfOk offered (λ total. (docs : List Doc) → IsStrictlyIncreasing (map (λ (doc : Doc). doc.id) docs) → AreKnown has docs → AreRanked number old.by old.most total rows (docs_in has docs))
       → IfOk made (λ reply. reply ≡ page_by shape (order_by key (docs_in has space)))
   column-page (Ok reply) (Ok total) rows old by most all each ids =
@@ -247,7 +249,7 @@ module _ (shape : Shape) (key : SortKey) (number : ℕ → Option ℤ) (has : �
   -- and as many documents are read as are shown with their fields
   pub column-reads : {E F : Type 0} (made : Result Reply E) (offered : Result ℕ F) (rows : List (Ranked ℕ)) (old : First ℕ) (before after : ℕ) → old.by ≡ key.by ∷ []
       → old.most ≡ shape.offset + shape.num → IfOk made (λ reply. IsOk offered)
-      → OnOk made (after ≡ reads_after before (reads_shown shape (length (docs_at (drop shape.offset rows) space))))
+      → OnOk made (after ≡ reads_after before (reads_at shape rows space))
       → IfOk offered (λ total. (docs : List Doc) → IsStrictlyIncreasing (map (λ (doc : Doc). doc.id) docs) → AreKnown has docs → AreRanked number old.by old.most total rows (docs_in has docs))
       → OnOk made (after ≡ reads_after before (reads_of shape (length (docs_in has space))))
   column-reads (Ok reply) (Ok total) rows old before after by most all each ids =

@@ -16,7 +16,7 @@ use Rattle.row_sort.proofs.SortingLaws.{first-push, length-sorted}
 use Rattle.row_sort.specs.Order.{row_order, value_order}
 use Rattle.row_sort.specs.Sorting.{placed, sorted}
 use Rattle.row_sort.specs.declared.rows.Ranked.{Ranked}
-use Rattle.search_exec.specs.Ranks.{first_ranked, ranked}
+use Rattle.search_exec.specs.Ranks.{first_ranked, page_from, ranked}
 use Rattle.search_exec.specs.Shapes.{order_by, page_by, row_by, value_by}
 use Rattle.search_exec.specs.declared.shape.Shape.{Shape}
 use Rattle.search_exec.specs.declared.shape.SortKey.{SortKey}
@@ -72,7 +72,7 @@ window-shown shape key offset num docs =
 
 -- What is made of the first rows, as they were handed out, is the reply.
 pub page-made : {E : Type 0} (made : Result Reply E) (shape : Shape) (key : SortKey) (docs : List Doc) (total most : ℕ) (rows first : List (Ranked (List Reply)))
-    → IfOk made (λ reply. reply ≡ Array (Number (pos total) ∷ flat_map (λ (row : Ranked (List Reply)). row.item) (drop shape.offset rows)))
+    → IfOk made (λ reply. reply ≡ page_from shape.offset total rows)
     → total ≡ length docs → rows ≡ first → first ≡ first_ranked shape key most docs → most ≡ shape.offset + shape.num → IfOk made (λ reply. reply ≡ page_by shape (order_by key docs))
 page-made made shape key docs total most rows first each count handed offered window =
     let items = λ (rows : List (Ranked (List Reply))). flat_map (λ (row : Ranked (List Reply)). row.item) (drop shape.offset rows) in
@@ -85,7 +85,7 @@ page-made made shape key docs total most rows first each count handed offered wi
 
 -- and a page is made only where all were offered
 pub page-offered : {E F : Type 0} (made : Result Reply E) (offered : Result ℕ F) (shape : Shape) (key : SortKey) (docs : List Doc) (most : ℕ) (rows : List (Ranked (List Reply))) → IfOk made (λ reply. IsOk offered)
-    → IfOk made (λ reply. IfOk offered (λ total. reply ≡ Array (Number (pos total) ∷ flat_map (λ (row : Ranked (List Reply)). row.item) (drop shape.offset rows))))
+    → IfOk made (λ reply. IfOk offered (λ total. reply ≡ page_from shape.offset total rows))
     → IfOk offered (λ total. total ≡ length docs) → OnOk offered (rows ≡ first_ranked shape key most docs) → most ≡ shape.offset + shape.num → IfOk made (λ reply. reply ≡ page_by shape (order_by key docs))
 page-offered {E = E} (Ok reply) (Ok total) shape key docs most rows all each count rank window = page-made {E = E} (Ok reply) shape key docs total most rows rows each count refl rank window
 page-offered (Ok reply) (Err f) shape key docs most rows all each count rank window = cc (all)

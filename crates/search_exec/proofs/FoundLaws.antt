@@ -196,11 +196,11 @@ module _ {V : Type 0} (of : Doc → V) where
 pub members-numbered : (held : Held) (iter : Iter) (rows : List (ℕ × List (Option ℤ))) (numbers : ℕ → ℕ → Option ℤ) (def : IndexDef) (docs : List Doc)
     → IsStrictlyIncreasing (map (λ (doc : Doc). doc.id) docs) → rows ≡ map (λ (doc : Doc). (doc.id, sorting_vector def doc)) (members def docs)
     → ((id : ℕ) → held.live id ≡ true → is_some (lookup (nat_eq id) rows) ≡ true)
-    → ((id place : ℕ) (vector : List (Option ℤ)) → lookup (nat_eq id) rows ≡ Some vector → numbers id place ≡ number_at vector place)
+    → ((id column : ℕ) (vector : List (Option ℤ)) → lookup (nat_eq id) rows ≡ Some vector → numbers id column ≡ number_at vector column)
     → AreNumbered (in_set held iter) numbers def docs
 members-numbered held iter rows numbers def docs rise are live told = record {
   kept =
-      λ id place doc has_it found.
-      told id place (sorting_vector def doc)
+      λ id column doc has_it found.
+      told id column (sorting_vector def doc)
       (member-row (sorting_vector def) held iter rows def docs rise are live id has_it ∙ ap (λ (found : Option Doc). option_map (sorting_vector def) found) found);
 }

@@ -1,6 +1,6 @@
 -- The key of a shape sorts by the field that the search names: where it has a column, the numbers there are what it sees.
 use Rattle.std.proofs.Common.{◌≡◌, ℕ, suc, Bool, true, false, List, [], ◌∷◌, map, filter, min, Option, None, Some, is_some, refl, sym, ap, ◌∙◌, inl, inr, arith}
-use Rattle.std.specs.Prelude.{◌-◌, ◌==◌, ℤ, not, option_map, option_and_then, if◌then◌else◌}
+use Rattle.std.specs.Prelude.{◌-◌, ◌==◌, ℤ, IfSome, not, option_map, option_and_then, if◌then◌else◌}
 use Rattle.std.specs.List.{find}
 use Rattle.std.specs.Str.{bytes_eq}
 use Rattle.std.proofs.lemmas.Bool.{and_parts, cases_Bool, eqb-true}
@@ -21,20 +21,20 @@ use Rattle.search_exec.specs.Shapes.{AreSeen, IsShapeOf, column_for, column_name
 use Rattle.search_exec.specs.declared.shape.Shape.{Shape}
 use Rattle.search_exec.specs.declared.shape.SortKey.{SortKey}
 
--- ---- the place of a field's numbers
+-- ---- the column of a field's numbers
 
 -- the field with an alias
 abbrev found : List ℕ → List Field → Option Field
 found alias fields = find (λ (field : Field). bytes_eq alias field.alias) fields
 
--- the place one further on, where the first field is kept
+-- the column one further on, where the first field is kept
 abbrev further : Bool → ℕ → ℕ
-further kept place = if kept then suc place else place
+further kept column = if kept then suc column else column
 
--- A field whose numbers are kept has a place.
-pub kept-place : (alias : List ℕ) (fields : List Field) (field : Field) → found alias fields ≡ Some field → is_some (column_named alias fields) ≡ keeps_number field
-kept-place alias [] field is = absurd cc
-kept-place alias (first ∷ fields) field is =
+-- A field whose numbers are kept has a column.
+pub kept-column : (alias : List ℕ) (fields : List Field) (field : Field) → found alias fields ≡ Some field → is_some (column_named alias fields) ≡ keeps_number field
+kept-column alias [] field is = absurd cc
+kept-column alias (first ∷ fields) field is =
     elim (cases_Bool (bytes_eq alias first.alias)) [
       | inl here ↦
           let said : ◌≡◌ {A = Option Field} (Some first) (Some field) = rw here at is in
@@ -43,56 +43,56 @@ kept-place alias (first ∷ fields) field is =
             | inl kept ↦ rw (here, kept) (sym kept ∙ ap (λ (field : Field). keeps_number field) same)
             | inr left ↦ rw (here, left) (sym left ∙ ap (λ (field : Field). keeps_number field) same)
           ]
-      | inr away ↦ rw away (mapped (column_named alias fields) ∙ kept-place alias fields field (rw away at is))
+      | inr away ↦ rw away (mapped (column_named alias fields) ∙ kept-column alias fields field (rw away at is))
     ] where
-      mapped : (place : Option ℕ) → is_some (option_map (further (keeps_number first)) place) ≡ is_some place
+      mapped : (column : Option ℕ) → is_some (option_map (further (keeps_number first)) column) ≡ is_some column
       mapped None = refl
-      mapped (Some place) = refl
+      mapped (Some column) = refl
 
--- At its place stand its numbers.
-pub number-there : (g : Field → Option ℤ) (alias : List ℕ) (fields : List Field) (field : Field) (place : ℕ) → found alias fields ≡ Some field → column_named alias fields ≡ Some place
-    → number_at (map g (filter keeps_number fields)) place ≡ g field
-number-there g alias [] field place is at = absurd cc
-number-there g alias (first ∷ fields) field place is at =
+-- In its column stand its numbers.
+pub number-there : (g : Field → Option ℤ) (alias : List ℕ) (fields : List Field) (field : Field) (column : ℕ) → found alias fields ≡ Some field → column_named alias fields ≡ Some column
+    → number_at (map g (filter keeps_number fields)) column ≡ g field
+number-there g alias [] field column is at = absurd cc
+number-there g alias (first ∷ fields) field column is at =
     elim (cases_Bool (bytes_eq alias first.alias)) [
       | inl here ↦
           let said : ◌≡◌ {A = Option Field} (Some first) (Some field) = rw here at is in
           let same : first ≡ field = cc (said) in
           elim (cases_Bool (keeps_number first)) [
             | inl kept ↦
-                let first_place : ◌≡◌ {A = Option ℕ} (Some 0) (Some place) = rw (here, kept) at at in
-                let start : place ≡ 0 = cc (first_place) in
+                let first_column : ◌≡◌ {A = Option ℕ} (Some 0) (Some column) = rw (here, kept) at at in
+                let start : column ≡ 0 = cc (first_column) in
                 rw (kept, start) (ap g same)
             | inr left ↦
-                let none : ◌≡◌ {A = Option ℕ} None (Some place) = rw (here, left) at at in
+                let none : ◌≡◌ {A = Option ℕ} None (Some column) = rw (here, left) at at in
                 absurd cc
           ]
       | inr away ↦ behind (column_named alias fields) (λ later has. number-there g alias fields field later (rw away at is) has) (rw away at at)
     ] where
       behind : (later : Option ℕ) → ((there : ℕ) → later ≡ Some there → number_at (map g (filter keeps_number fields)) there ≡ g field)
-          → option_map (further (keeps_number first)) later ≡ Some place → number_at (map g (filter keeps_number (first ∷ fields))) place ≡ g field
+          → option_map (further (keeps_number first)) later ≡ Some column → number_at (map g (filter keeps_number (first ∷ fields))) column ≡ g field
       behind None has at = absurd cc
       behind (Some later) has at =
           let others : number_at (map g (filter keeps_number fields)) later ≡ g field = has later refl in
-          let there : further (keeps_number first) later ≡ place = cc (at) in
+          let there : further (keeps_number first) later ≡ column = cc (at) in
           elim (cases_Bool (keeps_number first)) [
             | inl kept ↦
-                let next : place ≡ suc later = sym (rw kept at there) in
+                let next : column ≡ suc later = sym (rw kept at there) in
                 rw (kept, next) others
             | inr left ↦
-                let next : place ≡ later = sym (rw left at there) in
+                let next : column ≡ later = sym (rw left at there) in
                 rw (left, next) others
           ]
 
--- Where no field has the alias there is no place.
-pub no-place : (alias : List ℕ) (fields : List Field) → found alias fields ≡ None → column_named alias fields ≡ None
-no-place alias [] is = refl
-no-place alias (first ∷ fields) is =
+-- Where no field has the alias there is no column.
+pub no-column : (alias : List ℕ) (fields : List Field) → found alias fields ≡ None → column_named alias fields ≡ None
+no-column alias [] is = refl
+no-column alias (first ∷ fields) is =
     elim (cases_Bool (bytes_eq alias first.alias)) [
       | inl here ↦
           let some : ◌≡◌ {A = Option Field} (Some first) None = rw here at is in
           absurd cc
-      | inr away ↦ rw away (ap (option_map (further (keeps_number first))) (no-place alias fields (rw away at is)))
+      | inr away ↦ rw away (ap (option_map (further (keeps_number first))) (no-column alias fields (rw away at is)))
     ]
 
 -- ---- the field of a key
@@ -104,7 +104,7 @@ pub record SortsByField (sort : Option Sort) (def : IndexDef) (key : SortKey) : 
   pub name : key.field.now ≡ field.name
   pub numeric : key.numeric ≡ is_numeric field.kind
   pub kept : is_some key.column ≡ keeps_number field
-  pub there : (g : Field → Option ℤ) (place : ℕ) → key.column ≡ Some place → number_at (map g (filter keeps_number def.fields)) place ≡ g field
+  pub there : (g : Field → Option ℤ) (column : ℕ) → key.column ≡ Some column → number_at (map g (filter keeps_number def.fields)) column ≡ g field
 
 sorts-found : (sort : Sort) (def : IndexDef) (key : SortKey) (at : Option Field) → found sort.field def.fields ≡ at → option_map (key_of_field sort.descending) at ≡ Some (key_seen key)
     → key.column ≡ column_named sort.field def.fields → SortsByField (Some sort) def key
@@ -116,8 +116,8 @@ sorts-found sort def key (Some field) is seen column =
       named = is;
       name = sym (ap (λ (k : List ℕ × (Bool × _)). k.0) same);
       numeric = sym (ap (λ (k : List ℕ × (Bool × _)). k.1.0) same);
-      kept = ap is_some column ∙ kept-place sort.field def.fields field is;
-      there = λ g place at. number-there g sort.field def.fields field place is (sym column ∙ at);
+      kept = ap is_some column ∙ kept-column sort.field def.fields field is;
+      there = λ g number at. number-there g sort.field def.fields field number is (sym column ∙ at);
     }
 
 sorts-by : (sort : Option Sort) (def : IndexDef) (key : SortKey) → key_for sort def.fields ≡ Some (key_seen key) → key.column ≡ column_for sort def.fields → SortsByField sort def key
@@ -139,20 +139,24 @@ number-seen kinds.Numeric (Some text) numeric = refl
 kept-numeric : (field : Field) → keeps_number field ≡ true → is_numeric field.kind ≡ true
 kept-numeric field kept = (and_parts field.sortable (is_numeric field.kind) kept).1
 
--- The numbers in the column of a shape's key are what it sees of the documents.
-pub column-seen : (what : Searching) (def : IndexDef) (shape : Shape) (key : SortKey) (has : ℕ → Bool) (numbers : ℕ → ℕ → Option ℤ) (docs : List Doc)
-    → IsShapeOf what def shape → AreNumbered has numbers def docs → shape.sort ≡ Some key → AreSeen has numbers key docs
-column-seen what def shape key has numbers docs s numbered is =
-    let by = sorts-field what def shape key s is in
-    record {
-      each =
-          λ id place doc column has_it at.
-          let numeric : is_numeric by.field.kind ≡ true = kept-numeric by.field (sym by.kept ∙ ap is_some column) in
-          let number : numbers id place ≡ field_number doc by.field = numbered.kept id place doc has_it at ∙ by.there (field_number doc) place column in
-          ap num_or_null number
-          ∙ (number-seen by.field.kind (get_field doc.hash by.field.name) numeric
-          ∙ λ i. value_seen (sym (by.numeric ∙ numeric) i) (get_field doc.hash (sym by.name i)));
-    }
+-- The numbers in the column of a shape's key, where it has one, are what the key sees of the documents.
+pub column-seen : (what : Searching) (def : IndexDef) (shape : Shape) (has : ℕ → Bool) (numbers : ℕ → ℕ → Option ℤ) (docs : List Doc)
+    → IsShapeOf what def shape → AreNumbered has numbers def docs → IfSome shape.sort (λ key. AreSeen has numbers key docs)
+column-seen what def shape has numbers docs s numbered = pick shape.sort refl
+  where
+    pick : (sort : Option SortKey) → shape.sort ≡ sort → IfSome sort (λ key. AreSeen has numbers key docs)
+    pick None is = tt
+    pick (Some key) is =
+        let by = sorts-field what def shape key s is in
+        record {
+          each =
+              λ id number doc column has_it at.
+              let numeric : is_numeric by.field.kind ≡ true = kept-numeric by.field (sym by.kept ∙ ap is_some column) in
+              let same : numbers id number ≡ field_number doc by.field = numbered.kept id number doc has_it at ∙ by.there (field_number doc) number column in
+              ap num_or_null same
+              ∙ (number-seen by.field.kind (get_field doc.hash by.field.name) numeric
+              ∙ λ i. value_seen (sym (by.numeric ∙ numeric) i) (get_field doc.hash (sym by.name i)));
+        }
 
 -- ---- what is read
 

@@ -5,9 +5,10 @@ use Rattle.std.specs.List.Sorted.{IsNonDecreasing}
 use Rattle.ft_base.specs.Space.{doc_of}
 use Rattle.ft_base.specs.declared.doc.Doc.{Doc}
 use Rattle.ft_machine.specs.Counted.{is_among}
-use Rattle.id_iters.specs.Held.{Held}
+use Rattle.id_iters.specs.Held.{AreLists, Held}
 use Rattle.id_iters.specs.Ready.{Ready}
 use Rattle.id_iters.specs.Sets.{About, about, living}
+use Rattle.search_exec.specs.Ids.{AreKnown, docs_in}
 use Rattle.search_exec.specs.declared.candidates.Candidates.{Candidates}
 use Rattle.search_exec.specs.declared.candidates.NamedIds.{NamedIds}
 
@@ -35,6 +36,10 @@ candidate live part id = living live part.0 id && is_named part.1 id
 abbrev pub in_candidates : Held → Candidates → ℕ → Bool
 in_candidates held candidates = candidate held.live (about_candidates held candidates)
 
+-- the documents that count: those of the candidates
+abbrev pub docs_counted : Held → Candidates → List Doc → List Doc
+docs_counted held candidates docs = docs_in (in_candidates held candidates) docs
+
 -- the ids of the documents with these keys, in the order of the keys
 abbrev pub ids_with : List Doc → List (List ℕ) → List ℕ
 ids_with docs keys = filter_map (λ (key : List ℕ). option_map (λ (doc : Doc). doc.id) (doc_of docs key)) keys
@@ -57,3 +62,9 @@ AreBehind (Some named) from = IsBehind named from
 pub record MayAsk (held : Held) (candidates : Candidates) (from : ℕ) : Type 0 where
   pub iter : Ready held candidates.iter from
   pub named : AreBehind candidates.named from
+
+-- Candidates may be asked from the first id on, and each id that they have is that of a document.
+pub record AreWalkable (held : Held) (candidates : Candidates) (docs : List Doc) : Type 0 where
+  pub lists : AreLists held
+  pub ready : MayAsk held candidates 1
+  pub known : AreKnown (in_candidates held candidates) docs

@@ -1,13 +1,19 @@
 -- What the ids of a set find among documents, what has to be known of these, and how many of them are read.
-use Rattle.std.specs.Prelude.{◌≡◌, ℕ, ℤ, min, nat_eq, not, Bool, true, false, List, filter, find, Option, None, Some, IsSome, ◌-◌, ◌==◌, if◌then◌else◌}
+use Rattle.std.specs.Prelude.{◌≡◌, ◌+◌, ℕ, ℤ, min, nat_eq, not, Bool, true, false, List, filter, find, Option, None, Some, IsSome, ◌-◌, ◌==◌, if◌then◌else◌}
 use Rattle.std.specs.Str.{bytes_eq}
 use Rattle.cmd_parse.specs.Options.{Sort}
 use Rattle.cmd_parse.specs.Searching.{Searching}
 use Rattle.ft_base.specs.declared.definition.Field.{Field}
 use Rattle.ft_base.specs.declared.definition.IndexDef.{IndexDef}
 use Rattle.ft_base.specs.declared.doc.Doc.{Doc}
-use Rattle.ft_machine.specs.Counted.{is_among}
+use Rattle.ft_base.specs.declared.reply.Reply.{Reply}
+use Rattle.ft_machine.specs.Counted.{in_order, is_among}
+use Rattle.ft_machine.specs.Shown.{found_reply}
 use Rattle.ft_meaning.specs.Sortable.{keeps_number, number_at, sorting_vector}
+use Rattle.id_iters.specs.Held.{AreLists, Held}
+use Rattle.id_iters.specs.Ready.{Ready}
+use Rattle.id_iters.specs.Sets.{in_set}
+use Rattle.id_iters.specs.declared.iter.Iter.{Iter}
 
 -- the documents whose ids a set has
 abbrev pub docs_in : (ℕ → Bool) → List Doc → List Doc
@@ -27,8 +33,26 @@ pub record AreKnown (has : ℕ → Bool) (docs : List Doc) : Type 0 where
 
 -- The numbers that are known by the id of a document of a set are those of its sorting vector.
 pub record AreNumbered (has : ℕ → Bool) (numbers : ℕ → ℕ → Option ℤ) (def : IndexDef) (docs : List Doc) : Type 0 where
-  pub kept : (id place : ℕ) (doc : Doc) → has id ≡ true → doc_at id docs ≡ Some doc
-      → numbers id place ≡ number_at (sorting_vector def doc) place
+  pub kept : (id column : ℕ) (doc : Doc) → has id ≡ true → doc_at id docs ≡ Some doc
+      → numbers id column ≡ number_at (sorting_vector def doc) column
+
+-- the documents that an iterator finds
+abbrev pub docs_found : Held → Iter → List Doc → List Doc
+docs_found held iter docs = docs_in (in_set held iter) docs
+
+-- An iterator may be asked from behind an id on.
+pub record IsAskable (held : Held) (iter : Iter) (after : ℕ) : Type 0 where
+  pub lists : AreLists held
+  pub ready : Ready held iter (after + 1)
+
+-- An iterator may be asked so, and each id that it finds is that of a document.
+pub record IsWalkable (held : Held) (iter : Iter) (after : ℕ) (docs : List Doc) : Type 0 where
+  pub asked : IsAskable held iter after
+  pub known : AreKnown (in_set held iter) docs
+
+-- what a search answers where these documents count
+abbrev pub answer_over : Searching → IndexDef → List Doc → Reply
+answer_over what def docs = found_reply what def (in_order what.sort def docs)
 
 -- the field that a search is sorted by
 abbrev pub sort_field : Option Sort → IndexDef → Option Field

@@ -46,14 +46,14 @@ abbrev pub key_for : Option Sort → List Field → Option (List ℕ × (Bool ×
 key_for None fields = None
 key_for (Some sort) fields = option_map (key_of_field sort.descending) (find (λ (field : Field). bytes_eq sort.field field.alias) fields)
 
--- The place in sorting vectors of the numbers of the field with an alias, if these are kept. The first field of the alias is meant.
+-- The column of sorting vectors with the numbers of the field of an alias, if these are kept. The first field of the alias is meant.
 abbrev pub column_named : List ℕ → List Field → Option ℕ
 column_named alias [] = None
 column_named alias (field ∷ fields) =
     if bytes_eq alias field.alias then (if keeps_number field then Some 0 else None)
-    else option_map (λ place. if keeps_number field then suc place else place) (column_named alias fields)
+    else option_map (λ column. if keeps_number field then suc column else column) (column_named alias fields)
 
--- the place of the numbers that a search is sorted by
+-- the column of the numbers that a search is sorted by
 abbrev pub column_for : Option Sort → List Field → Option ℕ
 column_for None fields = None
 column_for (Some sort) fields = column_named sort.field fields
@@ -99,8 +99,8 @@ value_by key doc = value_seen key.numeric (get_field doc.hash key.field.now)
 
 -- Where a key has a column, the numbers there are what it sees of the documents of a set.
 pub record AreSeen (has : ℕ → Bool) (numbers : ℕ → ℕ → Option ℤ) (key : SortKey) (docs : List Doc) : Type 0 where
-  pub each : (id place : ℕ) (doc : Doc) → key.column ≡ Some place → has id ≡ true → doc_at id docs ≡ Some doc
-      → num_or_null (numbers id place) ≡ value_by key doc
+  pub each : (id column : ℕ) (doc : Doc) → key.column ≡ Some column → has id ≡ true → doc_at id docs ≡ Some doc
+      → num_or_null (numbers id column) ≡ value_by key doc
 
 -- documents in the order of a key
 abbrev pub order_by : SortKey → List Doc → List Doc

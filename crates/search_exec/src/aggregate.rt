@@ -1,17 +1,11 @@
 //! What an aggregate answers: the rows that its steps make of the documents that an iterator finds.
-ghost use Rattle.std.specs.Prelude.{◌≡◌, ◌≤◌, ◌∷◌, ◌++◌, [], List, Some, IfOk, IsOk, IsSome, IsTrue, OnOk, length};
-ghost use Rattle.agg_pipeline.specs.Feeding.{Holds};
-ghost use Rattle.agg_pipeline.specs.declared.step.Load.{Load};
-ghost use Rattle.agg_pipeline.specs.declared.step.Step.{Step as AStep};
+ghost use Rattle.std.specs.Prelude.{◌≡◌, ◌≤◌, IfOk, IsOk, IsSome, IsTrue, OnOk, length};
+ghost use Rattle.std.specs.Option.{ForSome};
 ghost use Rattle.ft_base.specs.Reply.{fits_wire};
-ghost use Rattle.ft_base.specs.declared.definition.IndexDef.{IndexDef};
-ghost use Rattle.ft_base.specs.declared.doc.Doc.{Doc};
 ghost use Rattle.ft_machine.specs.Aggregating.{aggregate_rows, rows_reply};
 ghost use Rattle.hash_store.specs.Store.{reads_after};
-ghost use Rattle.id_iters.specs.Held.{AreLists};
-ghost use Rattle.id_iters.specs.Ready.{Ready};
-ghost use Rattle.id_iters.specs.Sets.{in_set};
-ghost use Rattle.search_exec.specs.Ids.{AreKnown, doc_at, docs_in};
+ghost use Rattle.search_exec.specs.Feeds.{AreMadeBy, Gathers, Takes};
+ghost use Rattle.search_exec.specs.Ids.{IsWalkable, doc_at, docs_found};
 
 use crate::facts::tell;
 use crate::replied_rows::rows_reply;
@@ -23,7 +17,7 @@ use std::alloc::Global;
 use std::sync::ledger::Ledger;
 
 /// What an aggregate answers that finds the ids of an iterator in an index. Each document that is found is read once, in
-/// order of the ids, and copied only where a row must hold it. The query's text is in the iterator.
+/// order of the ids, and a row that must be held shares it. The query's text is in the iterator.
 pub fn aggregate_reply<T: Lists, L: Ledger>(
     alloc: Global,
     def: &IndexDef,
@@ -34,21 +28,16 @@ pub fn aggregate_reply<T: Lists, L: Ledger>(
     steps: &[Step],
     counter: &mut Steps<L>,
 ) -> Result<Reply, NoMemory>
-    requires lists { AreLists (T.held lists.now) }
-    requires ready { Ready (T.held lists.now) iter 1 }
-    requires known { AreKnown (in_set (T.held lists.now) iter) store.old.space }
+    requires walkable { IsWalkable (T.held lists.now) iter 0 store.old.space }
     ensures reply { IfOk result (λ reply. reply ≡ rows_reply (aggregate_rows load.now steps.now def.now
-        (docs_in (in_set (T.held lists.now) iter) store.old.space))) }
+        (docs_found (T.held lists.now) iter store.old.space))) }
     ensures fits { IfOk result (λ reply. IsTrue (fits_wire reply)) }
 
     // What is read.
     ensures reads { OnOk result (store.new.reads ≡ reads_after store.old.reads
-        (length (docs_in (in_set (T.held lists.now) iter) store.old.space))) }
+        (length (docs_found (T.held lists.now) iter store.old.space))) }
     ensures rises { store.old.reads ≤ store.new.reads }
-
-    ensures space { store.new.space ≡ store.old.space }
-    ensures ready { store.new.ready ≡ store.old.ready }
-    ensures last { store.new.last ≡ store.old.last }
+    ensures same { store.new ≡ record store.old { reads = store.new.reads } }
     ensures counts { counter.old ≤ counter.new }
 {
     let mut iter = iter;
@@ -68,19 +57,14 @@ pub fn found_rows<T: Lists, L: Ledger>(
     steps: &[Step],
     counter: &mut Steps<L>,
 ) -> Result<Vec<Row>, NoMemory>
-    requires lists { AreLists (T.held lists.now) }
-    requires ready { Ready (T.held lists.now) iter.old 1 }
-    requires known { AreKnown (in_set (T.held lists.now) iter.old) store.old.space }
+    requires walkable { IsWalkable (T.held lists.now) iter.old 0 store.old.space }
     ensures rows { IfOk result (λ rows. rows.items ≡ aggregate_rows load.now steps.now def.now
-        (docs_in (in_set (T.held lists.now) iter.old) store.old.space)) }
+        (docs_found (T.held lists.now) iter.old store.old.space)) }
 
     ensures reads { OnOk result (store.new.reads ≡ reads_after store.old.reads
-        (length (docs_in (in_set (T.held lists.now) iter.old) store.old.space))) }
+        (length (docs_found (T.held lists.now) iter.old store.old.space))) }
     ensures rises { store.old.reads ≤ store.new.reads }
-
-    ensures space { store.new.space ≡ store.old.space }
-    ensures ready { store.new.ready ≡ store.old.ready }
-    ensures last { store.new.last ≡ store.old.last }
+    ensures same { store.new ≡ record store.old { reads = store.new.reads } }
     ensures counts { counter.old ≤ counter.new }
 {
     let mut feed = Feed::new(alloc, def, load, steps);
@@ -91,8 +75,7 @@ pub fn found_rows<T: Lists, L: Ledger>(
 /// What all the steps make of the documents that a feed holds, where all of them were noted.
 fn finish(feed: Feed<'_>, noted: Result<(), NoMemory>) -> Result<Vec<Row>, NoMemory>
     ensures noted { IfOk result (λ rows. IsOk noted) }
-    ensures rows { IfOk result (λ rows. (def : IndexDef) (load : Load) (steps : List AStep) (docs : List Doc)
-        → Holds def load steps docs feed.entry → rows.items ≡ aggregate_rows load steps def docs) }
+    ensures rows { IfOk result (λ rows. AreMadeBy feed.entry rows.items) }
 {
     noted?;
     feed.finish()
@@ -106,20 +89,13 @@ fn note_all<T: Lists, L: Ledger>(
     iter: &mut Iter,
     counter: &mut Steps<L>,
 ) -> Result<(), NoMemory>
-    requires lists { AreLists (T.held lists.now) }
-    requires ready { Ready (T.held lists.now) iter.old 1 }
-    requires known { AreKnown (in_set (T.held lists.now) iter.old) store.old.space }
-    ensures noted { OnOk result ((def : IndexDef) (load : Load) (steps : List AStep)
-        → Holds def load steps [] feed.old
-        → Holds def load steps (docs_in (in_set (T.held lists.now) iter.old) store.old.space) feed.new) }
+    requires walkable { IsWalkable (T.held lists.now) iter.old 0 store.old.space }
+    ensures noted { OnOk result (Gathers (docs_found (T.held lists.now) iter.old store.old.space) feed.old feed.new) }
 
     ensures reads { OnOk result (store.new.reads ≡ reads_after store.old.reads
-        (length (docs_in (in_set (T.held lists.now) iter.old) store.old.space))) }
+        (length (docs_found (T.held lists.now) iter.old store.old.space))) }
     ensures rises { store.old.reads ≤ store.new.reads }
-
-    ensures space { store.new.space ≡ store.old.space }
-    ensures ready { store.new.ready ≡ store.old.ready }
-    ensures last { store.new.last ≡ store.old.last }
+    ensures same { store.new ≡ record store.old { reads = store.new.reads } }
     ensures counts { counter.old ≤ counter.new }
 {
     tell(store);
@@ -134,14 +110,9 @@ fn note_all<T: Lists, L: Ledger>(
 /// Notes the document of an id, which is read once.
 fn note_id(feed: &mut Feed<'_>, store: &mut HashStore, id: u64) -> Result<(), NoMemory>
     requires stored { IsSome (doc_at id store.old.space) }
-    ensures noted { OnOk result ((doc : Doc) → doc_at id store.old.space ≡ Some doc
-        → (def : IndexDef) (load : Load) (steps : List AStep) (docs : List Doc)
-        → Holds def load steps docs feed.old → Holds def load steps (docs ++ doc ∷ []) feed.new) }
+    ensures noted { OnOk result (ForSome (doc_at id store.old.space) (λ doc. Takes doc feed.old feed.new)) }
 
-    ensures reads { store.new.reads ≡ reads_after store.old.reads 1 }
-    ensures space { store.new.space ≡ store.old.space }
-    ensures ready { store.new.ready ≡ store.old.ready }
-    ensures last { store.new.last ≡ store.old.last }
+    ensures reads { store.new ≡ record store.old { reads = reads_after store.old.reads 1 } }
 {
     let doc = store.get_by_id(id).unwrap();
     feed.note(doc)?;

@@ -1,26 +1,19 @@
 //! A search that is sorted by numbers that the index keeps: no document is read for its order, and of all ids only the first
 //! are held, up to the end of the window. Then those of the window are shown.
-ghost use Rattle.std.specs.Prelude.{◌≡◌, ◌<◌, ◌≤◌, ◌+◌, ◌^◌, ◌∷◌, ◌++◌, [], List, Some, pos, IfOk, IsOk, OnOk, drop, length, map, option_to_list, take};
-ghost use Rattle.std.specs.List.{flat_map};
-ghost use Rattle.std.specs.List.Sorted.{IsStrictlyIncreasing};
-ghost use Rattle.std.specs.Option.{option_copied};
-ghost use Rattle.ft_base.specs.declared.doc.Doc.{Doc};
-ghost use Rattle.ft_base.specs.declared.reply.Reply.TheVariants.{Array, Bulk, Number};
+ghost use Rattle.std.specs.Prelude.{◌≡◌, ◌<◌, ◌≤◌, ◌+◌, ◌^◌, ◌++◌, [], Some, IfOk, IsOk, OnOk, length, option_to_list, flat_map};
 ghost use Rattle.hash_store.specs.Store.{reads_after};
 ghost use Rattle.id_iters.specs.Held.{AreLists};
-ghost use Rattle.row_sort.specs.Order.{row_order};
-ghost use Rattle.row_sort.specs.Sorting.{sorted};
-ghost use Rattle.search_exec.specs.Candidates.{in_candidates, MayAsk};
-ghost use Rattle.search_exec.specs.Ids.{AreKnown, doc_at, docs_in};
+ghost use Rattle.search_exec.specs.Candidates.{in_candidates, AreWalkable, MayAsk, docs_counted};
+ghost use Rattle.search_exec.specs.Ids.{doc_at};
 ghost use Rattle.search_exec.specs.Pages.{reads_of, reads_shown};
-ghost use Rattle.search_exec.specs.Ranks.{AreRanked, docs_at, ranked_id};
+ghost use Rattle.search_exec.specs.Ranks.{AreAllRanked, offered, page_at, ranked_id, reads_at};
 ghost use Rattle.search_exec.specs.Shapes.{AreSeen, order_by, page_by, row_by};
 
 use crate::candidates::Candidates;
 use crate::facts::tell;
 use crate::replied_rows::counted;
-use crate::shape::{Shape, SortKey, push_row};
-use ft_base::{Bytes, ListOf, NoMemory, Reply, Steps, Value};
+use crate::shape::{Shape, SortKey, push_key, push_row};
+use ft_base::{ListOf, NoMemory, Reply, Steps, Value};
 use hash_store::HashStore;
 use id_iters::Lists;
 use row_sort::{FirstRows, Ranked};
@@ -28,7 +21,7 @@ use std::alloc::Global;
 use std::slice;
 use std::sync::ledger::Ledger;
 
-/// The reply of the documents of some ids, in the order of the numbers at a place of their sorting vectors. Only those that are
+/// The reply of the documents of some ids, in the order of the numbers in a column of their sorting vectors. Only those that are
 /// shown with their fields are read, each once.
 pub fn page_by_column<T: Lists, L: Ledger>(
     alloc: Global,
@@ -37,32 +30,27 @@ pub fn page_by_column<T: Lists, L: Ledger>(
     candidates: &mut Candidates,
     shape: &Shape<'_>,
     key: SortKey<'_>,
-    place: usize,
+    column: usize,
     steps: &mut Steps<L>,
 ) -> Result<Reply, NoMemory>
-    requires lists { AreLists (T.held lists.now) }
-    requires ready { MayAsk (T.held lists.now) candidates.old 1 }
-    requires known { AreKnown (in_candidates (T.held lists.now) candidates.old) store.old.space }
-    requires column { key.column ≡ Some place }
+    requires walkable { AreWalkable (T.held lists.now) candidates.old store.old.space }
+    requires column { key.column ≡ Some column }
     requires seen { AreSeen (in_candidates (T.held lists.now) candidates.old) (T.named lists.now).numbers key store.old.space }
     requires window { shape.now.offset + shape.now.num < 2 ^ 64 }
     ensures reply { IfOk result (λ reply. reply ≡ page_by shape.now
-        (order_by key.entry (docs_in (in_candidates (T.held lists.now) candidates.old) store.old.space))) }
+        (order_by key.entry (docs_counted (T.held lists.now) candidates.old store.old.space))) }
 
     // What is read.
     ensures reads { OnOk result (store.new.reads ≡ reads_after store.old.reads (reads_of shape.now
-        (length (docs_in (in_candidates (T.held lists.now) candidates.old) store.old.space)))) }
+        (length (docs_counted (T.held lists.now) candidates.old store.old.space)))) }
     ensures rises { store.old.reads ≤ store.new.reads }
-
-    ensures space { store.new.space ≡ store.old.space }
-    ensures ready { store.new.ready ≡ store.old.ready }
-    ensures last { store.new.last ≡ store.old.last }
+    ensures same { store.new ≡ record store.old { reads = store.new.reads } }
     ensures counts { steps.old ≤ steps.new }
 {
     tell(store);
     let keys = ListOf::from_vec(vec![in alloc; key.by]?);
     let mut first = FirstRows::new(alloc, keys, shape.offset + shape.num);
-    let total = offer_all(&mut first, alloc, lists, candidates, place, steps);
+    let total = offer_all(&mut first, alloc, lists, candidates, column, steps);
     first_page(alloc, total, first, store, shape)
 }
 
@@ -72,16 +60,14 @@ fn offer_all<T: Lists, L: Ledger>(
     alloc: Global,
     lists: &T,
     candidates: &mut Candidates,
-    place: usize,
+    column: usize,
     steps: &mut Steps<L>,
 ) -> Result<u64, NoMemory>
     requires none { first.old.rows ≡ [] }
     requires lists { AreLists (T.held lists.now) }
     requires ready { MayAsk (T.held lists.now) candidates.old 1 }
-    ensures ids { IfOk result (λ total. (docs : List Doc) → IsStrictlyIncreasing (map (λ doc. doc.id) docs)
-        → AreKnown (in_candidates (T.held lists.now) candidates.old) docs
-        → AreRanked (λ id. (T.named lists.now).numbers id place) first.old.by first.old.most total first.new.rows
-        (docs_in (in_candidates (T.held lists.now) candidates.old) docs)) }
+    ensures ids { IfOk result (λ total. AreAllRanked (in_candidates (T.held lists.now) candidates.old)
+        (λ id. (T.named lists.now).numbers id column) first.old total first.new) }
     ensures few { IfOk result (λ total. total < 2 ^ 63) }
     ensures counts { steps.old ≤ steps.new }
 {
@@ -89,7 +75,7 @@ fn offer_all<T: Lists, L: Ledger>(
     let mut total = 0;
     let mut from = 1;
     'asking: while let Some(id) = candidates.seek(lists, from, steps)? {
-        offer_id(first, alloc, lists, id, place, &mut near)?;
+        offer_id(first, alloc, lists, id, column, &mut near)?;
         total += 1;
         from = id + 1;
     }
@@ -102,15 +88,12 @@ fn offer_id<T: Lists>(
     alloc: Global,
     lists: &T,
     id: u64,
-    place: usize,
+    column: usize,
     near: &mut usize,
 ) -> Result<(), NoMemory>
-    ensures rows { OnOk result (first.new.rows ≡ take first.old.most (sorted (row_order first.old.by)
-        (first.old.rows ++ ranked_id (λ id. (T.named lists.now).numbers id place) id ∷ []))) }
-    ensures keys { OnOk result (first.new.by ≡ first.old.by) }
-    ensures most { OnOk result (first.new.most ≡ first.old.most) }
+    ensures rows { OnOk result (first.new ≡ offered first.old (ranked_id (λ id. (T.named lists.now).numbers id column) id)) }
 {
-    let number = lists.number_near(id, place, near);
+    let number = lists.number_near(id, column, near);
     let value = number.map_or(Value::Null, Value::Num);
     if first.turns_away(slice::from_ref(&value)) {
         return Ok(());
@@ -119,7 +102,7 @@ fn offer_id<T: Lists>(
     first.offer(Ranked { values, item: id })
 }
 
-// The reply of so many documents, where the ids of all were offered, of whose first those of the window are shown.
+// The same of what is ranked first, where the ids of all were offered.
 fn first_page(
     alloc: Global,
     total: Result<u64, NoMemory>,
@@ -130,22 +113,19 @@ fn first_page(
     requires few { IfOk total (λ total. total < 2 ^ 63) }
     requires bits { store.old.reads < 2 ^ 64 }
     ensures offered { IfOk result (λ reply. IsOk total) }
-    ensures reply { IfOk result (λ reply. IfOk total (λ total. reply ≡ Array (Number (pos total)
-        ∷ flat_map (row_by shape.now) (docs_at (drop shape.now.offset first.rows) store.old.space)))) }
-
-    ensures reads { OnOk result (store.new.reads ≡ reads_after store.old.reads (reads_shown shape.now
-        (length (docs_at (drop shape.now.offset first.rows) store.old.space)))) }
+    ensures reply { IfOk result (λ reply. IfOk total (λ total.
+        reply ≡ page_at shape.now total first.rows store.old.space)) }
+    ensures reads { OnOk result (store.new.reads
+        ≡ reads_after store.old.reads (reads_at shape.now first.rows store.old.space)) }
     ensures rises { store.old.reads ≤ store.new.reads }
-    ensures space { store.new.space ≡ store.old.space }
-    ensures ready { store.new.ready ≡ store.old.ready }
-    ensures last { store.new.last ≡ store.old.last }
+    ensures same { store.new ≡ record store.old { reads = store.new.reads } }
 {
     let total = total?;
     let rows = first.into_rows()?;
     show_rows(alloc, total, rows, store, shape)
 }
 
-// The reply of so many documents, of which those of the ids from a place on are shown.
+// The reply of so many documents, of which those are shown whose ids are ranked from the window's start on.
 fn show_rows(
     alloc: Global,
     total: u64,
@@ -155,15 +135,11 @@ fn show_rows(
 ) -> Result<Reply, NoMemory>
     requires few { total < 2 ^ 63 }
     requires bits { store.old.reads < 2 ^ 64 }
-    ensures reply { IfOk result (λ reply. reply ≡ Array (Number (pos total)
-        ∷ flat_map (row_by shape.now) (docs_at (drop shape.now.offset rows.items) store.old.space))) }
-
-    ensures reads { OnOk result (store.new.reads ≡ reads_after store.old.reads (reads_shown shape.now
-        (length (docs_at (drop shape.now.offset rows.items) store.old.space)))) }
+    ensures reply { IfOk result (λ reply. reply ≡ page_at shape.now total rows.items store.old.space) }
+    ensures reads { OnOk result (store.new.reads
+        ≡ reads_after store.old.reads (reads_at shape.now rows.items store.old.space)) }
     ensures rises { store.old.reads ≤ store.new.reads }
-    ensures space { store.new.space ≡ store.old.space }
-    ensures ready { store.new.ready ≡ store.old.ready }
-    ensures last { store.new.last ≡ store.old.last }
+    ensures same { store.new ≡ record store.old { reads = store.new.reads } }
 {
     let mut replies = counted(alloc, total, 1)?;
     'showing: for row in rows.into_iter().skip(shape.offset) {
@@ -184,27 +160,19 @@ fn show_id(
     ensures row { OnOk result (replies.new.items
         ≡ replies.old.items ++ flat_map (row_by shape.now) (option_to_list (doc_at id store.old.space))) }
 
-    ensures reads { store.new.reads ≡ reads_after store.old.reads
-        (reads_shown shape.now (length (option_to_list (doc_at id store.old.space)))) }
-    ensures space { store.new.space ≡ store.old.space }
-    ensures ready { store.new.ready ≡ store.old.ready }
-    ensures last { store.new.last ≡ store.old.last }
+    ensures reads { store.new ≡ record store.old {
+      reads = reads_after store.old.reads
+          (reads_shown shape.now (length (option_to_list (doc_at id store.old.space))));
+    } }
 {
     if shape.no_content {
-        return show_key(alloc, store.key_of(id), replies);
+        return match store.key_of(id) {
+            Some(key) => push_key(alloc, key, replies),
+            None => Ok(()),
+        };
     }
     match store.get_by_id(id) {
-        Some(doc) => push_row(alloc, shape, doc, replies),
+        Some(doc) => push_row(alloc, shape, doc.get(), replies),
         None => Ok(()),
     }
-}
-
-// Shows a key, where there is one.
-fn show_key(alloc: Global, key: Option<&[u8]>, replies: &mut Vec<Reply>) -> Result<(), NoMemory>
-    ensures { OnOk result (replies.new.items ≡ replies.old.items ++ map Bulk (option_to_list (option_copied key.entry))) }
-{
-    if let Some(key) = key {
-        replies.push(Reply::Bulk(Bytes::from_slice(alloc, key)?))?;
-    }
-    Ok(())
 }

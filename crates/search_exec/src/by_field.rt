@@ -1,17 +1,11 @@
 //! A search that is sorted by what stands in its documents: each is read once, and of all only the first rows are held, up to
 //! the end of the window.
-ghost use Rattle.std.specs.Prelude.{◌≡◌, ◌<◌, ◌≤◌, ◌+◌, ◌^◌, ◌∷◌, ◌++◌, [], Some, pos, IfOk, IsOk, IsSome, OnOk, drop, length, map, take};
-ghost use Rattle.std.specs.List.{flat_map};
-ghost use Rattle.std.specs.List.Sorted.{IsStrictlyIncreasing};
-ghost use Rattle.ft_base.specs.declared.doc.Doc.{Doc};
-ghost use Rattle.ft_base.specs.declared.reply.Reply.TheVariants.{Array, Number};
+ghost use Rattle.std.specs.Prelude.{◌≡◌, ◌<◌, ◌≤◌, ◌+◌, ◌^◌, ◌∷◌, [], IfOk, IsOk, IsSome, OnOk, length};
+ghost use Rattle.std.specs.Option.{ForSome};
 ghost use Rattle.hash_store.specs.Store.{reads_after};
-ghost use Rattle.id_iters.specs.Held.{AreLists};
-ghost use Rattle.row_sort.specs.Order.{row_order};
-ghost use Rattle.row_sort.specs.Sorting.{sorted};
-ghost use Rattle.search_exec.specs.Candidates.{in_candidates, MayAsk};
-ghost use Rattle.search_exec.specs.Ids.{AreKnown, doc_at, docs_in};
-ghost use Rattle.search_exec.specs.Ranks.{first_ranked, ranked};
+ghost use Rattle.search_exec.specs.Candidates.{AreWalkable, docs_counted};
+ghost use Rattle.search_exec.specs.Ids.{doc_at};
+ghost use Rattle.search_exec.specs.Ranks.{first_ranked, offered, page_from, ranked};
 ghost use Rattle.search_exec.specs.Shapes.{order_by, page_by, row_by, value_by};
 
 use crate::candidates::Candidates;
@@ -37,24 +31,18 @@ pub fn page_by_field<T: Lists, L: Ledger>(
     key: SortKey<'_>,
     steps: &mut Steps<L>,
 ) -> Result<Reply, NoMemory>
-    requires lists { AreLists (T.held lists.now) }
-    requires ready { MayAsk (T.held lists.now) candidates.old 1 }
-    requires known { AreKnown (in_candidates (T.held lists.now) candidates.old) store.old.space }
+    requires walkable { AreWalkable (T.held lists.now) candidates.old store.old.space }
     requires window { shape.now.offset + shape.now.num < 2 ^ 64 }
     ensures reply { IfOk result (λ reply. reply ≡ page_by shape.now
-        (order_by key.entry (docs_in (in_candidates (T.held lists.now) candidates.old) store.old.space))) }
+        (order_by key.entry (docs_counted (T.held lists.now) candidates.old store.old.space))) }
 
     // What is read.
     ensures reads { OnOk result (store.new.reads ≡ reads_after store.old.reads
-        (length (docs_in (in_candidates (T.held lists.now) candidates.old) store.old.space))) }
+        (length (docs_counted (T.held lists.now) candidates.old store.old.space))) }
     ensures rises { store.old.reads ≤ store.new.reads }
-
-    ensures space { store.new.space ≡ store.old.space }
-    ensures ready { store.new.ready ≡ store.old.ready }
-    ensures last { store.new.last ≡ store.old.last }
+    ensures same { store.new ≡ record store.old { reads = store.new.reads } }
     ensures counts { steps.old ≤ steps.new }
 {
-    tell(store);
     let keys = ListOf::from_vec(vec![in alloc; key.by]?);
     let mut first = FirstRows::new(alloc, keys, shape.offset + shape.num);
     let total = offer_all(
@@ -76,26 +64,20 @@ fn offer_all<T: Lists, L: Ledger>(
 ) -> Result<u64, NoMemory>
     requires none { first.old.rows ≡ [] }
     requires keys { first.old.by ≡ key.by ∷ [] }
-    requires rising { IsStrictlyIncreasing (map (λ doc. doc.id) store.old.space) }
-    requires bits { store.old.reads < 2 ^ 64 }
-    requires lists { AreLists (T.held lists.now) }
-    requires ready { MayAsk (T.held lists.now) candidates.old 1 }
-    requires known { AreKnown (in_candidates (T.held lists.now) candidates.old) store.old.space }
+    requires walkable { AreWalkable (T.held lists.now) candidates.old store.old.space }
     ensures rows { OnOk result (first.new.rows ≡ first_ranked shape.now key.entry first.old.most
-        (docs_in (in_candidates (T.held lists.now) candidates.old) store.old.space)) }
+        (docs_counted (T.held lists.now) candidates.old store.old.space)) }
     ensures total { IfOk result (λ total. total
-        ≡ length (docs_in (in_candidates (T.held lists.now) candidates.old) store.old.space)) }
+        ≡ length (docs_counted (T.held lists.now) candidates.old store.old.space)) }
     ensures few { IfOk result (λ total. total < 2 ^ 63) }
 
     ensures reads { OnOk result (store.new.reads ≡ reads_after store.old.reads
-        (length (docs_in (in_candidates (T.held lists.now) candidates.old) store.old.space))) }
+        (length (docs_counted (T.held lists.now) candidates.old store.old.space))) }
     ensures rises { store.old.reads ≤ store.new.reads }
-
-    ensures space { store.new.space ≡ store.old.space }
-    ensures ready { store.new.ready ≡ store.old.ready }
-    ensures last { store.new.last ≡ store.old.last }
+    ensures same { store.new ≡ record store.old { reads = store.new.reads } }
     ensures counts { steps.old ≤ steps.new }
 {
+    tell(store);
     let mut total = 0;
     let mut from = 1;
     'asking: while let Some(id) = candidates.seek(lists, from, steps)? {
@@ -116,19 +98,13 @@ fn offer_id(
     key: SortKey<'_>,
 ) -> Result<(), NoMemory>
     requires stored { IsSome (doc_at id store.old.space) }
-    ensures row { OnOk result ((doc : Doc) → doc_at id store.old.space ≡ Some doc
-        → first.new.rows ≡ take first.old.most
-        (sorted (row_order first.old.by) (first.old.rows ++ ranked shape.now key.entry doc ∷ []))) }
-    ensures keys { OnOk result (first.new.by ≡ first.old.by) }
-    ensures most { OnOk result (first.new.most ≡ first.old.most) }
-
-    ensures reads { store.new.reads ≡ reads_after store.old.reads 1 }
-    ensures space { store.new.space ≡ store.old.space }
-    ensures ready { store.new.ready ≡ store.old.ready }
-    ensures last { store.new.last ≡ store.old.last }
+    ensures row { OnOk result (ForSome (doc_at id store.old.space) (λ doc.
+        first.new ≡ offered first.old (ranked shape.now key.entry doc))) }
+    ensures rest { OnOk result (first.new ≡ record first.old { rows = first.new.rows }) }
+    ensures reads { store.new ≡ record store.old { reads = reads_after store.old.reads 1 } }
 {
     let doc = store.get_by_id(id).unwrap();
-    offer_doc(first, alloc, doc, shape, key)
+    offer_doc(first, alloc, doc.get(), shape, key)
 }
 
 // Offers the row of a document. It is made only where it may be among the first.
@@ -139,9 +115,7 @@ fn offer_doc(
     shape: &Shape<'_>,
     key: SortKey<'_>,
 ) -> Result<(), NoMemory>
-    ensures { OnOk result (first.new ≡ record first.old {
-      rows = take first.old.most (sorted (row_order first.old.by) (first.old.rows ++ ranked shape.now key.entry doc.now ∷ []));
-    }) }
+    ensures { OnOk result (first.new ≡ offered first.old (ranked shape.now key.entry doc.now)) }
 {
     let value = value_of(alloc, key, doc)?;
     if first.turns_away(slice::from_ref(&value)) {
@@ -181,7 +155,7 @@ fn value_of(alloc: Global, key: SortKey<'_>, doc: &Doc) -> Result<Value, NoMemor
     Ok(Value::Text(Bytes::from_slice(alloc, text)?))
 }
 
-// The reply of so many documents, where all were offered, of whose first rows those from a place on are shown.
+// The same of the rows that are ranked first, where those of all were offered.
 fn first_page(
     alloc: Global,
     total: Result<u64, NoMemory>,
@@ -190,15 +164,14 @@ fn first_page(
 ) -> Result<Reply, NoMemory>
     requires few { IfOk total (λ total. total < 2 ^ 63) }
     ensures offered { IfOk result (λ reply. IsOk total) }
-    ensures reply { IfOk result (λ reply. IfOk total (λ total. reply
-        ≡ Array (Number (pos total) ∷ flat_map (λ row. row.item) (drop offset first.rows)))) }
+    ensures reply { IfOk result (λ reply. IfOk total (λ total. reply ≡ page_from offset total first.rows)) }
 {
     let total = total?;
     let rows = first.into_rows()?;
     into_page(alloc, total, rows, offset)
 }
 
-// The reply of so many documents, of which the rows from a place on are shown.
+// The reply of so many documents, of which the rows from an offset on are shown.
 fn into_page(
     alloc: Global,
     total: u64,
@@ -206,8 +179,7 @@ fn into_page(
     offset: usize,
 ) -> Result<Reply, NoMemory>
     requires few { total < 2 ^ 63 }
-    ensures { IfOk result (λ reply. reply
-        ≡ Array (Number (pos total) ∷ flat_map (λ row. row.item) (drop offset rows.items))) }
+    ensures { IfOk result (λ reply. reply ≡ page_from offset total rows.items) }
 {
     let mut replies = counted(alloc, total, 1)?;
     'showing: for row in rows.into_iter().skip(offset) {

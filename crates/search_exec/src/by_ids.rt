@@ -1,10 +1,10 @@
 //! A search that isn't sorted: its documents in order of their ids. All are counted, and those of the window are shown.
 ghost use Rattle.std.specs.Prelude.{◌≡◌, ◌<◌, ◌≤◌, ◌+◌, ◌^◌, ◌∷◌, ◌++◌, [], ℕ, Some, List, IfOk, IsSome, OnOk, length};
+ghost use Rattle.std.specs.Option.{ForSome};
 ghost use Rattle.ft_base.specs.declared.doc.Doc.{Doc};
 ghost use Rattle.hash_store.specs.Store.{reads_after};
-ghost use Rattle.id_iters.specs.Held.{AreLists};
-ghost use Rattle.search_exec.specs.Candidates.{in_candidates, MayAsk};
-ghost use Rattle.search_exec.specs.Ids.{AreKnown, doc_at, docs_in};
+ghost use Rattle.search_exec.specs.Candidates.{AreWalkable, docs_counted};
+ghost use Rattle.search_exec.specs.Ids.{doc_at};
 ghost use Rattle.search_exec.specs.Pages.{Shows, reads_of};
 ghost use Rattle.search_exec.specs.Shapes.{page_by};
 
@@ -28,20 +28,15 @@ pub fn page_by_ids<T: Lists, L: Ledger>(
     shape: &Shape<'_>,
     steps: &mut Steps<L>,
 ) -> Result<Reply, NoMemory>
-    requires lists { AreLists (T.held lists.now) }
-    requires ready { MayAsk (T.held lists.now) candidates.old 1 }
-    requires known { AreKnown (in_candidates (T.held lists.now) candidates.old) store.old.space }
+    requires walkable { AreWalkable (T.held lists.now) candidates.old store.old.space }
     ensures reply { IfOk result (λ reply. reply
-        ≡ page_by shape.now (docs_in (in_candidates (T.held lists.now) candidates.old) store.old.space)) }
+        ≡ page_by shape.now (docs_counted (T.held lists.now) candidates.old store.old.space)) }
 
     // What is read.
     ensures reads { OnOk result (store.new.reads ≡ reads_after store.old.reads (reads_of shape.now
-        (length (docs_in (in_candidates (T.held lists.now) candidates.old) store.old.space)))) }
+        (length (docs_counted (T.held lists.now) candidates.old store.old.space)))) }
     ensures rises { store.old.reads ≤ store.new.reads }
-
-    ensures space { store.new.space ≡ store.old.space }
-    ensures ready { store.new.ready ≡ store.old.ready }
-    ensures last { store.new.last ≡ store.old.last }
+    ensures same { store.new ≡ record store.old { reads = store.new.reads } }
     ensures counts { steps.old ≤ steps.new }
 {
     let mut page = Page::new(alloc, shape.num)?;
@@ -60,20 +55,15 @@ fn note_all<T: Lists, L: Ledger>(
     steps: &mut Steps<L>,
 ) -> Result<(), NoMemory>
     requires none { Shows shape.now [] page.old }
-    requires lists { AreLists (T.held lists.now) }
-    requires ready { MayAsk (T.held lists.now) candidates.old 1 }
-    requires known { AreKnown (in_candidates (T.held lists.now) candidates.old) store.old.space }
+    requires walkable { AreWalkable (T.held lists.now) candidates.old store.old.space }
     ensures shown { OnOk result
-        (Shows shape.now (docs_in (in_candidates (T.held lists.now) candidates.old) store.old.space) page.new) }
+        (Shows shape.now (docs_counted (T.held lists.now) candidates.old store.old.space) page.new) }
     ensures few { OnOk result (page.new.total < 2 ^ 63) }
 
     ensures reads { OnOk result (store.new.reads ≡ reads_after store.old.reads (reads_of shape.now
-        (length (docs_in (in_candidates (T.held lists.now) candidates.old) store.old.space)))) }
+        (length (docs_counted (T.held lists.now) candidates.old store.old.space)))) }
     ensures rises { store.old.reads ≤ store.new.reads }
-
-    ensures space { store.new.space ≡ store.old.space }
-    ensures ready { store.new.ready ≡ store.old.ready }
-    ensures last { store.new.last ≡ store.old.last }
+    ensures same { store.new ≡ record store.old { reads = store.new.reads } }
     ensures counts { steps.old ≤ steps.new }
 {
     tell(store);
@@ -96,18 +86,15 @@ fn note_id(
     requires few { page.old.total < 2 ^ 62 }
     requires bits { store.old.reads < 2 ^ 64 }
     requires stored { IsSome (doc_at id store.old.space) }
-    ensures shown { OnOk result ((docs : List Doc) (doc : Doc) → doc_at id store.old.space ≡ Some doc
-        → Shows shape.now docs page.old → Shows shape.now (docs ++ doc ∷ []) page.new) }
+    ensures shown { OnOk result ((docs : List Doc) → ForSome (doc_at id store.old.space) (λ doc.
+        Shows shape.now docs page.old → Shows shape.now (docs ++ doc ∷ []) page.new)) }
     ensures total { OnOk result (page.new.total ≡ page.old.total + 1) }
 
     ensures reads { OnOk result ((start : ℕ)
         → store.old.reads ≡ reads_after start (reads_of shape.now page.old.total)
         → store.new.reads ≡ reads_after start (reads_of shape.now page.new.total)) }
     ensures rises { store.old.reads ≤ store.new.reads }
-
-    ensures space { store.new.space ≡ store.old.space }
-    ensures ready { store.new.ready ≡ store.old.ready }
-    ensures last { store.new.last ≡ store.old.last }
+    ensures same { store.new ≡ record store.old { reads = store.new.reads } }
 {
     if !page.shows_next(shape) {
         page.note_unseen();
@@ -118,5 +105,5 @@ fn note_id(
         return page.note_key(alloc, key);
     }
     let doc = store.get_by_id(id).unwrap();
-    page.note(alloc, shape, doc)
+    page.note(alloc, shape, doc.get())
 }

@@ -5,8 +5,8 @@ ghost use Rattle.search_exec.specs.Pages.{Shows, in_window};
 ghost use Rattle.search_exec.specs.Shapes.{page_by};
 ghost use Rattle.search_exec.specs.declared.shape.Shape.{Shape};
 
-use crate::shape::{Shape, push_row};
-use ft_base::{Bytes, Doc, ListOf, NoMemory, Reply};
+use crate::shape::{Shape, push_key, push_row};
+use ft_base::{Doc, ListOf, NoMemory, Reply};
 use std::alloc::Global;
 
 /// The most documents for whose rows there is room from the start: more than the ten that a search shows by default.
@@ -58,7 +58,7 @@ impl Page {
             → Shows shape docs self.old → Shows shape (docs ++ doc ∷ []) self.new) }
         ensures total { OnOk result (self.new.total ≡ self.old.total + 1) }
     {
-        self.rows.push(Reply::Bulk(Bytes::from_slice(alloc, key)?))?;
+        push_key(alloc, key, &mut self.rows)?;
         self.total += 1;
         Ok(())
     }

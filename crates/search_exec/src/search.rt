@@ -1,18 +1,13 @@
 //! What a search answers: which of the documents that an iterator finds count, in which order, and how they are shown.
-ghost use Rattle.std.specs.Prelude.{◌≡◌, ◌<◌, ◌≤◌, ◌+◌, ◌^◌, Some, IfOk, IsTrue, OnOk, length};
+ghost use Rattle.std.specs.Prelude.{◌≡◌, ◌<◌, ◌≤◌, ◌+◌, ◌^◌, IfOk, IfSome, IsTrue, OnOk, length};
 ghost use Rattle.cmd_parse.specs.Seen.{search_of};
 ghost use Rattle.ft_base.specs.Reply.{fits_wire};
-ghost use Rattle.ft_machine.specs.Counted.{in_order};
-ghost use Rattle.ft_machine.specs.Shown.{found_reply};
 ghost use Rattle.hash_store.specs.Store.{reads_after};
-ghost use Rattle.id_iters.specs.Held.{AreLists};
-ghost use Rattle.id_iters.specs.Ready.{Ready};
 ghost use Rattle.id_iters.specs.Sets.{in_set};
-ghost use Rattle.search_exec.specs.Candidates.{in_candidates, MayAsk};
-ghost use Rattle.search_exec.specs.Ids.{AreKnown, AreNumbered, docs_in, docs_of, reads_for};
+ghost use Rattle.search_exec.specs.Candidates.{in_candidates, AreWalkable, docs_counted};
+ghost use Rattle.search_exec.specs.Ids.{AreNumbered, IsWalkable, answer_over, docs_found, docs_of, reads_for};
 ghost use Rattle.search_exec.specs.Pages.{ordered_by, reads_by, reads_sorted};
 ghost use Rattle.search_exec.specs.Shapes.{AreSeen, SortsBy, order_by, page_by};
-ghost use Rattle.search_exec.specs.declared.shape.SortKey.{SortKey as Key};
 
 use crate::by_column::page_by_column;
 use crate::by_field::page_by_field;
@@ -38,24 +33,18 @@ pub fn search_reply<T: Lists, L: Ledger>(
     search: &SearchSpec<'_>,
     steps: &mut Steps<L>,
 ) -> Result<Reply, NoMemory>
-    requires lists { AreLists (T.held lists.now) }
-    requires ready { Ready (T.held lists.now) iter 1 }
-    requires known { AreKnown (in_set (T.held lists.now) iter) store.old.space }
+    requires walkable { IsWalkable (T.held lists.now) iter 0 store.old.space }
     requires numbered { AreNumbered (in_set (T.held lists.now) iter) (T.named lists.now).numbers def.now store.old.space }
     requires sorts { SortsBy def.now.fields (search_of search.now) }
-    ensures reply { IfOk result (λ reply. reply ≡ found_reply (search_of search.now) def.now
-        (in_order (search_of search.now).sort def.now
-        (docs_of (search_of search.now).keys (docs_in (in_set (T.held lists.now) iter) store.old.space)))) }
+    ensures reply { IfOk result (λ reply. reply ≡ answer_over (search_of search.now) def.now
+        (docs_of (search_of search.now).keys (docs_found (T.held lists.now) iter store.old.space))) }
     ensures fits { IfOk result (λ reply. IsTrue (fits_wire reply)) }
 
     // What is read.
     ensures reads { OnOk result (store.new.reads ≡ reads_after store.old.reads (reads_for (search_of search.now) def.now
-        (length (docs_of (search_of search.now).keys (docs_in (in_set (T.held lists.now) iter) store.old.space))))) }
+        (length (docs_of (search_of search.now).keys (docs_found (T.held lists.now) iter store.old.space))))) }
     ensures rises { store.old.reads ≤ store.new.reads }
-
-    ensures space { store.new.space ≡ store.old.space }
-    ensures ready { store.new.ready ≡ store.old.ready }
-    ensures last { store.new.last ≡ store.old.last }
+    ensures same { store.new ≡ record store.old { reads = store.new.reads } }
     ensures counts { steps.old ≤ steps.new }
 {
     let mut candidates = Candidates::new(alloc, lists, store, iter, &search.keys)?;
@@ -74,24 +63,18 @@ fn reply_of<T: Lists, L: Ledger>(
     search: &SearchSpec<'_>,
     steps: &mut Steps<L>,
 ) -> Result<Reply, NoMemory>
-    requires lists { AreLists (T.held lists.now) }
-    requires ready { MayAsk (T.held lists.now) candidates.old 1 }
-    requires known { AreKnown (in_candidates (T.held lists.now) candidates.old) store.old.space }
+    requires walkable { AreWalkable (T.held lists.now) candidates.old store.old.space }
     requires numbered { AreNumbered (in_candidates (T.held lists.now) candidates.old) (T.named lists.now).numbers def.now store.old.space }
     requires sorts { SortsBy def.now.fields (search_of search.now) }
-    ensures reply { IfOk result (λ reply. reply ≡ found_reply (search_of search.now) def.now
-        (in_order (search_of search.now).sort def.now
-        (docs_in (in_candidates (T.held lists.now) candidates.old) store.old.space))) }
+    ensures reply { IfOk result (λ reply. reply ≡ answer_over (search_of search.now) def.now
+        (docs_counted (T.held lists.now) candidates.old store.old.space)) }
     ensures fits { IfOk result (λ reply. IsTrue (fits_wire reply)) }
 
     // What is read.
     ensures reads { OnOk result (store.new.reads ≡ reads_after store.old.reads (reads_for (search_of search.now) def.now
-        (length (docs_in (in_candidates (T.held lists.now) candidates.old) store.old.space)))) }
+        (length (docs_counted (T.held lists.now) candidates.old store.old.space)))) }
     ensures rises { store.old.reads ≤ store.new.reads }
-
-    ensures space { store.new.space ≡ store.old.space }
-    ensures ready { store.new.ready ≡ store.old.ready }
-    ensures last { store.new.last ≡ store.old.last }
+    ensures same { store.new ≡ record store.old { reads = store.new.reads } }
     ensures counts { steps.old ≤ steps.new }
 {
     // These tell that the place behind the window has 64 bits.
@@ -111,23 +94,18 @@ fn page_by_shape<T: Lists, L: Ledger>(
     shape: &Shape<'_>,
     steps: &mut Steps<L>,
 ) -> Result<Reply, NoMemory>
-    requires lists { AreLists (T.held lists.now) }
-    requires ready { MayAsk (T.held lists.now) candidates.old 1 }
-    requires known { AreKnown (in_candidates (T.held lists.now) candidates.old) store.old.space }
-    requires seen { (key : Key) → shape.now.sort ≡ Some key
-        → AreSeen (in_candidates (T.held lists.now) candidates.old) (T.named lists.now).numbers key store.old.space }
+    requires walkable { AreWalkable (T.held lists.now) candidates.old store.old.space }
+    requires seen { IfSome shape.now.sort (λ key.
+        AreSeen (in_candidates (T.held lists.now) candidates.old) (T.named lists.now).numbers key store.old.space) }
     requires window { shape.now.offset + shape.now.num < 2 ^ 64 }
     ensures reply { IfOk result (λ reply. reply ≡ page_by shape.now
-        (ordered_by shape.now.sort (docs_in (in_candidates (T.held lists.now) candidates.old) store.old.space))) }
+        (ordered_by shape.now.sort (docs_counted (T.held lists.now) candidates.old store.old.space))) }
 
     // What is read.
     ensures reads { OnOk result (store.new.reads ≡ reads_after store.old.reads (reads_by shape.now shape.now.sort
-        (length (docs_in (in_candidates (T.held lists.now) candidates.old) store.old.space)))) }
+        (length (docs_counted (T.held lists.now) candidates.old store.old.space)))) }
     ensures rises { store.old.reads ≤ store.new.reads }
-
-    ensures space { store.new.space ≡ store.old.space }
-    ensures ready { store.new.ready ≡ store.old.ready }
-    ensures last { store.new.last ≡ store.old.last }
+    ensures same { store.new ≡ record store.old { reads = store.new.reads } }
     ensures counts { steps.old ≤ steps.new }
 {
     match shape.sort {
@@ -149,26 +127,21 @@ fn page_by_key<T: Lists, L: Ledger>(
     key: SortKey<'_>,
     steps: &mut Steps<L>,
 ) -> Result<Reply, NoMemory>
-    requires lists { AreLists (T.held lists.now) }
-    requires ready { MayAsk (T.held lists.now) candidates.old 1 }
-    requires known { AreKnown (in_candidates (T.held lists.now) candidates.old) store.old.space }
+    requires walkable { AreWalkable (T.held lists.now) candidates.old store.old.space }
     requires seen { AreSeen (in_candidates (T.held lists.now) candidates.old) (T.named lists.now).numbers key store.old.space }
     requires window { shape.now.offset + shape.now.num < 2 ^ 64 }
     ensures reply { IfOk result (λ reply. reply ≡ page_by shape.now
-        (order_by key.entry (docs_in (in_candidates (T.held lists.now) candidates.old) store.old.space))) }
+        (order_by key.entry (docs_counted (T.held lists.now) candidates.old store.old.space))) }
 
     // What is read.
     ensures reads { OnOk result (store.new.reads ≡ reads_after store.old.reads (reads_sorted shape.now key.entry
-        (length (docs_in (in_candidates (T.held lists.now) candidates.old) store.old.space)))) }
+        (length (docs_counted (T.held lists.now) candidates.old store.old.space)))) }
     ensures rises { store.old.reads ≤ store.new.reads }
-
-    ensures space { store.new.space ≡ store.old.space }
-    ensures ready { store.new.ready ≡ store.old.ready }
-    ensures last { store.new.last ≡ store.old.last }
+    ensures same { store.new ≡ record store.old { reads = store.new.reads } }
     ensures counts { steps.old ≤ steps.new }
 {
     match key.column {
-        Some(place) => page_by_column(alloc, lists, store, candidates, shape, key, place, steps),
+        Some(column) => page_by_column(alloc, lists, store, candidates, shape, key, column, steps),
         None => page_by_field(alloc, lists, store, candidates, shape, key, steps),
     }
 }

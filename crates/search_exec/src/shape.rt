@@ -1,10 +1,10 @@
 //! What a search shows, once its names are looked up in the index's definition: so none is looked up for a document.
-ghost use Rattle.std.specs.Prelude.{◌≡◌, ◌++◌, map, option_and_then, Some, IfOk, OnOk};
+ghost use Rattle.std.specs.Prelude.{◌≡◌, ◌∷◌, ◌++◌, [], map, option_and_then, Some, IfOk, OnOk};
 ghost use Rattle.std.specs.List.{find, flat_map};
 ghost use Rattle.std.specs.Option.{option_copied, option_map};
 ghost use Rattle.std.specs.Str.{bytes_eq};
 ghost use Rattle.cmd_parse.specs.Seen.{search_of, sort_of};
-ghost use Rattle.ft_base.specs.declared.reply.Reply.TheVariants.{Array};
+ghost use Rattle.ft_base.specs.declared.reply.Reply.TheVariants.{Array, Bulk};
 ghost use Rattle.ft_machine.specs.Shown.{bare_name, field_named};
 ghost use Rattle.search_exec.specs.Shapes.{IsShapeOf, column_for, column_named, fields_with, key_for, key_of_field, key_seen, pair_of, resolved, row_by, shown_in};
 
@@ -30,7 +30,7 @@ pub struct SortKey<'a> {
     pub field: &'a [u8],
     /// Whether values are compared as numbers.
     pub numeric: bool,
-    /// The place of its numbers in sorting vectors, if the index keeps them.
+    /// The column of sorting vectors with its numbers, if the index keeps them.
     pub column: Option<usize>,
     pub by: Direction,
 }
@@ -139,17 +139,17 @@ fn key_named<'a>(fields: &'a [Field], sort: &SortSpec<'a>) -> Option<SortKey<'a>
     }
 }
 
-/// The place in sorting vectors of the numbers of the field with an alias, if the index keeps them.
+/// The column of sorting vectors with the numbers of the field of an alias, if the index keeps them.
 fn column_named(fields: &[Field], alias: &[u8]) -> Option<usize>
     ensures { result ≡ column_named alias.now fields.now }
 {
-    let mut place = 0;
+    let mut column = 0;
     'fields: for field in fields {
         let kept = keeps_number(field);
         if alias == field.alias.as_slice() {
-            return if kept { Some(place) } else { None };
+            return if kept { Some(column) } else { None };
         }
-        place += usize::from(kept);
+        column += usize::from(kept);
     }
     None
 }
@@ -183,6 +183,14 @@ pub fn push_row(
     if !shape.no_content {
         rows.push(fields_shown(alloc, &shape.fields, &doc.hash)?)?;
     }
+    Ok(())
+}
+
+/// Shows a document by its key alone.
+pub fn push_key(alloc: Global, key: &[u8], rows: &mut Vec<Reply>) -> Result<(), NoMemory>
+    ensures { OnOk result (rows.new.items ≡ rows.old.items ++ Bulk key.now ∷ []) }
+{
+    rows.push(Reply::Bulk(Bytes::from_slice(alloc, key)?))?;
     Ok(())
 }
 

@@ -1,15 +1,12 @@
 //! A read of a stream: the rows of the next documents that an iterator finds.
-ghost use Rattle.std.specs.Prelude.{◌≡◌, ◌≤◌, ◌<◌, ◌+◌, ◌^◌, ◌++◌, [], length, map, option_to_list, true, false, None, Some, IfOk, IfSome, IsSome, OnOk};
+ghost use Rattle.std.specs.Prelude.{◌≡◌, ◌≤◌, ◌+◌, ◌++◌, [], length, option_to_list, IfOk, IfSome, IsSome, OnOk};
 ghost use Rattle.std.specs.List.{filter_map};
-ghost use Rattle.std.specs.List.Sorted.{IsStrictlyIncreasing};
-ghost use Rattle.ft_base.specs.declared.doc.Doc.{Doc};
+ghost use Rattle.std.specs.Option.{ForSome};
 ghost use Rattle.ft_machine.specs.Parts.{last_id, stream_row, stream_taken};
 ghost use Rattle.hash_store.specs.Store.{reads_after};
-ghost use Rattle.id_iters.specs.Held.{AreLists};
 ghost use Rattle.id_iters.specs.Least.{IsLeast};
-ghost use Rattle.id_iters.specs.Ready.{Ready};
 ghost use Rattle.id_iters.specs.Sets.{about, in_set};
-ghost use Rattle.search_exec.specs.Ids.{AreKnown, doc_at, docs_in};
+ghost use Rattle.search_exec.specs.Ids.{IsAskable, IsWalkable, doc_at, docs_found};
 
 use crate::facts::tell;
 use agg_pipeline::StreamSteps;
@@ -40,25 +37,19 @@ pub fn read_stream<T: Lists, L: Ledger>(
     count: u32,
     counter: &mut Steps<L>,
 ) -> Result<StreamRead, NoMemory>
-    requires lists { AreLists (T.held lists.now) }
-    requires ready { Ready (T.held lists.now) iter (after + 1) }
-    requires known { AreKnown (in_set (T.held lists.now) iter) store.old.space }
+    requires walkable { IsWalkable (T.held lists.now) iter after store.old.space }
     ensures rows { IfOk result (λ read. read.rows.items ≡ filter_map (stream_row def.now steps.now)
-        (stream_taken def.now steps.now after count (docs_in (in_set (T.held lists.now) iter) store.old.space))) }
+        (stream_taken def.now steps.now after count (docs_found (T.held lists.now) iter store.old.space))) }
     ensures after { IfOk result (λ read. read.after ≡ last_id after
-        (stream_taken def.now steps.now after count (docs_in (in_set (T.held lists.now) iter) store.old.space))) }
+        (stream_taken def.now steps.now after count (docs_found (T.held lists.now) iter store.old.space))) }
 
     // What is read.
     ensures reads { OnOk result (store.new.reads ≡ reads_after store.old.reads (length
-        (stream_taken def.now steps.now after count (docs_in (in_set (T.held lists.now) iter) store.old.space)))) }
+        (stream_taken def.now steps.now after count (docs_found (T.held lists.now) iter store.old.space)))) }
     ensures rises { store.old.reads ≤ store.new.reads }
-
-    ensures space { store.new.space ≡ store.old.space }
-    ensures ready { store.new.ready ≡ store.old.ready }
-    ensures last { store.new.last ≡ store.old.last }
+    ensures same { store.new ≡ record store.old { reads = store.new.reads } }
     ensures counts { counter.old ≤ counter.new }
 {
-    tell(store);
     let mut iter = iter;
     let mut rows = Vec::new(alloc);
     let read = take_docs(
@@ -89,52 +80,46 @@ fn take_docs<T: Lists, L: Ledger>(
     rows: &mut Vec<Row>,
     counter: &mut Steps<L>,
 ) -> Result<u64, NoMemory>
-    requires lists { AreLists (T.held lists.now) }
-    requires ready { Ready (T.held lists.now) iter.old (after + 1) }
-    requires known { AreKnown (in_set (T.held lists.now) iter.old) store.old.space }
-    requires rising { IsStrictlyIncreasing (map (λ doc. doc.id) store.old.space) }
-    requires bits { store.old.reads < 2 ^ 64 }
+    requires walkable { IsWalkable (T.held lists.now) iter.old after store.old.space }
     requires none { rows.old.items ≡ [] }
     ensures rows { OnOk result (rows.new.items ≡ filter_map (stream_row def.now steps.now)
-        (stream_taken def.now steps.now after count (docs_in (in_set (T.held lists.now) iter.old) store.old.space))) }
+        (stream_taken def.now steps.now after count (docs_found (T.held lists.now) iter.old store.old.space))) }
     ensures after { IfOk result (λ last. last ≡ last_id after
-        (stream_taken def.now steps.now after count (docs_in (in_set (T.held lists.now) iter.old) store.old.space))) }
+        (stream_taken def.now steps.now after count (docs_found (T.held lists.now) iter.old store.old.space))) }
 
     ensures reads { OnOk result (store.new.reads ≡ reads_after store.old.reads (length
-        (stream_taken def.now steps.now after count (docs_in (in_set (T.held lists.now) iter.old) store.old.space)))) }
+        (stream_taken def.now steps.now after count (docs_found (T.held lists.now) iter.old store.old.space)))) }
     ensures rises { store.old.reads ≤ store.new.reads }
-
-    ensures space { store.new.space ≡ store.old.space }
-    ensures ready { store.new.ready ≡ store.old.ready }
-    ensures last { store.new.last ≡ store.old.last }
+    ensures same { store.new ≡ record store.old { reads = store.new.reads } }
     ensures counts { counter.old ≤ counter.new }
 {
+    tell(store);
     let mut last = after;
-    'taking: while let Some(id) = next_id(lists, iter, last, rows.len() < count, counter)? {
+    'taking: while rows.len() < count {
+        let Some(id) = next_id(lists, iter, last, counter)? else {
+            break;
+        };
         take_doc(def, store, steps, id, rows)?;
         last = id;
     }
     Ok(last)
 }
 
-/// The next id behind another, if one is wanted.
+/// The next id behind another.
 fn next_id<T: Lists, L: Ledger>(
     lists: &T,
     iter: &mut Iter,
     last: u64,
-    wanted: bool,
     counter: &mut Steps<L>,
 ) -> Result<Option<u64>, NoMemory>
-    requires lists { AreLists (T.held lists.now) }
-    requires ready { Ready (T.held lists.now) iter.old (last + 1) }
-    ensures least { IfOk result (λ next. wanted ≡ true → IsLeast (in_set (T.held lists.now) iter.old) (last + 1) next) }
-    ensures unwanted { IfOk result (λ next. wanted ≡ false → next ≡ None) }
+    requires asked { IsAskable (T.held lists.now) iter.old last }
+    ensures least { IfOk result (λ next. IsLeast (in_set (T.held lists.now) iter.old) (last + 1) next) }
     ensures same { OnOk result (about (T.held lists.now) iter.new ≡ about (T.held lists.now) iter.old) }
-    ensures ready { IfOk result (λ next. IfSome next (λ id. Ready (T.held lists.now) iter.new (id + 1))) }
+    ensures asked { IfOk result (λ next. IfSome next (λ id. IsAskable (T.held lists.now) iter.new id)) }
     ensures counts { counter.old ≤ counter.new }
 {
     // Behind the last number there is no id.
-    if !wanted || last == u64::MAX {
+    if last == u64::MAX {
         return Ok(None);
     }
     iter.seek(lists, last + 1, counter)
@@ -149,13 +134,10 @@ fn take_doc(
     rows: &mut Vec<Row>,
 ) -> Result<(), NoMemory>
     requires stored { IsSome (doc_at id store.old.space) }
-    ensures row { OnOk result ((doc : Doc) → doc_at id store.old.space ≡ Some doc
-        → rows.new.items ≡ rows.old.items ++ option_to_list (stream_row def.now steps.now doc)) }
+    ensures row { OnOk result (ForSome (doc_at id store.old.space) (λ doc.
+        rows.new.items ≡ rows.old.items ++ option_to_list (stream_row def.now steps.now doc))) }
 
-    ensures reads { store.new.reads ≡ reads_after store.old.reads 1 }
-    ensures space { store.new.space ≡ store.old.space }
-    ensures ready { store.new.ready ≡ store.old.ready }
-    ensures last { store.new.last ≡ store.old.last }
+    ensures reads { store.new ≡ record store.old { reads = reads_after store.old.reads 1 } }
 {
     let doc = store.get_by_id(id).unwrap();
     if let Some(row) = steps.one(def, doc)? {

@@ -6,6 +6,7 @@ use crate::links::{
 use ft_server::{End, Exit};
 use resp_wire::WireFault;
 use std::alloc::Global;
+use std::random::RandomSource;
 use std::sync::Wait;
 
 const REPLIES: &[u8] = b":1\r\n:0\r\n-ERR not built\r\n-ERR unknown command\r\n";
@@ -21,7 +22,13 @@ const PLUS: &[u8] = b"-ERR Protocol error: expected '$', got '+'\r\n";
 const OTHER: &[u8] = b"-ERR Protocol error: expected '$', got '?'\r\n";
 
 /// Whether the texts are answered so, by whole pieces and by three bytes at once.
-fn is_answered<R: Wait>(rt: &R, alloc: Global, texts: &[&[u8]], want: &[u8], exit: Exit) -> bool {
+fn is_answered<R: RandomSource + Wait>(
+    rt: &R,
+    alloc: Global,
+    texts: &[&[u8]],
+    want: &[u8],
+    exit: Exit,
+) -> bool {
     let slow = Faults {
         read: 0,
         write: 0,
@@ -30,7 +37,7 @@ fn is_answered<R: Wait>(rt: &R, alloc: Global, texts: &[&[u8]], want: &[u8], exi
     is_run(rt, alloc, texts, &NONE, want, exit) && is_run(rt, alloc, texts, &slow, want, exit)
 }
 
-fn answers_commands<R: Wait>(rt: &R, alloc: Global) -> bool {
+fn answers_commands<R: RandomSource + Wait>(rt: &R, alloc: Global) -> bool {
     is_answered(
         rt,
         alloc,
@@ -55,7 +62,7 @@ fn answers_commands<R: Wait>(rt: &R, alloc: Global) -> bool {
         )
 }
 
-fn answers_faults<R: Wait>(rt: &R, alloc: Global) -> bool {
+fn answers_faults<R: RandomSource + Wait>(rt: &R, alloc: Global) -> bool {
     is_faulty(rt, alloc, &[b"*1\n$4\nPING\n*1\n$4\nPING\n"], COUNT)
         && is_faulty(
             rt,
@@ -68,7 +75,7 @@ fn answers_faults<R: Wait>(rt: &R, alloc: Global) -> bool {
         && is_faulty(rt, alloc, &[b"*1\r\n\x7f"], OTHER)
 }
 
-fn is_faulty<R: Wait>(rt: &R, alloc: Global, texts: &[&[u8]], want: &[u8]) -> bool {
+fn is_faulty<R: RandomSource + Wait>(rt: &R, alloc: Global, texts: &[&[u8]], want: &[u8]) -> bool {
     is_answered(rt, alloc, texts, want, Exit::Protocol)
 }
 
@@ -79,7 +86,7 @@ fn answers_each_command(rt: HostRuntime) {
 }
 
 /// Whether a link that gives the texts ends so.
-fn ends<R: Wait>(rt: &R, alloc: Global, texts: &[&[u8]], end: End) -> bool {
+fn ends<R: RandomSource + Wait>(rt: &R, alloc: Global, texts: &[&[u8]], end: End) -> bool {
     match link_of(alloc, texts, &NONE) {
         Some(mut link) => serve(rt, alloc, &mut link) == Some(end),
         None => false,
@@ -90,7 +97,7 @@ fn fault(at: u64, kind: WireFault) -> End {
     End::Protocol { at, kind }
 }
 
-fn ends_within<R: Wait>(rt: &R, alloc: Global) -> bool {
+fn ends_within<R: RandomSource + Wait>(rt: &R, alloc: Global) -> bool {
     ends(rt, alloc, &[HSET], End::Closed)
         && ends(rt, alloc, &[b"*1\r\n$4\r\nPI"], End::CutShort { left: 10 })
         && ends(rt, alloc, &[b"*65536\r\n"], End::CutShort { left: 8 })
@@ -98,7 +105,7 @@ fn ends_within<R: Wait>(rt: &R, alloc: Global) -> bool {
         && ends(rt, alloc, &[QUIT, b"x"], End::Quit)
 }
 
-fn ends_with_fault<R: Wait>(rt: &R, alloc: Global) -> bool {
+fn ends_with_fault<R: RandomSource + Wait>(rt: &R, alloc: Global) -> bool {
     let count = WireFault::MultiLength;
     let length = WireFault::BulkLength;
     let plus = WireFault::NoDollar { got: b'+' };
@@ -127,7 +134,7 @@ fn long_word(alloc: Global) -> Vec<u8> {
 }
 
 // Whether a command of 16 such words is refused at its seventeenth.
-fn is_refused_past<R: Wait>(rt: &R, alloc: Global, word: &[u8]) -> bool {
+fn is_refused_past<R: RandomSource + Wait>(rt: &R, alloc: Global, word: &[u8]) -> bool {
     let texts = [
         b"*17\r\n", word, word, word, word, word, word, word, word, word, word, word, word, word,
         word, word, word, b"$1\r\n",
@@ -159,7 +166,7 @@ fn bytes_behind_quit_are_not_executed(rt: HostRuntime) {
 }
 
 /// Whether the program refuses these words, and writes nothing to its link.
-fn is_refused<R: Wait>(rt: &R, alloc: Global, words: &[&str]) -> bool {
+fn is_refused<R: RandomSource + Wait>(rt: &R, alloc: Global, words: &[&str]) -> bool {
     match link_of(alloc, &[NOT_BUILT], &NONE) {
         Some(mut link) => {
             let ended = run_words(rt, alloc, words, &mut link);

@@ -3,6 +3,8 @@ use crate::plain::{Plain, nothing};
 use crate::session::{Session, begin_at};
 use crate::turns::{next, turn_of, write_line};
 use std::alloc::Global;
+use std::hash::RandomState;
+use std::test::Fail;
 
 /// Whether both answer one turn alike.
 fn agree(session: &mut Session, plain: &mut Plain, line: &mut Vec<u8>, seed: u64) -> bool {
@@ -32,8 +34,8 @@ fn agreeing(
 }
 
 /// The same for a new session; none where it finds no memory.
-fn agreed(alloc: Global, line: &mut Vec<u8>, seed: u64, turns: u64) -> u64 {
-    match begin_at(alloc, 1) {
+fn agreed(alloc: Global, hashing: RandomState, line: &mut Vec<u8>, seed: u64, turns: u64) -> u64 {
+    match begin_at(alloc, hashing, 1) {
         Some(mut session) => {
             let mut plain = nothing(alloc);
             agreeing(&mut session, &mut plain, line, seed, turns)
@@ -52,10 +54,10 @@ fn later(seed: u64, turns: u64) -> u64 {
 }
 
 /// How many of 300 short sessions from a seed on are answered alike until one is not.
-fn sessions_agreed(alloc: Global, line: &mut Vec<u8>, seed: u64) -> u64 {
+fn sessions_agreed(alloc: Global, hashing: RandomState, line: &mut Vec<u8>, seed: u64) -> u64 {
     let mut seed = seed;
     for session in 0..300 {
-        if agreed(alloc, line, seed, 50) != 50 {
+        if agreed(alloc, hashing, line, seed, 50) != 50 {
             return session;
         }
         seed = later(seed, 50);
@@ -64,8 +66,10 @@ fn sessions_agreed(alloc: Global, line: &mut Vec<u8>, seed: u64) -> u64 {
 }
 
 #[test]
-fn answers_as_a_plain_machine_does(rt: HostRuntime) {
+fn answers_as_a_plain_machine_does(rt: HostRuntime) -> Result<(), Fail> {
+    let hashing = RandomState::new(&rt)?;
     let mut line = Vec::new(rt.alloc());
-    assert!(rt; agreed(rt.alloc(), &mut line, 2_026, 600) == 600);
-    assert!(rt; sessions_agreed(rt.alloc(), &mut line, later(2_026, 600)) == 300);
+    assert!(rt; agreed(rt.alloc(), hashing, &mut line, 2_026, 600) == 600);
+    assert!(rt; sessions_agreed(rt.alloc(), hashing, &mut line, later(2_026, 600)) == 300);
+    Ok(())
 }

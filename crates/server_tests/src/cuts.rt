@@ -2,10 +2,16 @@
 use crate::links::{HSET, PING, is_served};
 use ft_server::End;
 use std::alloc::Global;
+use std::random::RandomSource;
 use std::sync::Wait;
 
 // Whether the bytes are answered so, each in a piece of its own.
-fn is_answered_in_singles<R: Wait>(rt: &R, alloc: Global, bytes: &[u8], want: &[u8]) -> bool {
+fn is_answered_in_singles<R: RandomSource + Wait>(
+    rt: &R,
+    alloc: Global,
+    bytes: &[u8],
+    want: &[u8],
+) -> bool {
     let mut singles = Vec::new(alloc);
     for i in 0..bytes.len() {
         let _ = singles.push(&bytes[i..i + 1]);
@@ -14,7 +20,12 @@ fn is_answered_in_singles<R: Wait>(rt: &R, alloc: Global, bytes: &[u8], want: &[
 }
 
 // Whether the bytes are answered so in every two pieces.
-fn is_answered_in_two<R: Wait>(rt: &R, alloc: Global, bytes: &[u8], want: &[u8]) -> bool {
+fn is_answered_in_two<R: RandomSource + Wait>(
+    rt: &R,
+    alloc: Global,
+    bytes: &[u8],
+    want: &[u8],
+) -> bool {
     for cut in 0..=bytes.len() {
         if !is_served(
             rt,
@@ -29,7 +40,7 @@ fn is_answered_in_two<R: Wait>(rt: &R, alloc: Global, bytes: &[u8], want: &[u8])
     true
 }
 
-fn is_answered<R: Wait>(rt: &R, alloc: Global, bytes: &[u8], want: &[u8]) -> bool {
+fn is_answered<R: RandomSource + Wait>(rt: &R, alloc: Global, bytes: &[u8], want: &[u8]) -> bool {
     is_answered_in_singles(rt, alloc, bytes, want) && is_answered_in_two(rt, alloc, bytes, want)
 }
 

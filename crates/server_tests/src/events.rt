@@ -3,6 +3,8 @@
 use crate::rows::{behind, cut, is_spelled};
 use crate::session::{Session, begin_at};
 use std::alloc::Global;
+use std::hash::RandomState;
+use std::test::Fail;
 
 /// What the rows of a table say.
 #[derive(Clone, Copy)]
@@ -182,12 +184,18 @@ fn holding(alloc: Global, session: &mut Session, table: Table, rows: &str) -> u6
 }
 
 /// The same for a new session that was asked some lines; for late commands its second event is the last.
-fn holding_behind(alloc: Global, fill: &[&[u8]], table: Table, rows: &str) -> u64 {
+fn holding_behind(
+    alloc: Global,
+    hashing: RandomState,
+    fill: &[&[u8]],
+    table: Table,
+    rows: &str,
+) -> u64 {
     let first = match table {
         Table::Late => LAST - 1,
         _ => 1,
     };
-    match begin_at(alloc, first) {
+    match begin_at(alloc, hashing, first) {
         Some(mut session) => {
             for line in fill {
                 session.ask(line, b'|');
@@ -199,21 +207,29 @@ fn holding_behind(alloc: Global, fill: &[&[u8]], table: Table, rows: &str) -> u6
 }
 
 #[test]
-fn an_abandoned_command_leaves_all_as_it_was(rt: HostRuntime) {
-    assert!(rt; holding_behind(rt.alloc(), &FILL, Table::Abandoned, ABANDONED) == 26);
+fn an_abandoned_command_leaves_all_as_it_was(rt: HostRuntime) -> Result<(), Fail> {
+    let hashing = RandomState::new(&rt)?;
+    assert!(rt; holding_behind(rt.alloc(), hashing, &FILL, Table::Abandoned, ABANDONED) == 26);
+    Ok(())
 }
 
 #[test]
-fn a_committed_command_is_seen(rt: HostRuntime) {
-    assert!(rt; holding_behind(rt.alloc(), &FILL, Table::Committed, COMMITTED) == 8);
+fn a_committed_command_is_seen(rt: HostRuntime) -> Result<(), Fail> {
+    let hashing = RandomState::new(&rt)?;
+    assert!(rt; holding_behind(rt.alloc(), hashing, &FILL, Table::Committed, COMMITTED) == 8);
+    Ok(())
 }
 
 #[test]
-fn an_abandoned_document_is_unseen(rt: HostRuntime) {
-    assert!(rt; holding_behind(rt.alloc(), &[], Table::Waiting, WAITING) == 18);
+fn an_abandoned_document_is_unseen(rt: HostRuntime) -> Result<(), Fail> {
+    let hashing = RandomState::new(&rt)?;
+    assert!(rt; holding_behind(rt.alloc(), hashing, &[], Table::Waiting, WAITING) == 18);
+    Ok(())
 }
 
 #[test]
-fn the_last_event_refuses_everything(rt: HostRuntime) {
-    assert!(rt; holding_behind(rt.alloc(), &[b"HSET|h|t|red"], Table::Late, LATE) == 10);
+fn the_last_event_refuses_everything(rt: HostRuntime) -> Result<(), Fail> {
+    let hashing = RandomState::new(&rt)?;
+    assert!(rt; holding_behind(rt.alloc(), hashing, &[b"HSET|h|t|red"], Table::Late, LATE) == 10);
+    Ok(())
 }

@@ -4,6 +4,7 @@ use crate::links::{
 };
 use ft_server::Exit;
 use std::alloc::Global;
+use std::random::RandomSource;
 use std::sync::Wait;
 
 const BOTH: &[u8] = b":1\r\n-ERR not built\r\n";
@@ -11,7 +12,14 @@ const BOTH: &[u8] = b":1\r\n-ERR not built\r\n";
 const FAULT: &[u8] = b":1\r\n-ERR Protocol error: invalid multibulk length\r\n";
 
 // Whether a run with one call that fails ends so, with so many bytes of both replies.
-fn is_ended<R: Wait>(rt: &R, alloc: Global, read: u64, write: u64, len: usize, exit: Exit) -> bool {
+fn is_ended<R: RandomSource + Wait>(
+    rt: &R,
+    alloc: Global,
+    read: u64,
+    write: u64,
+    len: usize,
+    exit: Exit,
+) -> bool {
     let faults = Faults {
         read,
         write,
@@ -37,7 +45,7 @@ fn a_failed_call_ends_the_run(rt: HostRuntime) {
 }
 
 /// Whether a run whose faulty request is answered by four bytes at once is cut at the write that fails.
-fn is_cut_at<R: Wait>(rt: &R, alloc: Global, write: u64) -> bool {
+fn is_cut_at<R: RandomSource + Wait>(rt: &R, alloc: Global, write: u64) -> bool {
     let faults = Faults {
         read: 0,
         write,
@@ -51,7 +59,7 @@ fn is_cut_at<R: Wait>(rt: &R, alloc: Global, write: u64) -> bool {
     is_run(rt, alloc, &[HSET, b"x"], &faults, want, exit)
 }
 
-fn is_cut_at_second<R: Wait>(rt: &R, alloc: Global) -> bool {
+fn is_cut_at_second<R: RandomSource + Wait>(rt: &R, alloc: Global) -> bool {
     let faults = Faults {
         read: 0,
         write: 2,
@@ -93,7 +101,7 @@ fn pieces_of<'a>(alloc: Global, bytes: &'a [u8]) -> Vec<&'a [u8]> {
 
 /// Whether a run of the session with one call that fails ends so. What was written before is the front of its replies, and
 /// all of them only where no call failed.
-fn is_front<R: Wait>(
+fn is_front<R: RandomSource + Wait>(
     rt: &R,
     alloc: Global,
     pieces: &[&[u8]],

@@ -8,6 +8,8 @@ use ft_base::{Bytes, ListOf};
 use ft_engine::Engine;
 use ft_server::{End, Exit, Pass, Server, run, serve_connection};
 use std::alloc::Global;
+use std::hash::RandomState;
+use std::random::RandomSource;
 use std::sync::Wait;
 
 /// A command that answers `:1`.
@@ -68,8 +70,13 @@ fn clock_of(alloc: Global) -> Option<ScriptedClock> {
     Some(ScriptedClock::new(moments))
 }
 
+/// What makes the hashes of keys; none where the system has no random bytes.
+fn hashing_of<R: RandomSource>(rt: &R) -> Option<RandomState> {
+    RandomState::new(rt).ok()
+}
+
 /// How the program ends with these words over a link.
-pub fn run_words<R: Wait>(
+pub fn run_words<R: RandomSource + Wait>(
     rt: &R,
     alloc: Global,
     texts: &[&str],
@@ -84,22 +91,28 @@ pub fn run_words<R: Wait>(
     run_over(rt, alloc, words.as_slice(), link)
 }
 
-fn run_over<R: Wait>(rt: &R, alloc: Global, words: &[String], link: &mut MemLink) -> Option<Exit> {
+fn run_over<R: RandomSource + Wait>(
+    rt: &R,
+    alloc: Global,
+    words: &[String],
+    link: &mut MemLink,
+) -> Option<Exit> {
+    let hashing = hashing_of(rt)?;
     let mut clock = clock_of(alloc)?;
-    Some(run(rt, alloc, words, link, &mut clock))
+    Some(run(rt, alloc, hashing, words, link, &mut clock))
 }
 
 /// A server that has had no event, and its first pass.
-pub fn server_of(alloc: Global) -> Option<(Server, Pass)>
+pub fn server_of(alloc: Global, hashing: RandomState) -> Option<(Server, Pass)>
     ensures { IfSome result (λ made. IsOf made.0 made.1) }
 {
-    let engine = Engine::new(alloc).ok()?;
+    let engine = Engine::new(alloc, hashing).ok()?;
     Server::open(alloc, engine).ok()
 }
 
 /// How a connection over a link ends, with a server of its own.
-pub fn serve<R: Wait>(rt: &R, alloc: Global, link: &mut MemLink) -> Option<End> {
-    let (server, pass) = server_of(alloc)?;
+pub fn serve<R: RandomSource + Wait>(rt: &R, alloc: Global, link: &mut MemLink) -> Option<End> {
+    let (server, pass) = server_of(alloc, hashing_of(rt)?)?;
     serve_as(rt, alloc, &server, pass, link)
 }
 
@@ -118,7 +131,7 @@ pub fn serve_as<R: Wait>(
 }
 
 /// Whether `script` over a link that gives the texts ends so, and the link took these bytes.
-pub fn is_run<R: Wait>(
+pub fn is_run<R: RandomSource + Wait>(
     rt: &R,
     alloc: Global,
     texts: &[&[u8]],
@@ -136,7 +149,13 @@ pub fn is_run<R: Wait>(
 }
 
 /// Whether a link that gives the texts is served to this end, and took these bytes.
-pub fn is_served<R: Wait>(rt: &R, alloc: Global, texts: &[&[u8]], want: &[u8], end: End) -> bool {
+pub fn is_served<R: RandomSource + Wait>(
+    rt: &R,
+    alloc: Global,
+    texts: &[&[u8]],
+    want: &[u8],
+    end: End,
+) -> bool {
     match link_of(alloc, texts, &NONE) {
         Some(mut link) => {
             let ended = serve(rt, alloc, &mut link);

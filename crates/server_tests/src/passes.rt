@@ -9,6 +9,7 @@ use ft_base::{Span, Words};
 use ft_engine::Engine;
 use ft_server::{End, Pass, Server, call};
 use std::alloc::Global;
+use std::hash::RandomState;
 use std::sync::Wait;
 use std::test::Fail;
 use std::thread::join;
@@ -40,8 +41,8 @@ fn is_served_as<R: Wait>(
 }
 
 /// Whether a command whose reply was cut was executed, as another caller sees.
-fn is_kept<R: Wait>(rt: &R, alloc: Global) -> bool {
-    let Some((server, mut pass)) = server_of(alloc) else {
+fn is_kept<R: Wait>(rt: &R, alloc: Global, hashing: RandomState) -> bool {
+    let Some((server, mut pass)) = server_of(alloc, hashing) else {
         return false;
     };
     let other = server.split(&mut pass);
@@ -72,8 +73,10 @@ fn is_kept<R: Wait>(rt: &R, alloc: Global) -> bool {
 }
 
 #[test]
-fn a_cut_reply_is_of_a_command_that_counts(rt: HostRuntime) {
-    assert!(rt; is_kept(&rt, rt.alloc()));
+fn a_cut_reply_is_of_a_command_that_counts(rt: HostRuntime) -> Result<(), Fail> {
+    let hashing = RandomState::new(&rt)?;
+    assert!(rt; is_kept(&rt, rt.alloc(), hashing));
+    Ok(())
 }
 
 /// A caller with its buffers, and how many of its replies were others than it wanted.
@@ -181,7 +184,8 @@ const TWO: [&[u8]; 3] = [b"HSET|two|f|a", b"HSET|two|f|b", b"HGET|two|f"];
 #[test]
 fn two_threads_find_their_own_values(rt: HostRuntime) -> Result<(), Fail> {
     let alloc = rt.alloc();
-    let (server, mut one) = Server::open(alloc, Engine::new(alloc)?)?;
+    let hashing = RandomState::new(&rt)?;
+    let (server, mut one) = Server::open(alloc, Engine::new(alloc, hashing)?)?;
     let two = server.split(&mut one);
     let (first, second) = join(
         &rt,
@@ -283,11 +287,11 @@ fn is_gone_for_both<R: Wait>(
 }
 
 /// The same of a server of its own.
-fn is_gone_for_all<R: Wait>(rt: &R, alloc: Global, is_deleted: bool) -> bool {
+fn is_gone_for_all<R: Wait>(rt: &R, alloc: Global, hashing: RandomState, is_deleted: bool) -> bool {
     let Some(mut caller) = new_caller(alloc) else {
         return false;
     };
-    match server_of(alloc) {
+    match server_of(alloc, hashing) {
         Some((server, mut one)) => {
             let two = server.split(&mut one);
             is_gone_for_both(rt, &server, one, two, &mut caller, is_deleted)
@@ -297,7 +301,9 @@ fn is_gone_for_all<R: Wait>(rt: &R, alloc: Global, is_deleted: bool) -> bool {
 }
 
 #[test]
-fn a_cursor_is_of_all_callers(rt: HostRuntime) {
-    assert!(rt; is_gone_for_all(&rt, rt.alloc(), false));
-    assert!(rt; is_gone_for_all(&rt, rt.alloc(), true));
+fn a_cursor_is_of_all_callers(rt: HostRuntime) -> Result<(), Fail> {
+    let hashing = RandomState::new(&rt)?;
+    assert!(rt; is_gone_for_all(&rt, rt.alloc(), hashing, false));
+    assert!(rt; is_gone_for_all(&rt, rt.alloc(), hashing, true));
+    Ok(())
 }

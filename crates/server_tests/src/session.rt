@@ -11,6 +11,7 @@ use cmd_parse::{Command, read_command};
 use ft_base::{Span, Words};
 use ft_engine::Engine;
 use std::alloc::Global;
+use std::hash::RandomState;
 
 /// The most bytes of a line, and the most words.
 const LINE: usize = 200;
@@ -26,12 +27,12 @@ pub struct Session {
 }
 
 /// A session whose first event has this number; none where memory runs out.
-pub fn begin_at(alloc: Global, first: u64) -> Option<Session>
+pub fn begin_at(alloc: Global, hashing: RandomState, first: u64) -> Option<Session>
     requires least { 1 ≤ first }
     requires most { first ≤ 2 ^ 62 }
 {
     let reply = Vec::with_capacity(alloc, 64).ok()?;
-    let engine = Engine::open_at(alloc, first).ok()?;
+    let engine = Engine::open_at(alloc, hashing, first).ok()?;
     Some(Session {
         engine,
         spans: Vec::new(alloc),
@@ -103,8 +104,8 @@ fn end(
     writes
 }
 
-/// Writes where the words of a line begin and end, which has one such byte between each two. A word for which memory is
-/// wanting is left out.
+/// Writes where the words of a line begin and end, which has one such byte between each two. A word for which memory
+/// ran out is left out.
 pub fn part(line: &[u8], separator: u8, spans: &mut Vec<Span>) {
     spans.clear();
     let mut from = 0;

@@ -5,6 +5,7 @@ use crate::turns::{put, put_line};
 use ft_base::put_int;
 use ft_server::Exit;
 use std::alloc::Global;
+use std::random::RandomSource;
 use std::sync::Wait;
 
 fn put_word(out: &mut Vec<u8>, word: &[u8]) {
@@ -94,7 +95,12 @@ fn replies(alloc: Global, bytes: &[u8]) -> Vec<u8> {
 }
 
 /// Whether the requests are answered so.
-fn is_answered<R: Wait>(rt: &R, alloc: Global, requests: &[u8], replies: &[u8]) -> bool {
+fn is_answered<R: RandomSource + Wait>(
+    rt: &R,
+    alloc: Global,
+    requests: &[u8],
+    replies: &[u8],
+) -> bool {
     let faults = Faults {
         read: 0,
         write: 0,

@@ -1,12 +1,11 @@
 //! Posting lists by word.
-ghost use Rattle.std.specs.Prelude.{◌≡◌, ◌<◌, ◌≤◌, ◌+◌, ◌^◌, [], None, Some, false, is_some, length, IfOk, IfNone, IfSome, IsSome, IsTrue, OnOk, OnErr, if◌then◌else◌};
-ghost use Rattle.std.specs.Option.{option_copied};
+ghost use Rattle.std.specs.Prelude.{◌≡◌, ◌<◌, ◌≤◌, ◌+◌, ◌^◌, [], None, Some, false, is_some, length, IfOk, IfNone, IfSome, IsSome, IsTrue, OnOk, OnErr, if◌then◌else◌, option_copied};
 ghost use Rattle.std.specs.Map.{keys_of};
 ghost use Rattle.std.specs.Range.Bound.{bound_map};
 ghost use Rattle.inverted_list.specs.Listing.{RisesAbove, last_id, with_entry};
 ghost use Rattle.term_dict.specs.Rows.{lists_of};
 ghost use Rattle.term_dict.specs.Starts.{start_of, words_from, first_with};
-ghost use Rattle.term_dict.specs.Terms.{Sets, WordsRise, IdsRise, list_of, entries_of, entries_in_all, bare, fresh_list, list_or_fresh, next_word, is_drained};
+ghost use Rattle.term_dict.specs.Terms.{Lists, Sets, WordsRise, IdsRise, list_of, entries_of, entries_in_all, bare, fresh_list, list_or_fresh, next_word, is_drained};
 
 use ft_base::NoMemory;
 use inverted_list::{List, Markers};
@@ -25,12 +24,7 @@ pub struct Dictionary<P: Payload> {
 }
 
 impl<P: Payload> Model for Dictionary<P> {
-    ghost use Rattle.term_dict.specs.Terms.{Lists};
-
     ghost Value = { Lists P };
-
-    ghost use Rattle.term_dict.specs.Terms.{IdsRise};
-    ghost use Rattle.term_dict.specs.Rows.{lists_of};
 
     ghost view = { λ d. lists_of d.lists.entries };
 

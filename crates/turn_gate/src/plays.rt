@@ -2,7 +2,10 @@
 //!
 //! A step sees neither its seat's number nor an argument of its call. So what it has to name of these is picked by each
 //! call, as the ghost members of a type parameter.
-ghost use Rattle.std.specs.Prelude.{◌≡◌, ℕ, List};
+ghost use Rattle.std.specs.Prelude.{◌≡◌, ℕ, List, []};
+ghost use Rattle.turn_gate.specs.Rule.{Kept};
+ghost use Rattle.turn_gate.specs.Steps.{tried, logged, gave_back, counted, compared, checked};
+ghost use Rattle.turn_gate.specs.Views.{newcomer, not_alone, another, joined, nobody};
 
 use crate::chronicle::Chronicle;
 use crate::view::View;
@@ -17,8 +20,6 @@ pub trait Picked<E> {
 }
 
 impl<E> Picked<E> for Brand {
-    ghost use Rattle.std.specs.Prelude.{[]};
-
     ghost caller = { 0 };
 
     ghost added = { [] };
@@ -28,9 +29,6 @@ impl<E> Picked<E> for Brand {
 pub struct Lock;
 
 impl<S: Chronicle> TableRule<Option<S>, View<S::Entry>, u64> for Lock {
-    ghost use Rattle.turn_gate.specs.Rule.{Kept};
-    ghost use Rattle.turn_gate.specs.Views.{newcomer};
-
     ghost holds = { λ first. Kept S.Entry.caller S.tells first };
 
     ghost first = { newcomer };
@@ -42,8 +40,6 @@ pub struct Try<B> {
 }
 
 impl<S: Chronicle, B: Picked<S::Entry>> Play<Option<S>, View<S::Entry>> for Try<B> {
-    ghost use Rattle.turn_gate.specs.Steps.{tried};
-
     ghost then = { tried S.Entry.caller S.tells B.caller };
 }
 
@@ -53,8 +49,6 @@ pub struct Log<B> {
 }
 
 impl<S: Chronicle, B: Picked<S::Entry>> Play<Option<S>, View<S::Entry>> for Log<B> {
-    ghost use Rattle.turn_gate.specs.Steps.{logged};
-
     ghost then = { logged B.added };
 }
 
@@ -62,8 +56,6 @@ impl<S: Chronicle, B: Picked<S::Entry>> Play<Option<S>, View<S::Entry>> for Log<
 pub struct GiveBack;
 
 impl<E, S> Play<Option<S>, View<E>> for GiveBack {
-    ghost use Rattle.turn_gate.specs.Steps.{gave_back};
-
     ghost then = { gave_back };
 }
 
@@ -73,8 +65,6 @@ pub struct Count<B> {
 }
 
 impl<S: Chronicle, B: Picked<S::Entry>> Play<Option<S>, View<S::Entry>> for Count<B> {
-    ghost use Rattle.turn_gate.specs.Steps.{counted};
-
     ghost then = { counted B.caller };
 }
 
@@ -84,8 +74,6 @@ pub struct Compare<B> {
 }
 
 impl<S: Chronicle, B: Picked<S::Entry>> Play<Option<S>, View<S::Entry>> for Compare<B> {
-    ghost use Rattle.turn_gate.specs.Steps.{compared};
-
     ghost then = { compared B.caller };
 }
 
@@ -93,8 +81,6 @@ impl<S: Chronicle, B: Picked<S::Entry>> Play<Option<S>, View<S::Entry>> for Comp
 pub struct Check;
 
 impl<E, S> Play<Option<S>, View<E>> for Check {
-    ghost use Rattle.turn_gate.specs.Steps.{checked};
-
     ghost then = { checked };
 }
 
@@ -102,16 +88,12 @@ impl<E, S> Play<Option<S>, View<E>> for Check {
 pub struct Passes;
 
 impl<E> Split<View<E>> for Passes {
-    ghost use Rattle.turn_gate.specs.Views.{not_alone, another};
-
     ghost left = { not_alone };
 
     ghost right = { another };
 }
 
 impl<E> Join<View<E>> for Passes {
-    ghost use Rattle.turn_gate.specs.Views.{joined, nobody};
-
     ghost both = { joined };
 
     ghost spent = { nobody };

@@ -10,6 +10,7 @@ use ft_base::NoMemory;
 use ft_engine::Engine;
 use ft_server::{Pass, Server};
 use std::alloc::Global;
+use std::hash::RandomState;
 use std::sync::Arc;
 
 /// The jobs, room for what runs, and room for what is handed back.
@@ -22,6 +23,7 @@ pub(crate) struct Room<D, C, H> {
 /// Opens a server, makes a worker for each door, and takes room for what they come to.
 pub(crate) fn take_room<D: Drop, C: Drop, H: Drop>(
     alloc: Global,
+    hashing: RandomState,
     doors: Vec<D>,
     clocks: Vec<C>,
 ) -> Result<Room<D, C, H>, NoMemory>
@@ -35,7 +37,7 @@ pub(crate) fn take_room<D: Drop, C: Drop, H: Drop>(
         × (length doors.items ≤ vec_capacity room.works)) }
 {
     let count = doors.len();
-    let workers = make_jobs(alloc, doors, clocks)?;
+    let workers = make_jobs(alloc, hashing, doors, clocks)?;
     let running = Vec::with_capacity(alloc, count)?;
     let works = Vec::with_capacity(alloc, count)?;
     Ok(Room {
@@ -48,6 +50,7 @@ pub(crate) fn take_room<D: Drop, C: Drop, H: Drop>(
 /// A new server, and a worker of it for each door.
 fn make_jobs<D: Drop, C: Drop>(
     alloc: Global,
+    hashing: RandomState,
     doors: Vec<D>,
     clocks: Vec<C>,
 ) -> Result<Vec<Work<D, C>>, NoMemory>
@@ -56,17 +59,17 @@ fn make_jobs<D: Drop, C: Drop>(
         × (workers.items ≡ jobs.workers)) }
     ensures count { IfOk result (λ workers. length workers.items ≡ length doors.items) }
 {
-    let (server, mut pass) = open(alloc)?;
+    let (server, mut pass) = open(alloc, hashing)?;
     make_workers(alloc, &server, &mut pass, doors, clocks)
 }
 
 /// A new server whose first event has the number 1, and its first pass.
-fn open(alloc: Global) -> Result<(Arc<Server, Global>, Pass), NoMemory>
+fn open(alloc: Global, hashing: RandomState) -> Result<(Arc<Server, Global>, Pass), NoMemory>
     ensures first { IfOk result (λ r. (arc_value r.0).first ≡ 1) }
     ensures of { IfOk result (λ r. IsOf (arc_value r.0) r.1) }
     ensures seen { IfOk result (λ r. r.1.seen ≡ []) }
 {
-    let (server, pass) = Server::open(alloc, Engine::new(alloc)?)?;
+    let (server, pass) = Server::open(alloc, Engine::new(alloc, hashing)?)?;
     Ok((Arc::new(alloc, server)?, pass))
 }
 

@@ -13,12 +13,14 @@ use fs_ports::{Clock, Door, Pace, Spawner};
 use ft_base::ListOf;
 use ft_server::{Exit, Form, WordFault, read_words};
 use std::alloc::Global;
+use std::hash::RandomState;
 use std::sync::Wait;
 use std::thread::Threads;
 
 /// Serves the links of all doors, each by a worker of its own, and hands back what the workers did.
 ///
-/// The words ask for it. Nothing runs in the background yet, so the pace is never asked.
+/// The words ask for it. Keys are found by hashes that `hashing` makes. Nothing runs in the background yet, so the pace is
+/// never asked.
 pub fn serve<
     D: Door + Send + Drop + 'static,
     S: Spawner<Work<D, C>>,
@@ -28,6 +30,7 @@ pub fn serve<
 >(
     rt: &R,
     alloc: Global,
+    hashing: RandomState,
     words: &[String],
     doors: Vec<D>,
     spawner: &mut S,
@@ -51,7 +54,7 @@ pub fn serve<
     drop(pace);
     match refusal(alloc, words) {
         Some(exit) => (exit, ListOf::new(alloc)),
-        None => serve_doors(rt, alloc, doors, spawner, clocks),
+        None => serve_doors(rt, alloc, hashing, doors, spawner, clocks),
     }
 }
 
@@ -77,6 +80,7 @@ fn serve_doors<
 >(
     rt: &R,
     alloc: Global,
+    hashing: RandomState,
     doors: Vec<D>,
     spawner: &mut S,
     clocks: Vec<C>,
@@ -90,7 +94,7 @@ fn serve_doors<
     ensures usage { result.0 ≡ Exit.Usage → ⊥ }
     ensures none { result.0 ≡ Exit.NoMemory → spawner.new ≡ spawner.old }
 {
-    match take_room(alloc, doors, clocks) {
+    match take_room(alloc, hashing, doors, clocks) {
         Ok(room) => run_all(rt, spawner, room),
         Err(_) => (Exit::NoMemory, ListOf::new(alloc)),
     }

@@ -8,7 +8,9 @@ use fs_ports::{CountedPace, MemDoor, MemLink, MemSpawner, ScriptedClock};
 use ft_base::{Bytes, ListOf, NoMemory};
 use ft_server::Exit;
 use std::alloc::Global;
+use std::hash::RandomState;
 use std::sync::Wait;
+use std::test::Fail;
 use std::thread::Threads;
 
 type Back = Worked<MemDoor<MemLink>, ScriptedClock>;
@@ -83,6 +85,7 @@ fn clocks(alloc: Global) -> Result<Vec<ScriptedClock>, NoMemory>
 fn served<R: Threads + Wait + Sync + Copy + Drop>(
     rt: &R,
     alloc: Global,
+    hashing: RandomState,
     texts: &[&str],
     doors: Vec<MemDoor<MemLink>>,
     fail_start: u64,
@@ -97,6 +100,7 @@ fn served<R: Threads + Wait + Sync + Copy + Drop>(
     Ok(serve(
         rt,
         alloc,
+        hashing,
         words.as_slice(),
         doors,
         &mut spawner,
@@ -128,6 +132,7 @@ fn write_links(all: &mut Vec<u8>, links: &[MemLink]) -> Result<(), NoMemory> {
 fn ends<R: Threads + Wait + Sync + Copy + Drop>(
     rt: &R,
     alloc: Global,
+    hashing: RandomState,
     texts: &[&str],
     fails: (u64, u64),
     want: (Exit, usize, &str),
@@ -135,7 +140,7 @@ fn ends<R: Threads + Wait + Sync + Copy + Drop>(
     let Ok(doors) = doors(alloc, fails.1) else {
         return false;
     };
-    match served(rt, alloc, texts, doors, fails.0) {
+    match served(rt, alloc, hashing, texts, doors, fails.0) {
         Ok((exit, works)) => {
             exit == want.0 && works.len() == want.1 && are_written(alloc, works.as_slice(), want.2)
         }
@@ -158,16 +163,43 @@ const CUT: &str = ":1\r\n|$1\r\nx\r\n|$1\r\nx\r\n|";
 const BOTH: &str = ":1\r\n|$1\r\nx\r\n|$1\r\nx\r\n|+OK\r\n|";
 
 // Whether it ends in each way that it can.
-fn ends_each_way<R: Threads + Wait + Sync + Copy + Drop>(rt: &R, alloc: Global) -> bool {
+fn ends_each_way<R: Threads + Wait + Sync + Copy + Drop>(
+    rt: &R,
+    alloc: Global,
+    hashing: RandomState,
+) -> bool {
     let texts = ["serve", "7777", "2"];
-    ends(rt, alloc, &texts, (0, 0), (Exit::Done, 2, BOTH))
-        && ends(rt, alloc, &texts, (0, 2), (Exit::DoorFault, 2, CUT))
-        && ends(rt, alloc, &texts, (1, 2), (Exit::NoThread, 0, ""))
-        && ends(rt, alloc, &texts, (2, 2), (Exit::NoThread, 1, FIRST))
-        && ends(rt, alloc, &["script"], (0, 0), (Exit::Usage, 0, ""))
+    ends(rt, alloc, hashing, &texts, (0, 0), (Exit::Done, 2, BOTH))
+        && ends(
+            rt,
+            alloc,
+            hashing,
+            &texts,
+            (0, 2),
+            (Exit::DoorFault, 2, CUT),
+        )
+        && ends(rt, alloc, hashing, &texts, (1, 2), (Exit::NoThread, 0, ""))
+        && ends(
+            rt,
+            alloc,
+            hashing,
+            &texts,
+            (2, 2),
+            (Exit::NoThread, 1, FIRST),
+        )
+        && ends(
+            rt,
+            alloc,
+            hashing,
+            &["script"],
+            (0, 0),
+            (Exit::Usage, 0, ""),
+        )
 }
 
 #[test]
-fn each_way_to_end(rt: HostRuntime) {
-    assert!(rt; ends_each_way(&rt, rt.alloc()));
+fn each_way_to_end(rt: HostRuntime) -> Result<(), Fail> {
+    let hashing = RandomState::new(&rt)?;
+    assert!(rt; ends_each_way(&rt, rt.alloc(), hashing));
+    Ok(())
 }

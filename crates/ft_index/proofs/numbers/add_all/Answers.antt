@@ -1,7 +1,5 @@
-use Rattle.std.proofs.Common.{List, Option, sym, subst}
-use Rattle.ft_base.specs.declared.definition.IndexDef.{IndexDef}
-use Rattle.numeric_ranges.specs.Ranges.{Rows}
-use Rattle.ft_index.specs.Adding.{IsUnseen, RangesHaveAll}
+use Rattle.std.proofs.Common.{sym, subst}
+use Rattle.ft_index.specs.Adding.{RangesUnseen}
 use Rattle.ft_index.specs.Markers.{range_marker}
 use Rattle.ft_index.proofs.NumberLaws.{gain-next, gain-unseen}
 use Rattle.ft_index.proofs.TakingLaws.{before-taken, takes-again}
@@ -13,7 +11,7 @@ add_field-requires-clause-before c =
 
 pub returns-in_err-add_field-clause-unseen : goal.returns-in_err-add_field-clause-unseen
 returns-in_err-add_field-clause-unseen c =
-    subst (λ (ranges : List (Option Rows)). (def : IndexDef) → IsUnseen c.args.doc.now.id (RangesHaveAll def c.args.ranges.now) (RangesHaveAll def ranges)) (sym c.in_err-add_field.ensures.err) c.loop-number.invariant.unseen
+    subst (RangesUnseen c.args.doc.now.id c.args.ranges.now) (sym c.in_err-add_field.ensures.err) c.loop-number.invariant.unseen
 
 pub returns-in_err-add_field-clause-takes : goal.returns-in_err-add_field-clause-takes
 returns-in_err-add_field-clause-takes c =

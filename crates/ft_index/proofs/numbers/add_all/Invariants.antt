@@ -1,9 +1,7 @@
 use Rattle.std.proofs.Common.{take}
-use Rattle.ft_base.specs.declared.definition.IndexDef.{IndexDef}
-use Rattle.ft_index.specs.Adding.{IsUnseen, RangesHaveAll}
-use Rattle.ft_index.specs.Markers.{range_marker}
+use Rattle.ft_index.specs.Adding.{RangesUnseen}
+use Rattle.ft_index.specs.Markers.{TakesMarkers, range_marker}
 use Rattle.ft_index.specs.Numbering.{RangesGain}
-use Rattle.ft_index.specs.Taking.{TakesMarkers}
 use Rattle.ft_index.specs.UpTo.{RangesUpTo}
 use Rattle.ft_index.proofs.numbers.add_all.Given as goal
 
@@ -11,7 +9,7 @@ use Rattle.ft_index.proofs.numbers.add_all.Given as goal
 abbrev pub invariant-loop-number : goal.invariant-loop-number
 invariant-loop-number l = record {
   added : RangesGain (take l.number l.fields) l.doc l.fn.ranges l.ranges;
-  unseen : (def : IndexDef) → IsUnseen l.doc.id (RangesHaveAll def l.fn.ranges) (RangesHaveAll def l.ranges);
+  unseen : RangesUnseen l.doc.id l.fn.ranges l.ranges;
   up_to : RangesUpTo l.doc.id l.ranges;
   takes : TakesMarkers l.fn.markers l.markers (range_marker l.fn.ranges) (range_marker l.ranges);
 }

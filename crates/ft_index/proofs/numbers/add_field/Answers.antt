@@ -2,9 +2,8 @@ use Rattle.std.proofs.Common.{◌<◌, ℕ, length, IfSome, set, slice_index_or,
 use Rattle.std.proofs.lemmas.Result.{on_ok_weaker}
 use Rattle.numeric_ranges.specs.Ranges.{Rows}
 use Rattle.ft_index.specs.Lists.{rows_of}
-use Rattle.ft_index.specs.Markers.{range_marker, slot_marker}
+use Rattle.ft_index.specs.Markers.{AllBefore, TakesMarkers, range_marker, slot_marker}
 use Rattle.ft_index.specs.Numbering.{RowsGain, value_entry}
-use Rattle.ft_index.specs.Taking.{AllBefore, TakesMarkers}
 use Rattle.ft_index.specs.UpTo.{RowsUpTo}
 use Rattle.ft_index.proofs.FieldLaws.{decided}
 use Rattle.ft_index.proofs.SlotLaws.{rows-here, rows-set_here, rows-set_other}

@@ -6,9 +6,8 @@ use Rattle.std.proofs.lemmas.Int.{to_z-of_z}
 use Rattle.numeric_ranges.specs.Added.{added}
 use Rattle.numeric_ranges.specs.Ranges.{AreParted, IsAbove, Rows}
 use Rattle.numeric_ranges.specs.Values.{Entries}
-use Rattle.ft_index.specs.Markers.{slot_marker}
+use Rattle.ft_index.specs.Markers.{AllBefore, TakesMarkers, slot_marker}
 use Rattle.ft_index.specs.Numbering.{RowsGain, value_entry}
-use Rattle.ft_index.specs.Taking.{AllBefore, TakesMarkers}
 use Rattle.ft_index.specs.UpTo.{RowsUpTo}
 use Rattle.ft_index.proofs.OutcomeLaws.{either, either-both}
 use Rattle.ft_index.proofs.RangeLaws.{above-up_to, added-takes, added-up_to}

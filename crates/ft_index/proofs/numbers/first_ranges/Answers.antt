@@ -2,9 +2,8 @@ use Rattle.std.proofs.Common.{◌≡◌, ℕ, Option, None, List, ◌+◌, lengt
 use Rattle.std.specs.Prelude.{slice_get}
 use Rattle.numeric_ranges.specs.Ranges.{Rows}
 use Rattle.ft_index.specs.Lists.{rows_of}
-use Rattle.ft_index.specs.Markers.{range_marker}
+use Rattle.ft_index.specs.Markers.{TakesMarkers, range_marker}
 use Rattle.ft_index.specs.Numbering.{IsFirst}
-use Rattle.ft_index.specs.Taking.{TakesMarkers}
 use Rattle.ft_index.proofs.NumberLaws.{first-next, first-takes}
 use Rattle.ft_index.proofs.numbers.first_ranges.Goals as goal
 

@@ -1,9 +1,8 @@
 use Rattle.std.proofs.Common.{◌≡◌, ℕ, None, length, take}
 use Rattle.std.specs.Prelude.{slice_get}
 use Rattle.ft_index.specs.Lists.{rows_of}
-use Rattle.ft_index.specs.Markers.{range_marker}
+use Rattle.ft_index.specs.Markers.{TakesMarkers, range_marker}
 use Rattle.ft_index.specs.Numbering.{IsFirst}
-use Rattle.ft_index.specs.Taking.{TakesMarkers}
 use Rattle.ft_index.proofs.numbers.first_ranges.Given as goal
 
 -- the fields so far have their ranges

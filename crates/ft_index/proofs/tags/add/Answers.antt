@@ -1,8 +1,7 @@
 use Rattle.std.proofs.Common.{sym, subst}
 use Rattle.std.proofs.lemmas.Result.{on_ok_weaker}
 use Rattle.term_dict.specs.Tags.{FieldTags}
-use Rattle.ft_index.specs.Markers.{tag_marker}
-use Rattle.ft_index.specs.Taking.{TakesMarkers}
+use Rattle.ft_index.specs.Markers.{TakesMarkers, tag_marker}
 use Rattle.ft_index.specs.UpTo.{TagsUpTo}
 use Rattle.ft_index.proofs.OutcomeLaws.{either, either-both}
 use Rattle.ft_index.proofs.TagLaws.{entries-tagged, tags-take, tags-up_to}

@@ -1,9 +1,7 @@
 use Rattle.std.proofs.Common.{take}
-use Rattle.ft_base.specs.declared.definition.IndexDef.{IndexDef}
-use Rattle.ft_index.specs.Adding.{IsUnseen, TagsHave}
-use Rattle.ft_index.specs.Markers.{tag_marker}
+use Rattle.ft_index.specs.Adding.{TagsUnseen}
+use Rattle.ft_index.specs.Markers.{TakesMarkers, tag_marker}
 use Rattle.ft_index.specs.Tagging.{TagsGain}
-use Rattle.ft_index.specs.Taking.{TakesMarkers}
 use Rattle.ft_index.specs.UpTo.{TagsUpTo}
 use Rattle.ft_index.proofs.tags.add_all.Given as goal
 
@@ -11,7 +9,7 @@ use Rattle.ft_index.proofs.tags.add_all.Given as goal
 abbrev pub invariant-loop-number : goal.invariant-loop-number
 invariant-loop-number l = record {
   added : TagsGain (take l.number l.fields) l.doc l.fn.lists l.lists;
-  unseen : (def : IndexDef) → IsUnseen l.doc.id (TagsHave def l.fn.lists) (TagsHave def l.lists);
+  unseen : TagsUnseen l.doc.id l.fn.lists l.lists;
   up_to : TagsUpTo l.doc.id l.lists;
   takes : TakesMarkers l.fn.markers l.markers (tag_marker l.fn.lists) (tag_marker l.lists);
 }

@@ -1,7 +1,5 @@
-use Rattle.ft_index.specs.Adding.{IsUnseen, TagsHave}
-use Rattle.ft_base.specs.declared.definition.IndexDef.{IndexDef}
+use Rattle.ft_index.specs.Adding.{TagsUnseen}
 use Rattle.std.proofs.Common.{sym, subst}
-use Rattle.term_dict.specs.Tags.{FieldTags}
 use Rattle.ft_index.specs.Markers.{tag_marker}
 use Rattle.ft_index.proofs.TagLaws.{tag-later, tag-next, tagged-unseen}
 use Rattle.ft_index.proofs.TakingLaws.{takes-again}
@@ -14,7 +12,7 @@ add-requires-clause-later c =
 
 pub returns-in_err-add-clause-unseen : goal.returns-in_err-add-clause-unseen
 returns-in_err-add-clause-unseen c =
-    subst (λ (lists : FieldTags). (def : IndexDef) → IsUnseen c.args.id (TagsHave def c.args.lists.now) (TagsHave def lists)) (sym c.in_err-add.ensures.err)
+    subst (TagsUnseen c.args.id c.args.lists.now) (sym c.in_err-add.ensures.err)
     (tagged-unseen c.loop-tag.tag-index c.args.tags.now c.args.field c.args.id c.args.lists.now c.loop-tag.lists c.loop-tag.invariant.added)
 
 pub returns-clause-unseen : goal.returns-clause-unseen

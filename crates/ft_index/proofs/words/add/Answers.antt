@@ -1,8 +1,7 @@
 use Rattle.std.proofs.Common.{sym, subst}
 use Rattle.posting_block.specs.declared.hits.TextHit.{TextHit}
 use Rattle.term_dict.specs.Terms.{Lists}
-use Rattle.ft_index.specs.Markers.{word_marker}
-use Rattle.ft_index.specs.Taking.{TakesMarkers}
+use Rattle.ft_index.specs.Markers.{TakesMarkers, word_marker}
 use Rattle.ft_index.specs.UpTo.{WordsUpTo}
 use Rattle.ft_index.proofs.OutcomeLaws.{either, either-both}
 use Rattle.ft_index.proofs.TakingLaws.{takes-lost}

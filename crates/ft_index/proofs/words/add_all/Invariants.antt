@@ -1,8 +1,7 @@
 use Rattle.std.specs.List.{IsDistinct}
 use Rattle.std.specs.Map.{keys_of}
 use Rattle.ft_index.specs.Collected.{AreAddedBut, AreMet}
-use Rattle.ft_index.specs.Markers.{word_marker}
-use Rattle.ft_index.specs.Taking.{TakesMarkers}
+use Rattle.ft_index.specs.Markers.{TakesMarkers, word_marker}
 use Rattle.ft_index.specs.UpTo.{WordsUpTo}
 use Rattle.ft_index.proofs.CollectedLaws.{same_key}
 use Rattle.ft_index.proofs.words.add_all.Given as goal

@@ -8,5 +8,5 @@ pub set_id-requires : goal.set_id-requires
 set_id-requires c =
     let found : lookup (nat_eq c.args.id) c.args.docs.now ≡ Some c.in-Some.doc.now = sym c.in-Some.ensures in
     record {
-      row = rw c.as_slice-2.ensures (subst (λ o. IfSome o (λ (doc : Doc). IsSome (row_at c.args.ids.now.entries doc.key))) found c.requires.row);
+      row = rw c.as_slice.ensures (subst (λ o. IfSome o (λ (doc : Doc). IsSome (row_at c.args.ids.now.entries doc.key))) found c.requires.row);
     }

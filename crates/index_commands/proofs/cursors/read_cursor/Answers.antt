@@ -1,24 +1,19 @@
-use Rattle.std.proofs.Common.{◌∙◌, ap, sym, arith, subst, List}
+use Rattle.std.proofs.Common.{◌∙◌, ap, sym, arith, subst}
 use Rattle.std.specs.Prelude.{None, Option}
 use Rattle.cmd_parse.specs.Asked.{CursorRead}
 use Rattle.cursor_book.specs.declared.cursor.Cursor.{Cursor}
-use Rattle.ft_index.specs.Index.{Index}
 use Rattle.ft_machine.specs.Machine.{State}
-use Rattle.ft_machine.specs.Step.{Does, last_number}
+use Rattle.ft_machine.specs.Step.{Does}
 use Rattle.index_commands.proofs.CursorLaws.{prepares-quiet, quiet-waits, seen-all}
-use Rattle.indexed_store.proofs.HoldingLaws.{in_step-until}
 use Rattle.indexed_store.specs.Changing.{changed}
 use Rattle.indexed_store.specs.DefinitionsOf.{definitions_of}
 use Rattle.indexed_store.specs.Holding.{Holding, state_of}
-use Rattle.indexed_store.specs.Standing.{InStep}
+use Rattle.index_commands.proofs.SearchLaws.{readable-held}
 use Rattle.index_commands.proofs.cursors.read_cursor.Goals as goal
 
 pub read_in-requires-clause-step : goal.read_in-requires-clause-step
 read_in-requires-clause-step c =
-    let store = c.held.inside.store in
-    let next = c.held.inside.next in
-    subst (λ (indexes : List Index). InStep store indexes last_number) (sym c.as_slice.ensures.value)
-    (in_step-until store c.held.inside.indexes.items next last_number (omega (arith, c.requires.number, ap (λ (h : Holding). h.next) c.held.view_is)) c.held.invariant.step)
+    readable-held c.held.inside.store c.held.inside.indexes.items _ _ _ c.as_slice.ensures.value (ap (λ (h : Holding). h.next) c.held.view_is) c.requires.number c.held.invariant.step
 
 pub returns-clause-prepares : goal.returns-clause-prepares
 returns-clause-prepares c =

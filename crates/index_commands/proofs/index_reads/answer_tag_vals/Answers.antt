@@ -1,11 +1,7 @@
 use Rattle.std.proofs.Common.{◌∙◌, ap, sym}
-use Rattle.index_commands.proofs.IndexCommandLaws.{ids-above}
 use Rattle.indexed_store.specs.DefinitionsOf.{definitions_of}
 use Rattle.indexed_store.specs.Holding.{Holding, state_of}
 use Rattle.index_commands.proofs.index_reads.answer_tag_vals.Goals as goal
-
-pub answer_tags_in-requires-clause-ids : goal.answer_tags_in-requires-clause-ids
-answer_tags_in-requires-clause-ids c = ids-above 0 c.held.inside.store.space c.held.invariant.step.documents.rise
 
 pub returns-clause-does : goal.returns-clause-does
 returns-clause-does c =

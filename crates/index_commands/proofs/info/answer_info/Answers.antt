@@ -41,4 +41,4 @@ pub returns-clause-records : goal.returns-clause-records
 returns-clause-records c =
     let held = c.args.held.now in
     subst (λ (found : Option Index). TellsOf found c.set_made.new.self.bytes) (sym (found-by held.indexes (first c.args.args.now) c.word.result.now _ c.word.ensures c.in-Some.ensures))
-    (tells-told c.in-Some.index.now c.told.result c.set_made.new.self.bytes c.told.ensures.exact c.set_made.ensures.told)
+    (tells-told c.in-Some.index.now c.cursor_count-cursors.result c.told.result c.set_made.new.self.bytes c.told.ensures.tells c.set_made.ensures.told)

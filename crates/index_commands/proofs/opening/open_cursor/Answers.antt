@@ -1,23 +1,17 @@
 use Rattle.std.specs.Prelude.{Some, None, refl}
-use Rattle.std.proofs.Common.{◌∙◌, ap, sym, arith, subst, ℕ, List}
+use Rattle.std.proofs.Common.{◌∙◌, ap, sym, arith, subst, ℕ}
 use Rattle.cmd_parse.specs.Aggregating.{aggregate_of}
-use Rattle.ft_index.specs.Index.{Index}
-use Rattle.ft_machine.specs.Step.{last_number}
 use Rattle.index_commands.proofs.CursorLaws.{prepares-quiet}
 use Rattle.index_commands.proofs.OpeningLaws.{opens-prepares}
 use Rattle.index_commands.specs.Parts.{DoesFirst}
-use Rattle.indexed_store.proofs.HoldingLaws.{in_step-until}
 use Rattle.indexed_store.specs.DefinitionsOf.{definitions_of}
 use Rattle.indexed_store.specs.Holding.{Holding, state_of}
-use Rattle.indexed_store.specs.Standing.{InStep}
+use Rattle.index_commands.proofs.SearchLaws.{readable-held}
 use Rattle.index_commands.proofs.opening.open_cursor.Goals as goal
 
 pub read_first-first-requires-clause-step : goal.read_first-first-requires-clause-step
 read_first-first-requires-clause-step c =
-    let store = c.held.inside.store in
-    let next = c.held.inside.next in
-    subst (λ (indexes : List Index). InStep store indexes last_number) (sym c.as_slice.ensures.value)
-    (in_step-until store c.held.inside.indexes.items next last_number (omega (arith, c.requires.number, ap (λ (h : Holding). h.next) c.held.view_is)) c.held.invariant.step)
+    readable-held c.held.inside.store c.held.inside.indexes.items _ _ _ c.as_slice.ensures.value (ap (λ (h : Holding). h.next) c.held.view_is) c.requires.number c.held.invariant.step
 
 pub returns-in-Some-clause-prepares : goal.returns-in-Some-clause-prepares
 returns-in-Some-clause-prepares c =

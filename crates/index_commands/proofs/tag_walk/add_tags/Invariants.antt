@@ -1,5 +1,5 @@
 use Rattle.std.specs.Prelude.{◌≡◌}
-use Rattle.index_commands.specs.Gathered.{seen}
+use Rattle.field_text.specs.Seen.{seen}
 use Rattle.ft_machine.specs.TagValues.{with_tags}
 use Rattle.index_commands.proofs.tag_walk.add_tags.Given as goal
 

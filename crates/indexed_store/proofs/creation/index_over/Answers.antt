@@ -1,16 +1,19 @@
-use Rattle.std.specs.Prelude.{◌≡◌, ◌+◌}
-use Rattle.std.proofs.Common.{◌∙◌, ap, sym, subst}
+use Rattle.std.specs.Prelude.{◌+◌, []}
+use Rattle.std.proofs.Common.{◌∙◌, sym, subst}
 use Rattle.std.proofs.lemmas.Result.{IfOk-weaker}
-use Rattle.ft_index.specs.Index.{Index}
-use Rattle.ft_index.specs.Lists.{AllLists}
-use Rattle.ft_index.specs.Markers.{HasMarker}
+use Rattle.indexed_store.specs.Filling.{HasTaken}
 use Rattle.indexed_store.specs.Standing.{AreOfEvent, IndexStands, markers_at}
 use Rattle.indexed_store.proofs.creation.index_over.Goals as goal
 
-pub filled-requires-clause-given : goal.filled-requires-clause-given
-filled-requires-clause-given c marker has =
-    let same : c.count_from.new.self.lists ≡ c.in_ok-index.index.lists = ap (λ (index : Index). index.lists) c.count_from.ensures in
-    (c.in_ok-index.ensures.given marker (subst (λ (lists : AllLists). HasMarker lists marker) same has)).event ∙ sym c.in_ok-index.ensures.event
+pub filled-requires-clause-none : goal.filled-requires-clause-none
+filled-requires-clause-none c =
+    let made = c.in_ok-index.ensures in
+    subst (HasTaken c.new.new.markers []) (sym c.count_from.ensures) (record {
+      stands = made.none;
+      sound = record { kept = made.sound.kept; waits = made.sound.waits; counted = c.requires.counted };
+      before = made.before;
+      given = λ marker has. (made.given marker has).event ∙ sym made.event;
+    })
 
 pub returns-clause-stands : goal.returns-clause-stands
 returns-clause-stands c =

@@ -1,30 +1,21 @@
-use Rattle.std.specs.Prelude.{List, length, refl}
-use Rattle.std.proofs.Common.{ap, sym, subst, arith, rules}
-use Rattle.ft_base.specs.declared.doc.Doc.{Doc}
-use Rattle.ft_index.specs.Index.{Indexes}
-use Rattle.ft_machine.specs.Definitions.{failures_over}
+use Rattle.std.specs.Prelude.{◌≡◌, ◌∷◌, ◌++◌, []}
+use Rattle.std.proofs.Common.{◌∙◌, ap, sym, subst, rules, append_assoc}
+use Rattle.indexed_store.specs.Filling.{HasTaken}
 use Rattle.indexed_store.specs.Standing.{AreOfEvent}
-use Rattle.indexed_store.proofs.FillingLaws.{upto-none}
+use Rattle.indexed_store.proofs.FillingLaws.{AreLeft, left-next}
 use Rattle.indexed_store.proofs.filling.fill.Goals as goal
-
-pub filling-init : goal.filling-init
-filling-init c = record {
-  stands = subst (Indexes c.args.index.now) (sym (upto-none 0 0 c.args.store.now.space c.requires.documents.rise (omega arith))) c.requires.none;
-  indexed = omega (arith, c.requires.first);
-  earlier = omega (arith, c.requires.documents.earlier);
-  sound = c.requires.sound;
-  before = c.requires.before;
-  given = c.requires.given;
-  failures = ap (λ (docs : List Doc). failures_over c.args.index.now.def docs c.args.index.now.failures) (sym (upto-none 0 0 c.args.store.now.space c.requires.documents.rise (omega arith)));
-  def = refl;
-  space = refl;
-  last = refl;
-  ready = refl;
-  reads = omega (arith, ap length (upto-none 0 0 c.args.store.now.space c.requires.documents.rise (omega arith)), c.reads-reads.ensures);
-  event = refl;
-}
 
 pub filling-preserved : goal.filling-preserved
 filling-preserved c =
-    let given : AreOfEvent c.args.markers.now.event c.put_next.new.index = subst (λ event. AreOfEvent event c.put_next.new.index) c.filling.invariant.event c.put_next.ensures.given in
-    search (rules, given)
+    let done = c.filling.invariant in
+    let left : AreLeft c.put_doc.new.index.table.last c.args.markers.now.event c.next.new.self =
+    left-next _ _ _ c.in-Some.doc.now _ c.in_ok-put_doc.ensures.last (subst (AreLeft _ _) c.in-Some.ensures done.left) in
+    let taken : HasTaken c.put_doc.new.markers (done.done ++ c.in-Some.doc.now ∷ []) c.put_doc.new.index = record {
+      stands = c.in_ok-put_doc.ensures.stands done.done done.taken.stands;
+      sound = c.put_doc.ensures.sound;
+      before = c.put_doc.ensures.before;
+      given = subst (λ event. AreOfEvent event c.put_doc.new.index) (sym c.put_doc.ensures.event) c.put_doc.ensures.given;
+    } in
+    let whole : (done.done ++ c.in-Some.doc.now ∷ []) ++ c.next.new.self ≡ c.args.store.now.space =
+    append_assoc done.done (c.in-Some.doc.now ∷ []) c.next.new.self ∙ (ap (λ docs. done.done ++ docs) (sym c.in-Some.ensures) ∙ done.whole) in
+    search (rules, whole, left, taken)

@@ -10,7 +10,6 @@ use Rattle.query_grammar.proofs.Blocks.{named_last}
 use Rattle.query_parse.proofs.PairLemmas.{pairs-of-more}
 use Rattle.query_parse.specs.declared.blocks.Step.TheVariants.{More}
 use Rattle.query_parse.specs.declared.blocks.Step.TheVariants as steps
-use Rattle.query_grammar.specs.Reading as reading
 use Rattle.query_parse.proofs.blocks.pairs_named.Goals as goal
 
 pub reading-init : goal.reading-init

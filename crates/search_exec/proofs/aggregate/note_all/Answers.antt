@@ -1,11 +1,12 @@
-use Rattle.std.proofs.Common.{◌≡◌, ◌<◌, ◌+◌, ◌^◌, ℕ, List, refl, sym, ◌∙◌, subst, arith}
+use Rattle.std.proofs.Common.{◌≡◌, ◌<◌, ◌+◌, ◌^◌, ℕ, List, refl, ap, ◌∙◌, subst, arith}
 use Rattle.std.specs.Prelude.{Option, None, Some, IfSome}
 use Rattle.ft_base.specs.declared.doc.Doc.{Doc}
+use Rattle.hash_store.specs.Store.{Store, reads_after}
 use Rattle.id_iters.specs.Least.{IsLeastAt}
 use Rattle.id_iters.specs.Ready.{Ready}
 use Rattle.id_iters.specs.Sets.{about, in_set}
 use Rattle.search_exec.proofs.AggregateLaws.{IsFed, fed-next, fed-none}
-use Rattle.search_exec.proofs.AskLaws.{asked-ended, asked-next, asked-none, iter-same, live-first}
+use Rattle.search_exec.proofs.AskLaws.{asked-ended, asked-next, asked-none, found-still, iter-same, live-first, read-on}
 use Rattle.search_exec.specs.Ids.{doc_at}
 use Rattle.search_exec.proofs.aggregate.note_all.Goals as goal
 
@@ -17,16 +18,14 @@ asking-init g c =
     let bits : start < 2 ^ 64 = c.tell.ensures.bits in
     record {
       asked = asked-none (IsFed c.args.feed.now start c.args.feed.now start) (in_set held iter) c.args.store.now.space
-          (λ id has_it. c.requires.lists.above id (live-first held iter id has_it)) (fed-none c.args.feed.now start bits);
+          (λ id has_it. c.requires.walkable.asked.lists.above id (live-first held iter id has_it)) (fed-none c.args.feed.now start bits);
       same = refl {a = about held iter};
-      ready_from = c.requires.ready;
+      ready_from = c.requires.walkable.asked.ready;
       most = omega arith;
       rise = c.tell.ensures.rise;
       bits = bits;
       rises = omega arith;
-      space = refl;
-      ready = refl;
-      last = refl;
+      store = refl;
       counts = omega arith;
     }
 
@@ -40,21 +39,20 @@ asking-preserved g c =
     let id = c.in-Some.id in
     let was = c.asking.invariant in
     let next = c.in_ok-note_id.ensures in
+    let once : c.note_id.new.store.reads ≡ reads_after c.asking.store.reads 1 = ap (λ (store : Store). store.reads) next.reads in
     let least : IsLeastAt has c.asking.from id = iter-same held c.args.iter.now c.asking.iter c.asking.from c.in_ok-id.field-0 (Some id) was.same c.in-Some.is c.in_ok-id.ensures.least in
     let noted = λ (shown : List Doc) (doc : Doc) (found : doc_at id docs ≡ Some doc).
-    fed-next first start c.asking.feed c.note_id.new.feed c.asking.store.reads c.note_id.new.store.reads shown doc (next.noted doc (subst (λ (docs : List Doc). doc_at id docs ≡ Some doc) (sym was.space) found)) next.reads in
+    fed-next first start c.asking.feed c.note_id.new.feed c.asking.store.reads c.note_id.new.store.reads shown doc (next.noted doc (found-still c.args.store.now c.asking.store _ id doc was.store found)) once in
     record {
       asked = asked-next (IsFed first start c.asking.feed c.asking.store.reads) (IsFed first start c.note_id.new.feed c.note_id.new.store.reads) has docs c.asking.from id was.rise least
-          (c.requires.known.stored id least.passes) noted was.asked;
+          (c.requires.walkable.known.stored id least.passes) noted was.asked;
       same = c.in_ok-id.ensures.same ∙ was.same;
       ready_from = subst (λ (answer : Option ℕ). IfSome answer (λ id. Ready held c.seek.new.self (id + 1))) c.in-Some.is c.in_ok-id.ensures.ready;
-      most = omega (arith, c.requires.lists.below id (live-first held c.args.iter.now id least.passes));
+      most = omega (arith, c.requires.walkable.asked.lists.below id (live-first held c.args.iter.now id least.passes));
       rise = was.rise;
       bits = was.bits;
-      rises = omega (arith, next.reads, was.rises, was.bits);
-      space = next.space ∙ was.space;
-      ready = next.ready ∙ was.ready;
-      last = next.last ∙ was.last;
+      rises = omega (arith, once, was.rises, was.bits);
+      store = read-on c.args.store.now c.asking.store c.note_id.new.store _ was.store next.reads;
       counts = omega (arith, c.in_ok-id.ensures.counts, was.counts);
     }
 

@@ -13,7 +13,7 @@ invariant-asking g l =
     let held = g.T.Lists.held l.lists in
     record {
       asked : (docs : List Doc) → IsStrictlyIncreasing (map (λ (doc : Doc). doc.id) docs) → AreKnown (in_candidates held l.fn.candidates) docs
-          → IsAsked (AreRanked (λ (id : ℕ). (g.T.Lists.named l.lists).numbers id l.place) l.fn.first.by l.fn.first.most l.total l.first.rows) (in_candidates held l.fn.candidates) docs l.from;
+          → IsAsked (AreRanked (λ (id : ℕ). (g.T.Lists.named l.lists).numbers id l.column) l.fn.first.by l.fn.first.most l.total l.first.rows) (in_candidates held l.fn.candidates) docs l.from;
       same : about_candidates held l.candidates ≡ about_candidates held l.fn.candidates;
       may_ask : MayAsk held l.candidates l.from;
       most : l.first.most ≡ l.fn.first.most;

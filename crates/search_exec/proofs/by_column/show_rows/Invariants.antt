@@ -12,8 +12,5 @@ abbrev pub invariant-showing : goal.invariant-showing
 invariant-showing l = record {
   shown : l.replies.items ≡ Number (pos l.total) ∷ flat_map (row_by l.shape) (docs_at l.yielded l.fn.store.space);
   bits : l.fn.store.reads < 2 ^ 64;
-  reads : l.store.reads ≡ reads_after l.fn.store.reads (reads_shown l.shape (length (docs_at l.yielded l.fn.store.space)));
-  space : l.store.space ≡ l.fn.store.space;
-  ready : l.store.ready ≡ l.fn.store.ready;
-  last : l.store.last ≡ l.fn.store.last;
+  reads : l.store ≡ record l.fn.store { reads = reads_after l.fn.store.reads (reads_shown l.shape (length (docs_at l.yielded l.fn.store.space))) };
 }

@@ -1,10 +1,12 @@
-use Rattle.std.proofs.Common.{◌≡◌, ◌+◌, ◌∷◌, [], ◌++◌, ℕ, List, refl, sym, ap, ◌∙◌, subst, arith}
+use Rattle.std.proofs.Common.{◌≡◌, ◌+◌, ◌∷◌, [], ◌++◌, ℕ, List, refl, ap, ◌∙◌, subst, arith}
 use Rattle.std.specs.Prelude.{Option, None, Some, IfSome, take}
 use Rattle.ft_base.specs.declared.doc.Doc.{Doc}
-use Rattle.hash_store.specs.Store.{reads_after}
+use Rattle.ft_base.specs.declared.reply.Reply.{Reply}
+use Rattle.hash_store.specs.Store.{Store, reads_after}
+use Rattle.row_sort.specs.First.{First}
 use Rattle.row_sort.specs.Order.{row_order}
 use Rattle.row_sort.specs.Sorting.{sorted}
-use Rattle.search_exec.proofs.AskLaws.{asked-ended, asked-next, asked-none}
+use Rattle.search_exec.proofs.AskLaws.{asked-ended, asked-next, asked-none, found-still, read-more}
 use Rattle.search_exec.proofs.CandidatesLaws.{answer-same, least-next, live-candidate}
 use Rattle.search_exec.proofs.FieldLaws.{AreOffered, offered-next, offered-none}
 use Rattle.search_exec.specs.Candidates.{about_candidates, in_candidates, MayAsk}
@@ -16,21 +18,20 @@ pub asking-init : goal.asking-init
 asking-init g c =
     let held = g.T.Lists.held c.args.lists.now in
     let first = c.args.candidates.now in
+    let bits = c.tell.ensures.bits in
+    let unread : c.args.store.now.reads ≡ reads_after c.args.store.now.reads 0 = omega (arith, bits) in
     record {
       asked = asked-none (AreOffered c.args.shape.now c.args.key c.args.first.now.most 0 c.args.first.now.rows) (in_candidates held first) c.args.store.now.space
-          (λ id has_it. c.requires.lists.above id (live-candidate held first id has_it)) (offered-none c.args.shape.now c.args.key c.args.first.now.most c.args.first.now.rows c.requires.none);
+          (λ id has_it. c.requires.walkable.lists.above id (live-candidate held first id has_it)) (offered-none c.args.shape.now c.args.key c.args.first.now.most c.args.first.now.rows c.requires.none);
       same = refl {a = about_candidates held first};
-      may_ask = c.requires.ready;
+      may_ask = c.requires.walkable.ready;
       most = refl;
       by = refl;
       few = omega arith;
       low = omega arith;
-      rise = c.requires.rising;
-      bits = c.requires.bits;
-      reads = omega (arith, c.requires.bits);
-      space = refl;
-      ready = refl;
-      last = refl;
+      rise = c.tell.ensures.rise;
+      bits = bits;
+      reads = ap (λ (reads : ℕ). record c.args.store.now { reads = reads }) unread;
       counts = omega arith;
     }
 
@@ -50,25 +51,22 @@ asking-preserved g c =
     let taken : (doc : Doc) → doc_at id docs ≡ Some doc
     → c.offer_id.new.first.rows ≡ take c.args.first.now.most (sorted (row_order (key.by ∷ [])) (c.asking.first.rows ++ ranked shape key doc ∷ [])) =
     λ doc found.
-    next.row doc (subst (λ (docs : List Doc). doc_at id docs ≡ Some doc) (sym was.space) found)
+    ap (λ (first : First (List Reply)). first.rows) (next.row doc (found-still c.args.store.now c.asking.store _ id doc was.reads found))
     ∙ (ap (λ (most : ℕ). take most (sorted (row_order c.asking.first.by) (c.asking.first.rows ++ ranked shape key doc ∷ []))) was.most
     ∙ ap (λ by. take c.args.first.now.most (sorted (row_order by) (c.asking.first.rows ++ ranked shape key doc ∷ []))) (was.by ∙ c.requires.keys)) in
     record {
       asked = asked-next (AreOffered shape key most c.asking.total c.asking.first.rows) (AreOffered shape key most (c.asking.total + 1) c.offer_id.new.first.rows) has docs c.asking.from id was.rise least
-          (c.requires.known.stored id least.passes)
+          (c.requires.walkable.known.stored id least.passes)
           (λ (so_far : List Doc) (doc : Doc) (found : doc_at id docs ≡ Some doc). offered-next shape key most c.asking.total c.asking.first.rows c.offer_id.new.first.rows so_far doc (taken doc found)) was.asked;
       same = c.in_ok-id.ensures.same ∙ was.same;
       may_ask = subst (λ (answer : Option ℕ). IfSome answer (λ id. MayAsk held c.seek.new.self (id + 1))) c.in-Some.is c.in_ok-id.ensures.ready;
-      most = next.most ∙ was.most;
-      by = next.keys ∙ was.by;
+      most = ap (λ (first : First (List Reply)). first.most) next.rest ∙ was.most;
+      by = ap (λ (first : First (List Reply)). first.by) next.rest ∙ was.by;
       few = omega (arith, least.reached, was.few);
-      low = omega (arith, c.requires.lists.below id (live-candidate held first id least.passes));
+      low = omega (arith, c.requires.walkable.lists.below id (live-candidate held first id least.passes));
       rise = was.rise;
       bits = was.bits;
-      reads = omega (arith, next.reads, was.reads);
-      space = next.space ∙ was.space;
-      ready = next.ready ∙ was.ready;
-      last = next.last ∙ was.last;
+      reads = read-more c.args.store.now c.asking.store c.offer_id.new.store c.asking.total 1 was.reads next.reads;
       counts = omega (arith, c.in_ok-id.ensures.counts, was.counts);
     }
 
@@ -90,7 +88,7 @@ pub returns-clause-reads : goal.returns-clause-reads
 returns-clause-reads g c =
     let held = g.T.Lists.held c.args.lists.now in
     let first = c.args.candidates.now in
-    c.asking.invariant.reads
+    ap (λ (store : Store). store.reads) c.asking.invariant.reads
     ∙ ap (reads_after c.args.store.now.reads)
     (asked-ended (AreOffered c.args.shape.now c.args.key c.args.first.now.most c.asking.total c.asking.first.rows) (in_candidates held first) c.args.store.now.space c.asking.from
     (answer-same held first c.asking.candidates c.asking.from c.in_ok-id.field-0 None c.asking.invariant.same c.in_default.is c.in_ok-id.ensures.least) c.asking.invariant.asked).count

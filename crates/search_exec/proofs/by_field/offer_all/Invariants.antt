@@ -21,10 +21,7 @@ invariant-asking g l =
       low : l.from ≤ 2 ^ 62;
       rise : IsStrictlyIncreasing (map (λ (doc : Doc). doc.id) l.fn.store.space);
       bits : l.fn.store.reads < 2 ^ 64;
-      reads : l.store.reads ≡ reads_after l.fn.store.reads l.total;
-      space : l.store.space ≡ l.fn.store.space;
-      ready : l.store.ready ≡ l.fn.store.ready;
-      last : l.store.last ≡ l.fn.store.last;
+      reads : l.store ≡ record l.fn.store { reads = reads_after l.fn.store.reads l.total };
       counts : l.fn.steps ≤ l.steps;
     }
 

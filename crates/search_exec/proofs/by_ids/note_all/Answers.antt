@@ -1,7 +1,7 @@
-use Rattle.std.proofs.Common.{◌≡◌, ◌+◌, ℕ, List, sym, ◌∙◌, subst, arith}
+use Rattle.std.proofs.Common.{◌≡◌, ◌+◌, ℕ, List, ◌∙◌, subst, arith}
 use Rattle.std.specs.Prelude.{Option, None, Some, IfSome}
 use Rattle.ft_base.specs.declared.doc.Doc.{Doc}
-use Rattle.search_exec.proofs.AskLaws.{asked-ended, asked-next}
+use Rattle.search_exec.proofs.AskLaws.{asked-ended, asked-next, found-still, read-on}
 use Rattle.search_exec.proofs.CandidatesLaws.{answer-same, least-next, live-candidate}
 use Rattle.search_exec.proofs.PageLaws.{AreShown, reads-told}
 use Rattle.search_exec.specs.Candidates.{MayAsk, in_candidates}
@@ -16,11 +16,11 @@ asking-preserved g c =
     let docs = c.args.store.now.space in
     let id = c.in-Some.id in
     let least = least-next held c.args.candidates.now c.asking.candidates c.asking.from id c.in_ok-id.field-0 c.asking.invariant.same c.in-Some.is c.in_ok-id.ensures.least in
-    let below = c.requires.lists.below id (live-candidate held c.args.candidates.now id least.passes) in
+    let below = c.requires.walkable.lists.below id (live-candidate held c.args.candidates.now id least.passes) in
     let next = c.in_ok-note_id.ensures in
-    let noted = λ (shown : List Doc) (doc : Doc) (found : doc_at id docs ≡ Some doc). next.shown shown doc (subst (λ (docs : List Doc). doc_at id docs ≡ Some doc) (sym c.asking.invariant.space) found) in
+    let noted = λ (shown : List Doc) (doc : Doc) (found : doc_at id docs ≡ Some doc). next.shown shown doc (found-still c.args.store.now c.asking.store _ id doc c.asking.invariant.store found) in
     record {
-      asked = asked-next (AreShown c.args.shape.now c.asking.page) (AreShown c.args.shape.now c.note_id.new.page) has docs c.asking.from id c.asking.invariant.rise least (c.requires.known.stored id least.passes) noted c.asking.invariant.asked;
+      asked = asked-next (AreShown c.args.shape.now c.asking.page) (AreShown c.args.shape.now c.note_id.new.page) has docs c.asking.from id c.asking.invariant.rise least (c.requires.walkable.known.stored id least.passes) noted c.asking.invariant.asked;
       same = c.in_ok-id.ensures.same ∙ c.asking.invariant.same;
       may_ask = subst (λ (answer : Option ℕ). IfSome answer (λ id. MayAsk held c.seek.new.self (id + 1))) c.in-Some.is c.in_ok-id.ensures.ready;
       few = omega (arith, next.total, least.reached);
@@ -28,9 +28,7 @@ asking-preserved g c =
       rise = c.asking.invariant.rise;
       bits = c.asking.invariant.bits;
       reads = next.reads c.args.store.now.reads c.asking.invariant.reads;
-      space = next.space ∙ c.asking.invariant.space;
-      ready = next.ready ∙ c.asking.invariant.ready;
-      last = next.last ∙ c.asking.invariant.last;
+      store = read-on c.args.store.now c.asking.store c.note_id.new.store _ c.asking.invariant.store next.same;
       counts = omega (arith, c.in_ok-id.ensures.counts);
     }
 

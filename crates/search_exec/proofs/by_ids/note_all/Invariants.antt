@@ -21,9 +21,7 @@ invariant-asking g l =
       rise : IsStrictlyIncreasing (map (λ (doc : Doc). doc.id) l.fn.store.space);
       bits : l.fn.store.reads < 2 ^ 64;
       reads : l.store.reads ≡ reads_after l.fn.store.reads (reads_of l.shape l.page.total);
-      space : l.store.space ≡ l.fn.store.space;
-      ready : l.store.ready ≡ l.fn.store.ready;
-      last : l.store.last ≡ l.fn.store.last;
+      store : l.store ≡ record l.fn.store { reads = l.store.reads };
       counts : l.fn.steps ≤ l.steps;
     }
 

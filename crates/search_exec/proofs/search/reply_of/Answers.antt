@@ -13,10 +13,10 @@ pub page_by_shape-requires-clause-window : goal.page_by_shape-requires-clause-wi
 page_by_shape-requires-clause-window g c = omega (arith, c.in_ok-shape.ensures.offset, c.in_ok-shape.ensures.num)
 
 pub page_by_shape-requires-clause-seen : goal.page_by_shape-requires-clause-seen
-page_by_shape-requires-clause-seen g c key is =
+page_by_shape-requires-clause-seen g c =
     let held = g.T.Lists.held c.args.lists.now in
-    column-seen (search_of c.args.search.now) c.args.def.now c.in_ok-shape.shape key (in_candidates held c.args.candidates.now) (g.T.Lists.named c.args.lists.now).numbers c.args.store.now.space
-    c.in_ok-shape.ensures c.requires.numbered is
+    column-seen (search_of c.args.search.now) c.args.def.now c.in_ok-shape.shape (in_candidates held c.args.candidates.now) (g.T.Lists.named c.args.lists.now).numbers c.args.store.now.space
+    c.in_ok-shape.ensures c.requires.numbered
 
 pub returns-clause-reply : goal.returns-clause-reply
 returns-clause-reply g c =

@@ -2,9 +2,9 @@ use Rattle.std.specs.Prelude.{◌≡◌, ◌≤◌, ◌+◌, drop, option_map}
 use Rattle.search_exec.specs.Shapes.{column_named}
 use Rattle.search_exec.proofs.shape.column_named.Given as goal
 
--- the place, counted from the fields so far that are kept
+-- the column, counted from the fields so far that are kept
 abbrev pub invariant-fields : goal.invariant-fields
 invariant-fields l = record {
-  place : option_map (λ later. l.place + later) (column_named l.alias (drop l.field-index l.fields)) ≡ column_named l.alias l.fields;
-  within : l.place ≤ l.field-index;
+  column : option_map (λ later. l.column + later) (column_named l.alias (drop l.field-index l.fields)) ≡ column_named l.alias l.fields;
+  within : l.column ≤ l.field-index;
 }

@@ -1,11 +1,10 @@
-use Rattle.std.specs.Prelude.{◌≡◌, ◌<◌, ◌≤◌, ◌+◌, ◌-◌, ◌^◌, map}
+use Rattle.std.specs.Prelude.{◌≡◌, ◌<◌, ◌≤◌, ◌-◌, ◌^◌, map}
 use Rattle.std.specs.List.Sorted.{IsStrictlyIncreasing}
 use Rattle.ft_base.specs.declared.doc.Doc.{Doc}
 use Rattle.ft_machine.specs.Parts.{stream_row}
-use Rattle.id_iters.specs.Ready.{Ready}
 use Rattle.id_iters.specs.Sets.{about, in_set}
 use Rattle.search_exec.proofs.StreamLaws.{IsTaken}
-use Rattle.search_exec.specs.Ids.{docs_in}
+use Rattle.search_exec.specs.Ids.{IsAskable, docs_in}
 use Rattle.search_exec.proofs.stream.take_docs.Given as goal
 
 -- What is taken so far, with what is still to be taken behind the last id, is the whole.
@@ -15,13 +14,11 @@ invariant-taking g l =
     record {
       taken : IsTaken (stream_row l.def l.steps) l.fn.after l.count (docs_in (in_set held l.fn.iter) l.fn.store.space) l.fn.store.reads l.rows.items l.last l.store.reads;
       same : about held l.iter ≡ about held l.fn.iter;
-      ready_from : Ready held l.iter (l.last + 1);
+      asked : IsAskable held l.iter l.last;
       rise : IsStrictlyIncreasing (map (λ (doc : Doc). doc.id) l.fn.store.space);
       bits : l.fn.store.reads < 2 ^ 64;
       rises : l.fn.store.reads ≤ l.store.reads;
-      space : l.store.space ≡ l.fn.store.space;
-      ready : l.store.ready ≡ l.fn.store.ready;
-      last : l.store.last ≡ l.fn.store.last;
+      store : l.store ≡ record l.fn.store { reads = l.store.reads };
       counts : l.fn.counter ≤ l.counter;
     }
 

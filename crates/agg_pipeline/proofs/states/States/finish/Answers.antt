@@ -10,8 +10,8 @@ use Rattle.agg_pipeline.proofs.states.States.finish.Goals as goal
 
 pub loop-state-preserved : goal.loop-state-preserved
 loop-state-preserved c =
-    ap (λ (cells : List Cell). set_cells cells (finished_cells c.in_ok-reducers.reducers.now (into_iter_items c.next.new.self))) c.in_ok-reducers.ensures.cells
-    ∙ ap (λ (reduce : List Reducer). set_cells (set_finished c.loop-state.cells c.loop-state.reducers.now c.in-Some.state) (finished_cells reduce (into_iter_items c.next.new.self))) c.in_ok-reducers.ensures.later
+    ap (λ (cells : List Cell). set_cells cells (finished_cells c.behind_first-reducers.result.now (into_iter_items c.next.new.self))) c.in_ok-set_finished.ensures
+    ∙ ap (λ (reduce : List Reducer). set_cells (set_finished c.loop-state.cells c.loop-state.reducers.now c.in-Some.state) (finished_cells reduce (into_iter_items c.next.new.self))) c.behind_first-reducers.ensures
     ∙ set-next c.loop-state.cells c.loop-state.reducers.now c.in-Some.state (into_iter_items c.next.new.self)
     ∙ ap (λ (states : List State). set_cells c.loop-state.cells (finished_cells c.loop-state.reducers.now states)) (sym c.in-Some.ensures.steps.0)
     ∙ c.loop-state.invariant

@@ -5,11 +5,9 @@ use Rattle.std.proofs.lemmas.Result.{on_ok_weaker}
 use Rattle.std.specs.Vec.{with_items}
 use Rattle.id_iters.specs.declared.list_name.ListName.TheVariants as names
 use Rattle.numeric_ranges.specs.Ranges.{IsAbove, Rows}
-use Rattle.ft_index.specs.Adding.{IsSeen, IsUnseen, RangesHaveAll}
-use Rattle.ft_index.specs.Has.{Has}
+use Rattle.ft_index.specs.Adding.{IsSeen, IsUnseen, ListsHave, RangesHaveAll}
 use Rattle.ft_index.specs.Lists.{AllLists, rows_of}
-use Rattle.ft_index.specs.Markers.{AreBefore, GainsMarkers, MarkersDiffer, marker_at, range_marker}
-use Rattle.ft_index.specs.Taking.{AllBefore, TakesMarkers}
+use Rattle.ft_index.specs.Markers.{AllBefore, AreBefore, GainsMarkers, MarkersDiffer, TakesMarkers, marker_at, range_marker}
 use Rattle.ft_index.specs.UpTo.{AreUpTo, RangesUpTo}
 use Rattle.ft_index.specs.contracts.lists.IndexLists.{the_view}
 use Rattle.ft_index.proofs.ListsLaws.{all-seen, all-unseen, differ-taken, gains-taken, ranges-below, takes-three, takes-two, takes-words, up_to-higher}
@@ -45,7 +43,7 @@ returns-in_err-add_words c =
     let new : AllLists = record old { words = c.add_words.new.terms } in
     let takes : TakesMarkers c.args.markers.now c.add_words.new.markers (marker_at old) (marker_at new) = takes-words c.args.markers.now c.add_words.new.markers old c.add_words.new.terms before c.add_words.ensures.takes in
     record {
-      unseen = subst (λ (lists : AllLists). IsUnseen doc.id (λ live docs. Has def live lists docs) (λ live docs. Has def live new docs)) c.self.view_is
+      unseen = subst (λ (lists : AllLists). IsUnseen doc.id (ListsHave def lists) (ListsHave def new)) c.self.view_is
           (all-unseen def doc.id old new c.add_words.ensures.unseen (λ live docs dead has. has) (λ live docs dead has. has));
       seen = search rules;
       up_to = record { words = c.add_words.ensures.up_to; tags = up_to.tags; ranges = up_to.ranges };
@@ -88,7 +86,7 @@ returns-in_err-add_tags c =
     let takes : TakesMarkers c.args.markers.now c.add_tags.new.markers (marker_at old) (marker_at new) =
     takes-two c.args.markers.now c.add_words.new.markers c.add_tags.new.markers old c.add_words.new.terms c.add_tags.new.lists before c.add_words.ensures.takes c.add_tags.ensures.takes in
     record {
-      unseen = subst (λ (lists : AllLists). IsUnseen doc.id (λ live docs. Has def live lists docs) (λ live docs. Has def live new docs)) c.self.view_is
+      unseen = subst (λ (lists : AllLists). IsUnseen doc.id (ListsHave def lists) (ListsHave def new)) c.self.view_is
           (all-unseen def doc.id old new c.add_words.ensures.unseen c.add_tags.ensures.unseen (λ live docs dead has. has));
       seen = search rules;
       up_to = record { words = c.add_words.ensures.up_to; tags = c.add_tags.ensures.up_to; ranges = up_to.ranges };
@@ -141,11 +139,11 @@ returns c =
     let takes : TakesMarkers c.args.markers.now c.add_numbers.new.markers (marker_at old) (marker_at new) =
     takes-three c.args.markers.now c.add_words.new.markers c.add_tags.new.markers c.add_numbers.new.markers old c.add_words.new.terms c.add_tags.new.lists ranges before c.add_words.ensures.takes c.add_tags.ensures.takes numbers in
     record {
-      unseen = subst (λ (lists : AllLists). IsUnseen doc.id (λ live docs. Has def live lists docs) (λ live docs. Has def live new docs)) c.self.view_is
+      unseen = subst (λ (lists : AllLists). IsUnseen doc.id (ListsHave def lists) (ListsHave def new)) c.self.view_is
           (all-unseen def doc.id old new c.add_words.ensures.unseen c.add_tags.ensures.unseen
           (lent (λ was now. IsUnseen doc.id (RangesHaveAll def was) (RangesHaveAll def now)) _ _ _ _ c.as_mut_slice.ensures.value written c.add_numbers.ensures.unseen));
       seen = on_ok_weaker c.add_numbers.result (λ seen.
-          subst (λ (lists : AllLists). IsSeen def doc (λ live docs. Has def live lists docs) (λ live docs. Has def live new docs)) c.self.view_is
+          subst (λ (lists : AllLists). IsSeen def doc (ListsHave def lists) (ListsHave def new)) c.self.view_is
           (all-seen def doc old new c.in_ok-add_words.ensures.seen c.in_ok-add_tags.ensures.seen
           (lent (λ was now. IsSeen def doc (RangesHaveAll def was) (RangesHaveAll def now)) _ _ _ _ c.as_mut_slice.ensures.value written seen)))
           c.add_numbers.ensures.seen;

@@ -1,10 +1,9 @@
 -- The first lists take their markers as if there had been none before.
 use Rattle.std.proofs.Common.{[], sym, subst}
-use Rattle.inverted_list.specs.declared.marker.Marker.{Marker}
 use Rattle.posting_block.specs.declared.hits.TextHit.{TextHit}
 use Rattle.term_dict.specs.Tags.{FieldTags}
 use Rattle.term_dict.specs.Terms.{Lists}
-use Rattle.ft_index.specs.Markers.{AreBefore, HasMarker, IsGiven, MarkersDiffer}
+use Rattle.ft_index.specs.Markers.{AreBefore, AreGiven, MarkersDiffer}
 use Rattle.ft_index.proofs.ListsLaws.{first-before, first-differ, first-given}
 use Rattle.ft_index.proofs.lists.IndexLists.new.Goals as goal
 
@@ -22,6 +21,6 @@ returns-clause-before c =
 
 pub returns-clause-given : goal.returns-clause-given
 returns-clause-given c =
-    subst (λ (words : Lists TextHit). (marker : Marker) → HasMarker (record { words = words; tags = c.new-2.result; ranges = c.in_ok-ranges.ranges.items }) marker → IsGiven c.args.markers.now c.first_ranges.new.markers marker) (sym c.new.ensures)
-    (subst (λ (tags : FieldTags). (marker : Marker) → HasMarker (record { words = []; tags = tags; ranges = c.in_ok-ranges.ranges.items }) marker → IsGiven c.args.markers.now c.first_ranges.new.markers marker) (sym c.new-2.ensures)
+    subst (λ (words : Lists TextHit). AreGiven c.args.markers.now c.first_ranges.new.markers (record { words = words; tags = c.new-2.result; ranges = c.in_ok-ranges.ranges.items })) (sym c.new.ensures)
+    (subst (λ (tags : FieldTags). AreGiven c.args.markers.now c.first_ranges.new.markers (record { words = []; tags = tags; ranges = c.in_ok-ranges.ranges.items })) (sym c.new-2.ensures)
     (first-given c.args.markers.now c.first_ranges.new.markers c.in_ok-ranges.ranges.items c.in_ok-ranges.ensures.takes))

@@ -22,16 +22,16 @@ returns-then-eq c =
 
 pub forget_key-requires : goal.forget_key-requires
 forget_key-requires c =
-    let found : lookup (nat_eq c.args.id) (live_rows c.self.inside.pending c.self.inside.docs) ≡ Some c.in-Some.doc =
+    let found : lookup (nat_eq c.args.id) (live_rows c.self.inside.pending c.self.inside.docs) ≡ Some c.in-Some.gone =
     lookup-live_rows c.self.inside.pending c.args.id c.self.inside.docs (sym c.eq.ensures ∙ c.if-eq.false) ∙ sym c.in-Some.ensures.was in
-    record { row = leading-row c.args.id c.in-Some.doc.key c.self.inside.ids.entries (keyed-leads c.args.id c.in-Some.doc c.self.inside.pending c.self.inside.last c.self.inside.docs c.self.inside.ids.entries c.self.invariant found) }
+    record { row = leading-row c.args.id c.in-Some.gone.key c.self.inside.ids.entries (keyed-leads c.args.id c.in-Some.gone c.self.inside.pending c.self.inside.last c.self.inside.docs c.self.inside.ids.entries c.self.invariant found) }
 
 pub invariant_of-self : goal.invariant_of-self
 invariant_of-self c =
-    let found : lookup (nat_eq c.args.id) (live_rows c.self.inside.pending c.self.inside.docs) ≡ Some c.in-Some.doc =
+    let found : lookup (nat_eq c.args.id) (live_rows c.self.inside.pending c.self.inside.docs) ≡ Some c.in-Some.gone =
     lookup-live_rows c.self.inside.pending c.args.id c.self.inside.docs (sym c.eq.ensures ∙ c.if-eq.false) ∙ sym c.in-Some.ensures.was in
-    erased_store c.self.inside.pending c.args.id c.self.inside.last c.self.inside.docs c.self.inside.ids.entries c.in-Some.doc.key c.remove.new.self c.forget_key.new.ids.entries c.self.invariant
-    (keyed-leads c.args.id c.in-Some.doc c.self.inside.pending c.self.inside.last c.self.inside.docs c.self.inside.ids.entries c.self.invariant found) c.remove.ensures.gone c.forget_key.ensures
+    erased_store c.self.inside.pending c.args.id c.self.inside.last c.self.inside.docs c.self.inside.ids.entries c.in-Some.gone.key c.remove.new.self c.forget_key.new.ids.entries c.self.invariant
+    (keyed-leads c.args.id c.in-Some.gone c.self.inside.pending c.self.inside.last c.self.inside.docs c.self.inside.ids.entries c.self.invariant found) c.remove.ensures.gone c.forget_key.ensures
 
 pub invariant_of-self-in_default : goal.invariant_of-self-in_default
 invariant_of-self-in_default c =
@@ -40,13 +40,13 @@ invariant_of-self-in_default c =
 
 pub returns-in-Some : goal.returns-in-Some
 returns-in-Some c =
-    let found : lookup (nat_eq c.args.id) (live_rows c.self.inside.pending c.self.inside.docs) ≡ Some c.in-Some.doc =
+    let found : lookup (nat_eq c.args.id) (live_rows c.self.inside.pending c.self.inside.docs) ≡ Some c.in-Some.gone =
     lookup-live_rows c.self.inside.pending c.args.id c.self.inside.docs (sym c.eq.ensures ∙ c.if-eq.false) ∙ sym c.in-Some.ensures.was in
-    let some : find (λ (doc : Doc). nat_eq c.args.id doc.id) c.args.self.now.space ≡ Some c.in-Some.doc =
+    let some : find (λ (doc : Doc). nat_eq c.args.id doc.id) c.args.self.now.space ≡ Some c.in-Some.gone =
     find-space (nat_eq c.args.id) c.self.inside.pending c.self.inside.last c.self.inside.docs c.self.inside.ids.entries c.args.self.now c.self.inside.reads c.self.invariant c.self.view_is ∙ found in
-    erased_as c.self.inside.pending c.args.id c.self.inside.last c.self.inside.reads c.self.inside.docs c.self.inside.ids.entries c.in-Some.doc.key c.remove.new.self c.self.invariant
-    (keyed-leads c.args.id c.in-Some.doc c.self.inside.pending c.self.inside.last c.self.inside.docs c.self.inside.ids.entries c.self.invariant found) c.remove.ensures.gone
-    ∙ (ap (λ (t : Store). record t { space = erase t.space c.in-Some.doc.key }) c.self.view_is
+    erased_as c.self.inside.pending c.args.id c.self.inside.last c.self.inside.reads c.self.inside.docs c.self.inside.ids.entries c.in-Some.gone.key c.remove.new.self c.self.invariant
+    (keyed-leads c.args.id c.in-Some.gone c.self.inside.pending c.self.inside.last c.self.inside.docs c.self.inside.ids.entries c.self.invariant found) c.remove.ensures.gone
+    ∙ (ap (λ (t : Store). record t { space = erase t.space c.in-Some.gone.key }) c.self.view_is
     ∙ ap (λ (one : Option Doc). record c.args.self.now { space = erase_doc c.args.self.now.space one }) (sym some))
 
 pub returns-in_default : goal.returns-in_default

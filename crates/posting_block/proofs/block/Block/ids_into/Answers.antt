@@ -1,4 +1,5 @@
-use Rattle.std.proofs.Common.{arith, length, sym, ap, ◌∙◌}
+use Rattle.std.proofs.Common.{arith, length, sym, ap, ◌∙◌, subst}
+use Rattle.posting_block.specs.Coded.{Coded}
 use Rattle.posting_block.proofs.CodedLaws.{length_in}
 use Rattle.posting_block.proofs.block.Block.ids_into.Goals as goal
 
@@ -16,3 +17,7 @@ returns-clause-few g c =
     let l = length_in g.P.Payload.spelled g.P.Payload.read g.P.Payload.valid g.met.P.Payload.reads c.self.inside.len 0 c.self.inside.bytes.items in
     let few = c.self.invariant.few in
     omega (arith, l, few)
+
+pub returns-clause-fits : goal.returns-clause-fits
+returns-clause-fits g c =
+    (subst (λ es. Coded g.P.Payload.spelled g.P.Payload.valid c.self.inside.bytes.items c.self.inside.last es) c.self.view_is c.self.invariant).fits
