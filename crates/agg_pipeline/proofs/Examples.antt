@@ -5,7 +5,7 @@ use Rattle.std.specs.Prelude.{◌==◌, unwrap_or}
 use Rattle.std.specs.Str.{bytes_eq}
 use Rattle.ft_base.specs.declared.definition.FieldKind.TheVariants.{Text}
 use Rattle.ft_base.specs.declared.definition.IndexDef.{IndexDef}
-use Rattle.ft_base.specs.declared.doc.Doc.{Doc}
+use Rattle.ft_base.specs.Docs.{Doc}
 use Rattle.ft_base.specs.declared.row.Cell.{Cell}
 use Rattle.ft_base.specs.declared.row.Row.{Row}
 use Rattle.ft_base.specs.declared.row.Value.{Value}

@@ -2,7 +2,7 @@
 -- row at a time. Where a GROUPBY comes next, its groups are held and no row, and where a SORTBY with MAX does, its first rows.
 use Rattle.std.specs.Prelude.{◌≡◌, ℕ, not, List, [], ◌∷◌, ◌++◌, length, map, fold, take, drop, position, unwrap_or, Option, Some}
 use Rattle.ft_base.specs.declared.definition.IndexDef.{IndexDef}
-use Rattle.ft_base.specs.declared.doc.Doc.{Doc}
+use Rattle.ft_base.specs.Docs.{Doc}
 use Rattle.ft_base.specs.declared.row.Row.{Row}
 use Rattle.row_sort.specs.First.{First as FirstRows}
 use Rattle.agg_pipeline.specs.declared.feed.Feed.{Feed}

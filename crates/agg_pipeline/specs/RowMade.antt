@@ -1,7 +1,7 @@
 -- The row that a stream makes of a document: LOAD, and steps that take a row at a time.
 use Rattle.std.specs.Prelude.{List, [], ◌∷◌, Option, None, Some}
 use Rattle.ft_base.specs.declared.definition.IndexDef.{IndexDef}
-use Rattle.ft_base.specs.declared.doc.Doc.{Doc}
+use Rattle.ft_base.specs.Docs.{Doc}
 use Rattle.ft_base.specs.declared.row.Row.{Row}
 use Rattle.agg_pipeline.specs.Rows.{loaded}
 use Rattle.agg_pipeline.specs.Steps.{piped}

@@ -13,7 +13,7 @@ use crate::step::{Load, Reducer, Step};
 use crate::stream::{is_of_rows, made_cells, pipe_doc};
 use crate::table::Groups;
 use expr_eval::LentRow;
-use ft_base::{Bytes, Doc, IndexDef, NoMemory, Row, Shared};
+use ft_base::{Bytes, Doc, IndexDef, NoMemory, Row};
 use row_sort::FirstRows;
 use std::alloc::Global;
 
@@ -56,7 +56,7 @@ impl<'a> Feed<'a> {
     }
 
     /// Takes one more document in. After an `Err` the feed may only be dropped.
-    pub fn note(&mut self, doc: &Shared<Doc>) -> Result<(), NoMemory>
+    pub fn note(&mut self, doc: &Doc) -> Result<(), NoMemory>
         ensures { OnOk result (TakesIn doc.now self.old self.new) }
     {
         match &mut self.made {
@@ -111,7 +111,7 @@ fn hold_doc(
     load: &Load,
     first: &[Step],
     rows: &mut Vec<Row>,
-    doc: &Shared<Doc>,
+    doc: &Doc,
 ) -> Result<(), NoMemory>
     ensures { OnOk result (AreOfRows first.now → rows.new.items
         ≡ rows.old.items ++ rows_of def.now load.now first.now (doc.now ∷ [])) }
@@ -138,7 +138,7 @@ fn group_doc(
     first: &[Step],
     later: &[Step],
     groups: &mut Groups,
-    doc: &Shared<Doc>,
+    doc: &Doc,
 ) -> Result<(), NoMemory>
     ensures { OnOk result (AreOfRows first.now
         → Gains def.now later.now (rows_of def.now load.now first.now (doc.now ∷ [])) (AGroups groups.old) (AGroups groups.new)) }
@@ -170,12 +170,11 @@ fn note_doc(
     by: &[Bytes],
     reduce: &[Reducer],
     groups: &mut Groups,
-    doc: &Shared<Doc>,
+    doc: &Doc,
 ) -> Result<(), NoMemory>
     ensures { OnOk result (AreOfRows first.now → groups.new
         ≡ fold (note_row def.now by.now reduce.now) groups.old (rows_of def.now load.now first.now (doc.now ∷ []))) }
 {
-    let doc = doc.get();
     match made_cells(alloc, def, load, first, doc)? {
         Some(cells) => {
             let row = LentRow {
@@ -221,7 +220,7 @@ fn sort_doc(
     first: &[Step],
     later: &[Step],
     held: &mut Option<FirstRows<Row>>,
-    doc: &Shared<Doc>,
+    doc: &Doc,
 ) -> Result<(), NoMemory>
     ensures { OnOk result (AreOfRows first.now
         → Gains def.now later.now (rows_of def.now load.now first.now (doc.now ∷ [])) (AFirst held.old) (AFirst held.new)) }

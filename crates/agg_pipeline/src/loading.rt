@@ -63,9 +63,9 @@ fn load_cell(
 fn value_there<'a>(name: &[u8], def: &IndexDef, doc: &'a Doc) -> Option<Lent<'a>>
     ensures { option_map value_lent result ≡ value_there def.now doc.now name.now }
 {
-    match by_alias(name, &doc.hash, def.fields.as_slice()) {
+    match by_alias(name, &doc.hash(), def.fields.as_slice()) {
         Some(value) => Some(value),
-        None => by_name(name, &doc.hash, def.fields.as_slice()),
+        None => by_name(name, &doc.hash(), def.fields.as_slice()),
     }
 }
 
@@ -74,7 +74,7 @@ fn own_cells(alloc: Global, def: &IndexDef, doc: &Doc) -> Result<ListOf<Cell>, N
     ensures { IfOk result (λ cells. cells ≡ map (own_cell def.now) doc.now.hash) }
 {
     let mut cells = ListOf::new(alloc);
-    let mut walk = doc.hash.walk();
+    let mut walk = doc.hash().walk();
     while let Some((name, text)) = walk.next() {
         cells.push(own_cell(alloc, name, text, def.fields.as_slice())?)?;
     }

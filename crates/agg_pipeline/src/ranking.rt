@@ -10,7 +10,7 @@ use crate::sorting::{directions, items_of, key_values};
 use crate::step::{Load, SortKey, Step};
 use crate::stream::{made_cells, shared_row};
 use expr_eval::LentRow;
-use ft_base::{Cell, Doc, IndexDef, ListOf, NoMemory, Row, Shared, Value};
+use ft_base::{Cell, Doc, IndexDef, ListOf, NoMemory, Row, Value};
 use row_sort::{FirstRows, Ranked};
 use std::alloc::Global;
 
@@ -23,7 +23,7 @@ pub fn offer_doc(
     keys: &[SortKey],
     most: usize,
     held: &mut Option<FirstRows<Row>>,
-    doc: &Shared<Doc>,
+    doc: &Doc,
 ) -> Result<(), NoMemory>
     ensures { OnOk result (AreOfRows first.now → (rows : List ARow)
         → AreFirst def.now keys.now most rows held.old
@@ -60,14 +60,14 @@ fn offer_made(
     first: &[Step],
     keys: &[SortKey],
     held: &mut FirstRows<Row>,
-    doc: &Shared<Doc>,
+    doc: &Doc,
 ) -> Result<(), NoMemory>
     ensures { OnOk result (AreOfRows first.now → held.new ≡ record held.old {
       rows = offered held.old.by held.old.most held.old.rows
           (map (ranked def.now keys.now) (rows_of def.now load.now first.now (doc.now ∷ [])));
     }) }
 {
-    match made_cells(alloc, def, load, first, doc.get())? {
+    match made_cells(alloc, def, load, first, doc)? {
         Some(cells) => offer_cells(alloc, def, keys, held, doc, cells),
         None => Ok(()),
     }
@@ -79,7 +79,7 @@ fn offer_cells(
     def: &IndexDef,
     keys: &[SortKey],
     held: &mut FirstRows<Row>,
-    doc: &Shared<Doc>,
+    doc: &Doc,
     cells: ListOf<Cell>,
 ) -> Result<(), NoMemory>
     ensures { OnOk result (held.new ≡ record held.old {
@@ -89,7 +89,7 @@ fn offer_cells(
 {
     let row = LentRow {
         cells: cells.as_slice(),
-        doc: Some(doc.get()),
+        doc: Some(doc),
     };
     let values = key_values(alloc, def, keys, row)?;
     offer_values(held, values, doc, cells)
@@ -99,7 +99,7 @@ fn offer_cells(
 fn offer_values(
     held: &mut FirstRows<Row>,
     values: ListOf<Value>,
-    doc: &Shared<Doc>,
+    doc: &Doc,
     cells: ListOf<Cell>,
 ) -> Result<(), NoMemory>
     ensures { OnOk result (held.new ≡ record held.old {

@@ -11,7 +11,7 @@ use crate::cells::set_cell;
 use crate::loading::loaded_cells;
 use crate::step::{Load, Step};
 use expr_eval::{Expr, LentRow, eval, holds};
-use ft_base::{Bytes, Cell, Doc, IndexDef, ListOf, NoMemory, Row, Shared};
+use ft_base::{Bytes, Cell, Doc, IndexDef, ListOf, NoMemory, Row};
 use std::alloc::Global;
 use std::marker::Model;
 
@@ -48,7 +48,7 @@ impl StreamSteps {
     }
 
     /// The row that a document becomes, and none exactly where a FILTER drops it.
-    pub fn one(&self, def: &IndexDef, doc: &Shared<Doc>) -> Result<Option<Row>, NoMemory>
+    pub fn one(&self, def: &IndexDef, doc: &Doc) -> Result<Option<Row>, NoMemory>
         ensures { IfOk result (λ row. row ≡ row_made self.now.0 self.now.1 def.now doc.now) }
     {
         pipe_doc(self.alloc, def, &self.load, self.steps.as_slice(), doc)
@@ -62,19 +62,19 @@ pub fn pipe_doc(
     def: &IndexDef,
     load: &Load,
     steps: &[Step],
-    doc: &Shared<Doc>,
+    doc: &Doc,
 ) -> Result<Option<Row>, NoMemory>
     ensures { IfOk result (λ made. AreOfRows steps.now
         → option_to_list made ≡ piped def.now steps.now (loaded load.now def.now doc.now ∷ [])) }
 {
-    match made_cells(alloc, def, load, steps, doc.get())? {
+    match made_cells(alloc, def, load, steps, doc)? {
         Some(cells) => Ok(Some(shared_row(doc, cells)?)),
         None => Ok(None),
     }
 }
 
 /// The row of a document, which it shares, and these cells.
-pub fn shared_row(doc: &Shared<Doc>, cells: ListOf<Cell>) -> Result<Row, NoMemory>
+pub fn shared_row(doc: &Doc, cells: ListOf<Cell>) -> Result<Row, NoMemory>
     ensures { IfOk result (λ row. row ≡ row_with doc.now cells) }
 {
     let doc = Some(doc.share()?);

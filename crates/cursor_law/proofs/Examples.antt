@@ -12,7 +12,7 @@ use Rattle.cursor_book.specs.declared.cursor.Body.TheVariants as body
 use Rattle.cursor_book.specs.declared.cursor.Cursor.{Cursor}
 use Rattle.ft_base.specs.Reply.{spelling}
 use Rattle.ft_base.specs.Words.{KeepsLimits}
-use Rattle.ft_base.specs.declared.doc.Doc.{Doc}
+use Rattle.ft_base.specs.Docs.{Doc}
 use Rattle.ft_base.specs.declared.limits.TheConstants.{MAX_COMMAND_BYTES, MAX_WORDS, MAX_WORD_BYTES}
 use Rattle.ft_base.specs.declared.query.Query.TheVariants as tree
 use Rattle.ft_base.specs.declared.reply.Reply.{Reply}

@@ -28,7 +28,7 @@ use Rattle.expr_eval.specs.declared.tree.Expr.TheViews.{out-Expr}
 use Rattle.ft_base.specs.Reading.{parts_at}
 use Rattle.ft_base.specs.Reply.{spelling}
 use Rattle.ft_base.specs.Words.{KeepsLimits}
-use Rattle.ft_base.specs.declared.doc.Doc.{Doc}
+use Rattle.ft_base.specs.Docs.{Doc}
 use Rattle.ft_base.specs.declared.query.Query.TheVariants as query
 use Rattle.ft_base.specs.declared.reply.Reply.TheVariants.{Line, Number}
 use Rattle.ft_base.specs.declared.row.Row.{Row}

@@ -6,7 +6,7 @@ use Rattle.history_core.proofs.GrowingLaws.{number_more}
 use Rattle.history_core.specs.Histories.{Leads, number}
 use Rattle.history_core.specs.declared.entry.Entry.{Entry}
 use Rattle.history_core.specs.declared.entry.Entry.TheVariants.{Exec}
-use Rattle.ft_base.specs.declared.doc.Doc.{Doc}
+use Rattle.ft_base.specs.Docs.{Doc}
 use Rattle.ft_machine.specs.History.{IsLegal, MayFollow}
 use Rattle.ft_machine.specs.Machine.{State, empty_state}
 use Rattle.ft_machine.specs.Parts.{behind, last_id}

@@ -7,7 +7,7 @@ use Rattle.cursor_book.specs.declared.cursor.Body.TheVariants as body
 use Rattle.cursor_book.specs.declared.cursor.Cursor.{Cursor}
 use Rattle.cursor_book.specs.declared.cursor.Taken.TheVariants as taken
 use Rattle.ft_base.specs.declared.definition.IndexDef.{IndexDef}
-use Rattle.ft_base.specs.declared.doc.Doc.{Doc}
+use Rattle.ft_base.specs.Docs.{Doc}
 use Rattle.ft_machine.specs.Machine.{State}
 use Rattle.ft_machine.specs.Parts.{Part, last_id, part_of, part_reply}
 use Rattle.cursor_law.specs.Law.{rows_shown}

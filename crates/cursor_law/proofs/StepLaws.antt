@@ -13,7 +13,7 @@ use Rattle.ft_base.proofs.SpellingLaws.{spelling-Fault}
 use Rattle.ft_base.specs.Memory.{out_of_memory, want_of_memory}
 use Rattle.ft_base.specs.Reply.{spelling, spelling_step}
 use Rattle.ft_base.specs.declared.definition.IndexDef.{IndexDef}
-use Rattle.ft_base.specs.declared.doc.Doc.{Doc}
+use Rattle.ft_base.specs.Docs.{Doc}
 use Rattle.ft_base.specs.declared.reply.Reply.{Reply}
 use Rattle.ft_base.specs.declared.reply.Reply.TheFolds.{fold_out-Reply}
 use Rattle.ft_base.specs.declared.reply.Reply.TheVariants.{Array}

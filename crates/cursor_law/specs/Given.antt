@@ -9,7 +9,7 @@ use Rattle.cursor_law.specs.Steps.{Step}
 use Rattle.cursor_law.specs.StreamCursor.{StreamCursor, after_in, given_in, index_in, row_in}
 use Rattle.ft_base.specs.Memory.{out_of_memory}
 use Rattle.ft_base.specs.Reply.{spelling}
-use Rattle.ft_base.specs.declared.doc.Doc.{Doc}
+use Rattle.ft_base.specs.Docs.{Doc}
 use Rattle.ft_base.specs.declared.row.Row.{Row}
 use Rattle.ft_machine.specs.Definitions.{Defined, index_of}
 use Rattle.ft_machine.specs.Machine.{State, at_moment}

@@ -6,7 +6,7 @@ use Rattle.cursor_law.specs.Opens.{Opens}
 use Rattle.cursor_law.specs.Steps.{Step, steps}
 use Rattle.cursor_law.specs.StreamCursor.{IsHit, StreamCursor, after_in, has_id, hits}
 use Rattle.ft_base.specs.Reply.{spelling}
-use Rattle.ft_base.specs.declared.doc.Doc.{Doc}
+use Rattle.ft_base.specs.Docs.{Doc}
 use Rattle.ft_base.specs.declared.reply.Reply.{Reply}
 use Rattle.ft_base.specs.declared.reply.Reply.TheVariants.{Array, Number}
 use Rattle.ft_base.specs.declared.row.Row.{Row}

@@ -7,7 +7,7 @@ use Rattle.cursor_book.specs.declared.cursor.Body.{Body}
 use Rattle.cursor_book.specs.declared.cursor.Body.TheVariants as body
 use Rattle.cursor_book.specs.declared.cursor.Cursor.{Cursor}
 use Rattle.ft_base.specs.declared.definition.IndexDef.{IndexDef}
-use Rattle.ft_base.specs.declared.doc.Doc.{Doc}
+use Rattle.ft_base.specs.Docs.{Doc}
 use Rattle.ft_base.specs.declared.query.Query.{Query}
 use Rattle.ft_base.specs.declared.row.Row.{Row}
 use Rattle.ft_machine.specs.Definitions.{Defined}

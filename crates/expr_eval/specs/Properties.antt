@@ -8,7 +8,7 @@ use Rattle.ft_base.specs.Kinds.{is_numeric}
 use Rattle.field_text.specs.Numbers.{number_of}
 use Rattle.ft_base.specs.declared.definition.Field.{Field}
 use Rattle.ft_base.specs.declared.definition.IndexDef.{IndexDef}
-use Rattle.ft_base.specs.declared.doc.Doc.{Doc}
+use Rattle.ft_base.specs.Docs.{Doc}
 use Rattle.ft_base.specs.declared.row.Cell.{Cell}
 use Rattle.ft_base.specs.declared.row.Row.{Row}
 use Rattle.ft_base.specs.declared.row.Value.{Value}

@@ -32,7 +32,7 @@ impl<'a> LentRow<'a> {
     {
         match (cell_of(self.cells, name), self.doc) {
             (Some(value), _) => Lent::of(value),
-            (None, Some(doc)) => in_hash(name, &doc.hash, def.fields.as_slice()),
+            (None, Some(doc)) => in_hash(name, &doc.hash(), def.fields.as_slice()),
             (None, None) => Lent::Null,
         }
     }
@@ -43,7 +43,7 @@ fn document(row: &Row) -> Option<&Doc>
     ensures { option_copied result ≡ row.now.doc }
 {
     match &row.doc {
-        Some(doc) => Some(doc.get()),
+        Some(doc) => Some(doc),
         None => None,
     }
 }

@@ -6,7 +6,7 @@ ghost use Rattle.expr_eval.specs.Properties.{cell_of, alias_of, has_number, seen
 
 use crate::lent::Lent;
 use field_text::number;
-use ft_base::{Cell, Field, HashRec, Value};
+use ft_base::{Cell, Field, HashView, Value};
 
 /// The value of the cell of a name.
 pub fn cell_of<'a>(cells: &'a [Cell], name: &[u8]) -> Option<&'a Value>
@@ -21,7 +21,7 @@ pub fn cell_of<'a>(cells: &'a [Cell], name: &[u8]) -> Option<&'a Value>
 }
 
 /// The hash's field that an alias names, else the hash's field of this very name.
-pub fn in_hash<'a>(name: &[u8], hash: &'a HashRec, fields: &[Field]) -> Lent<'a>
+pub fn in_hash<'a>(name: &[u8], hash: &HashView<'a>, fields: &[Field]) -> Lent<'a>
     ensures { value_lent result ≡ in_hash name.now hash.now fields.now }
 {
     match by_alias(name, hash, fields) {
@@ -34,7 +34,7 @@ pub fn in_hash<'a>(name: &[u8], hash: &'a HashRec, fields: &[Field]) -> Lent<'a>
 }
 
 /// The hash's field that an alias names.
-pub fn by_alias<'a>(name: &[u8], hash: &'a HashRec, fields: &[Field]) -> Option<Lent<'a>>
+pub fn by_alias<'a>(name: &[u8], hash: &HashView<'a>, fields: &[Field]) -> Option<Lent<'a>>
     ensures { option_map value_lent result ≡ by_alias name.now hash.now fields.now }
 {
     let field = alias_of(fields, name)?;
@@ -54,7 +54,7 @@ fn alias_of<'a>(fields: &'a [Field], name: &[u8]) -> Option<&'a Field>
 }
 
 /// The hash's field of this very name.
-pub fn by_name<'a>(name: &[u8], hash: &'a HashRec, fields: &[Field]) -> Option<Lent<'a>>
+pub fn by_name<'a>(name: &[u8], hash: &HashView<'a>, fields: &[Field]) -> Option<Lent<'a>>
     ensures { option_map value_lent result ≡ by_name name.now hash.now fields.now }
 {
     let text = hash.get(name)?;

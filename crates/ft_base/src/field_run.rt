@@ -2,13 +2,13 @@
 //!
 //! Field after field stands as the length of its name, the name, the length of its value and the
 //! value. A length is one byte below 128 and else two (LEB128), so a name and a value are shorter
-//! than 16,384 bytes. A name is found by a walk that skips by lengths.
-ghost use Rattle.std.specs.Prelude.{◌≡◌, ◌+◌, ◌-◌, ◌<◌, ◌≤◌, ◌++◌, ◌∷◌, true, List, ℕ, [], length, take, drop, is_some, is_none, slice_get, Some, None, IfOk, IfSome, OnOk, OnErr};
-ghost use Rattle.std.specs.Option.{option_copied};
-ghost use Rattle.ft_base.specs.Hash.{Hash, HasDistinctFields, IsNextField, get_field, set_field, remove_field};
-ghost use Rattle.ft_base.specs.Run.{IsShort, LiesAt, length_bytes, part_of, length_in, after_length, part_in, after_part, run_of};
+//! than 16,384 bytes. How a field is found is in `run_view.rt`.
+ghost use Rattle.std.specs.Prelude.{◌≡◌, ◌-◌, ◌<◌, ◌≤◌, ◌++◌, true, List, ℕ, [], length, take, drop, is_some, is_none, None, IfOk, IfSome, OnOk, OnErr};
+ghost use Rattle.ft_base.specs.Hash.{Hash, HasDistinctFields, get_field, set_field, remove_field};
+ghost use Rattle.ft_base.specs.Run.{IsShort, LiesAt, length_bytes, part_of, run_of};
 
 use crate::NoMemory;
+use crate::run_view::{Place, RunView, between};
 use std::alloc::Global;
 use std::marker::Model;
 
@@ -35,14 +35,6 @@ impl Model for FieldRun {
     ghost view = { λ r. fields_in r.len r.bytes.items };
 
     ghost invariant = { λ r. Packed r.bytes.items (fields_in r.len r.bytes.items) };
-}
-
-// Where a field's bytes begin in a run, where those of its value begin, and where both end.
-#[derive(Clone, Copy)]
-struct Place {
-    from: usize,
-    start: usize,
-    to: usize,
 }
 
 impl FieldRun {
@@ -73,31 +65,6 @@ impl FieldRun {
         ensures distinct { HasDistinctFields self.now }
     {
         self.len
-    }
-
-    /// The value of a field, `None` where it is not there.
-    pub fn get(&self, field: &[u8]) -> Option<&[u8]>
-        ensures { option_copied result ≡ get_field self.now field.now }
-    {
-        match self.find(field) {
-            Some(place) => Some(between(self.bytes.as_slice(), place.start, place.to)),
-            None => None,
-        }
-    }
-
-    /// The field at a place in the order of first setting, and its value.
-    pub fn at(&self, i: usize) -> (&[u8], &[u8])
-        requires { i < length self.now }
-        ensures { slice_get self.now i ≡ Some (result.0.now, result.1.now) }
-    {
-        let mut left = self.bytes.as_slice();
-        for passed in 0..i {
-            let (_, tail) = split_part(left);
-            left = split_part(tail).1;
-        }
-        let (name, tail) = split_part(left);
-        let (value, _) = split_part(tail);
-        (name, value)
     }
 
     /// Whether a field can be set and the run stays small.
@@ -190,19 +157,20 @@ impl FieldRun {
         }
     }
 
+    /// The same fields in a run of their own.
+    pub fn of(alloc: Global, fields: &RunView<'_>) -> Result<FieldRun, NoMemory>
+        ensures { IfOk result (λ run. run ≡ fields.now) }
+    {
+        let (len, bytes) = fields.parts();
+        Ok(FieldRun {
+            bytes: Vec::from_slice(alloc, bytes)?,
+            len,
+        })
+    }
+
     /// The allocator of the run.
     pub fn allocator(&self) -> Global {
         *self.bytes.allocator()
-    }
-
-    /// An equal run of its own.
-    pub fn copy(&self) -> Result<FieldRun, NoMemory>
-        ensures { IfOk result (λ copy. copy ≡ self.now) }
-    {
-        Ok(FieldRun {
-            bytes: Vec::from_slice(*self.bytes.allocator(), self.bytes.as_slice())?,
-            len: self.len,
-        })
     }
 
     /// The bytes of the run, and that no other hash is spelled so.
@@ -213,110 +181,20 @@ impl FieldRun {
         self.bytes.as_slice()
     }
 
-    /// All fields and their values, in order of first setting.
-    pub fn walk(&self) -> RunWalk<'_>
+    /// The fields, lent.
+    pub fn view(&self) -> RunView<'_>
         ensures { result ≡ self.now }
     {
-        RunWalk {
-            left: self.bytes.as_slice(),
-            len: self.len,
-        }
+        RunView::over(self.bytes.as_slice(), self.len)
     }
 
-    // One walk: each name is compared, and each value is skipped by its length.
+    // Where a field lies.
     fn find(&self, field: &[u8]) -> Option<Place>
         ensures found { IfSome result (λ p. LiesAt self.now field.now p.from p.start p.to) }
         ensures none { result ≡ None → get_field self.now field.now ≡ None }
     {
-        let bytes = self.bytes.as_slice();
-        let mut left = bytes;
-        for i in 0..self.len {
-            let (name, tail) = split_part(left);
-            let (value, rest) = split_part(tail);
-            if field == name {
-                let to = bytes.len() - rest.len();
-                return Some(Place {
-                    from: bytes.len() - left.len(),
-                    start: to - value.len(),
-                    to,
-                });
-            }
-            left = rest;
-        }
-        None
+        self.view().find(field)
     }
-}
-
-/// The fields of a run that are left, in their order.
-#[derive(Drop)]
-pub struct RunWalk<'a> {
-    left: &'a [u8],
-    len: usize,
-}
-
-impl<'a> Model for RunWalk<'a> {
-    ghost use Rattle.std.specs.Prelude.{◌≡◌, List, ℕ};
-
-    ghost Value = { List (List ℕ × List ℕ) };
-
-    ghost use Rattle.ft_base.specs.Run.{fields_in, run_of};
-
-    ghost view = { λ w. fields_in w.len w.left.now };
-
-    ghost invariant = { λ w. w.left.now ≡ run_of (fields_in w.len w.left.now) };
-}
-
-impl<'a> RunWalk<'a> {
-    /// The next field and its value, `None` where all were given.
-    pub fn next(&mut self) -> Option<(&'a [u8], &'a [u8])>
-        ensures { IsNextField self.old result self.new }
-    {
-        if self.len == 0 {
-            return None;
-        }
-        let (name, tail) = split_part(self.left);
-        let (value, rest) = split_part(tail);
-        self.left = rest;
-        self.len -= 1;
-        Some((name, value))
-    }
-}
-
-// The length that bytes begin with, and what follows it.
-fn read_length(bytes: &[u8]) -> (usize, &[u8])
-    ensures value { result.0 ≡ length_in bytes.now }
-    ensures rest { result.1.now ≡ after_length bytes.now }
-{
-    match bytes {
-        [] => (0, bytes),
-        [first, rest @ ..] => {
-            if *first < 128 {
-                return (*first as usize, rest);
-            }
-            match rest {
-                [] => (*first as usize - 128, rest),
-                [second, rest @ ..] => (*first as usize - 128 + *second as usize * 128, rest),
-            }
-        }
-    }
-}
-
-// The name or the value that bytes begin with, and what follows it.
-fn split_part(bytes: &[u8]) -> (&[u8], &[u8])
-    requires { length_in bytes.now ≤ length (after_length bytes.now) }
-    ensures part { result.0.now ≡ part_in bytes.now }
-    ensures rest { result.1.now ≡ after_part bytes.now }
-{
-    let (length, rest) = read_length(bytes);
-    rest.split_at(length)
-}
-
-fn between(bytes: &[u8], from: usize, to: usize) -> &[u8]
-    requires order { from ≤ to }
-    requires within { to ≤ length bytes.now }
-    ensures { result.now ≡ take (to - from) (drop from bytes.now) }
-{
-    &bytes[from..to]
 }
 
 fn overwrite(bytes: &mut Vec<u8>, from: usize, to: usize, value: &[u8])

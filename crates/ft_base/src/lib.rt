@@ -7,6 +7,7 @@
 //! Read `bytes.rt` and `words.rt` first, then `specs/Hash.antt` and `specs/Reply.antt`.
 #![tactic(auto)]
 
+mod block;
 mod boxed;
 mod bytes;
 mod definition;
@@ -15,6 +16,8 @@ mod field_map;
 mod field_run;
 mod hash_rec;
 mod hash_reply;
+mod hash_view;
+mod inline;
 mod limits;
 mod list_of;
 mod names;
@@ -22,6 +25,7 @@ mod number;
 mod query;
 mod reply;
 mod row;
+mod run_view;
 mod separators;
 mod shared;
 mod steps;
@@ -36,10 +40,12 @@ pub use bytes::Bytes;
 pub use definition::{Field, FieldKind, IndexDef, StopWords};
 /// A hash under its key, with the number of the event that last wrote it.
 pub use doc::Doc;
-/// The fields of a hash and their values, in order of first setting.
-pub use hash_rec::{FieldWalk, HashRec};
+/// A hash that is being made.
+pub use hash_rec::HashRec;
 /// The fields of a hash and their values in turn.
 pub use hash_reply::in_turn;
+/// The fields of a hash and their values, in order of first setting.
+pub use hash_view::{FieldWalk, HashView};
 /// The limits of a command on the wire.
 pub use limits::{MAX_COMMAND_BYTES, MAX_WORD_BYTES, MAX_WORDS};
 /// A list that a syntax tree or a reply may hold of its own type.
@@ -56,8 +62,6 @@ pub use reply::{Reply, put_reply};
 pub use row::{Cell, Row, Value, copy_values};
 /// Which bytes part words.
 pub use separators::is_separator;
-/// One value that several hold.
-pub use shared::Shared;
 /// A count of steps that only contracts see.
 pub use steps::Steps;
 /// Out of memory, the one answer that nothing else in a contract explains.

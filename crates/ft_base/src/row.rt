@@ -5,7 +5,6 @@ use crate::NoMemory;
 use crate::bytes::Bytes;
 use crate::doc::Doc;
 use crate::list_of::ListOf;
-use crate::shared::Shared;
 use std::alloc::Global;
 
 /// A value of a row.
@@ -30,7 +29,7 @@ pub struct Cell {
 /// A row: its cells, no two of one name, and its document while it has one, which the store of documents may hold too.
 #[derive(Debug, Drop)]
 pub struct Row {
-    pub doc: Option<Shared<Doc>>,
+    pub doc: Option<Doc>,
     pub cells: ListOf<Cell>,
 }
 

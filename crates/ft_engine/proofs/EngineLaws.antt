@@ -5,7 +5,7 @@ use Rattle.std.specs.List.{IsDistinct}
 use Rattle.std.specs.Str.{bytes_eq}
 use Rattle.cmd_parse.specs.Read.{Plain}
 use Rattle.cmd_parse.specs.declared.command.Verb.{Verb}
-use Rattle.ft_base.specs.declared.doc.Doc.{Doc}
+use Rattle.ft_base.specs.Docs.{Doc}
 use Rattle.ft_machine.specs.Step.{Does, last_number, next_number}
 use Rattle.indexed_store.specs.Holding.{AllStand, Holding, state_of}
 use Rattle.ft_engine.specs.Stands.{IsIndexed, stands_of, unused}

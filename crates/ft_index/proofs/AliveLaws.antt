@@ -9,7 +9,7 @@ use Rattle.std.proofs.lemmas.List.{append-nil}
 use Rattle.std.proofs.lemmas.List.Elements.{filter-append}
 use Rattle.inverted_list.specs.Listing.{RisesAbove, last_id}
 use Rattle.doc_table.specs.Table.{Vector}
-use Rattle.ft_base.specs.declared.doc.Doc.{Doc}
+use Rattle.ft_base.specs.Docs.{Doc}
 use Rattle.ft_index.specs.Has.{alive}
 use Rattle.ft_index.specs.Lists.{has_id}
 use Rattle.ft_index.specs.Without.{without}

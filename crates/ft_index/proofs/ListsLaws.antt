@@ -5,7 +5,7 @@ use Rattle.std.proofs.lemmas.List.{map-append}
 use Rattle.std.specs.Map.{remove_entry}
 use Rattle.doc_table.specs.Table.{Vector}
 use Rattle.ft_base.specs.declared.definition.IndexDef.{IndexDef}
-use Rattle.ft_base.specs.declared.doc.Doc.{Doc}
+use Rattle.ft_base.specs.Docs.{Doc}
 use Rattle.ft_meaning.specs.Sortable.{sorting_vector}
 use Rattle.id_iters.specs.declared.list_name.ListName.{ListName}
 use Rattle.id_iters.specs.declared.list_name.ListName.TheVariants as names

@@ -7,7 +7,7 @@ use Rattle.std.proofs.lemmas.List.{append-nil}
 use Rattle.std.proofs.lemmas.List.Elements.{filter-append}
 use Rattle.doc_table.specs.Table.{Table, Vector}
 use Rattle.ft_base.specs.declared.definition.IndexDef.{IndexDef}
-use Rattle.ft_base.specs.declared.doc.Doc.{Doc}
+use Rattle.ft_base.specs.Docs.{Doc}
 use Rattle.ft_meaning.specs.Member.{failed, member, members, most_failures, one_more}
 use Rattle.ft_meaning.specs.Sortable.{sorting_vector}
 use Rattle.ft_index.specs.Entering.{awaiting}

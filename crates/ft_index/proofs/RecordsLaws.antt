@@ -13,7 +13,7 @@ use Rattle.ft_base.specs.declared.definition.FieldKind.{FieldKind}
 use Rattle.ft_base.specs.declared.definition.FieldKind.TheVariants as kinds
 use Rattle.doc_table.specs.Table.{Vector}
 use Rattle.ft_base.specs.declared.definition.IndexDef.{IndexDef}
-use Rattle.ft_base.specs.declared.doc.Doc.{Doc}
+use Rattle.ft_base.specs.Docs.{Doc}
 use Rattle.ft_base.specs.Kinds.{is_numeric}
 use Rattle.ft_meaning.specs.Holds.{value_tags}
 use Rattle.ft_meaning.specs.Meaning.{field_tokens}

@@ -10,7 +10,7 @@ use Rattle.std.specs.Str.{bytes_eq}
 use Rattle.field_text.specs.Tags.{firsts, tags_of}
 use Rattle.ft_base.specs.declared.definition.Field.{Field}
 use Rattle.ft_base.specs.declared.definition.IndexDef.{IndexDef}
-use Rattle.ft_base.specs.declared.doc.Doc.{Doc}
+use Rattle.ft_base.specs.Docs.{Doc}
 use Rattle.ft_meaning.specs.Sortable.{sorting_vector}
 use Rattle.inverted_list.specs.Listing.{last_id}
 use Rattle.inverted_list.specs.declared.marker.Markers.{Markers}

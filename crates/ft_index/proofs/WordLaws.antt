@@ -8,7 +8,7 @@ use Rattle.std.specs.List.{filter, slice_get}
 use Rattle.std.specs.Str.{bytes_eq}
 use Rattle.ft_base.specs.declared.definition.Field.{Field}
 use Rattle.ft_base.specs.declared.definition.IndexDef.{IndexDef}
-use Rattle.ft_base.specs.declared.doc.Doc.{Doc}
+use Rattle.ft_base.specs.Docs.{Doc}
 use Rattle.ft_meaning.specs.Sortable.{sorting_vector}
 use Rattle.ft_meaning.specs.Meaning.{field_tokens}
 use Rattle.inverted_list.specs.Listing.{last_id}

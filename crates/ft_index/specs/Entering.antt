@@ -2,7 +2,7 @@
 use Rattle.std.specs.Prelude.{Some}
 use Rattle.doc_table.specs.Table.{Table}
 use Rattle.ft_base.specs.declared.definition.IndexDef.{IndexDef}
-use Rattle.ft_base.specs.declared.doc.Doc.{Doc}
+use Rattle.ft_base.specs.Docs.{Doc}
 use Rattle.ft_meaning.specs.Sortable.{sorting_vector}
 
 -- the document waits in the table, with its sorting vector

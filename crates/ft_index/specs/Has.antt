@@ -2,7 +2,7 @@
 use Rattle.std.specs.Prelude.{◌≡◌, ℕ, List, map, filter, true, false, Option, Some, None, slice_get}
 use Rattle.doc_table.specs.Table.{Vector}
 use Rattle.ft_base.specs.declared.definition.IndexDef.{IndexDef}
-use Rattle.ft_base.specs.declared.doc.Doc.{Doc}
+use Rattle.ft_base.specs.Docs.{Doc}
 use Rattle.ft_meaning.specs.Sortable.{sorting_vector}
 use Rattle.numeric_ranges.specs.Ranges.{AreParted, IsPartition, Rows}
 use Rattle.numeric_ranges.specs.Values.{Entries}

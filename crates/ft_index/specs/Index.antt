@@ -4,7 +4,7 @@ use Rattle.std.specs.Map.{remove_entry}
 use Rattle.std.specs.Option.{option_map}
 use Rattle.doc_table.specs.Table.{Table, Vector}
 use Rattle.ft_base.specs.declared.definition.IndexDef.{IndexDef}
-use Rattle.ft_base.specs.declared.doc.Doc.{Doc}
+use Rattle.ft_base.specs.Docs.{Doc}
 use Rattle.ft_meaning.specs.Member.{members, most_failures, one_more}
 use Rattle.ft_index.specs.Has.{Has}
 use Rattle.ft_index.specs.Lists.{AllLists, has_id}

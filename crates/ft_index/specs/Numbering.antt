@@ -1,7 +1,7 @@
 -- How the ranges of fields are made, and how the numbers of a document go into them.
 use Rattle.std.specs.Prelude.{◌≡◌, ℕ, ℤ, List, [], ◌∷◌, ◌++◌, true, false, Option, Some, None, slice_get}
 use Rattle.ft_base.specs.declared.definition.Field.{Field}
-use Rattle.ft_base.specs.declared.doc.Doc.{Doc}
+use Rattle.ft_base.specs.Docs.{Doc}
 use Rattle.numeric_ranges.specs.Ranges.{AreParted, IsPartition, Rows}
 use Rattle.numeric_ranges.specs.Values.{Entries}
 use Rattle.ft_index.specs.Entries.{is_ranged, searched_number}

@@ -2,7 +2,7 @@
 use Rattle.std.specs.Prelude.{◌≤◌, ℕ, ◌+◌, List, Option, Some, None, IfSome, sum_by}
 use Rattle.doc_table.specs.Table.{Vector}
 use Rattle.ft_base.specs.declared.definition.IndexDef.{IndexDef}
-use Rattle.ft_base.specs.declared.doc.Doc.{Doc}
+use Rattle.ft_base.specs.Docs.{Doc}
 use Rattle.ft_meaning.specs.Records.{live_records}
 use Rattle.numeric_ranges.specs.Ranges.{Rows, entries_in_rows}
 use Rattle.term_dict.specs.Tags.{entries_in_fields}

@@ -1,7 +1,7 @@
 //! How a member enters an index: the table makes room for its sorting vector, then the lists get its
 //! entries.
 ghost use Rattle.std.specs.Prelude.{◌≡◌, ◌<◌, ◌≤◌, ◌++◌, ◌∷◌, [], List, length, OnOk};
-ghost use Rattle.ft_base.specs.declared.doc.Doc.{Doc};
+ghost use Rattle.ft_base.specs.Docs.{Doc};
 ghost use Rattle.ft_meaning.specs.Meaning.{ValuesFit};
 ghost use Rattle.ft_meaning.specs.Sortable.{sorting_vector};
 ghost use Rattle.ft_index.specs.Entering.{awaiting};
@@ -45,6 +45,6 @@ pub fn enter(
     ensures next { markers.old.next ≤ markers.new.next }
 {
     let vector = vector_of(alloc, def, doc)?;
-    table.prepare(doc.id, vector)?;
+    table.prepare(doc.id(), vector)?;
     lists.add(def, doc, markers)
 }

@@ -164,7 +164,7 @@ impl FtIndex {
         ensures next { markers.old.next ≤ markers.new.next }
     {
         let fit = fit_of(&self.def, doc);
-        let ready = Ready { id: doc.id, fit };
+        let ready = Ready { id: doc.id(), fit };
         match fit {
             Fit::Member => self.waits = None,
             Fit::NoPrefix | Fit::Failed => {

@@ -95,7 +95,7 @@ fn add_all(
 {
     for (number, field) in fields.iter().enumerate() {
         let value = searched_number(field, doc);
-        add_field(ranges, number, value, doc.id, markers)?;
+        add_field(ranges, number, value, doc.id(), markers)?;
     }
     Ok(())
 }
@@ -117,7 +117,7 @@ pub fn field_number(field: &Field, doc: &Doc) -> Option<i64>
     if !field.kind.is_numeric() {
         return None;
     }
-    let value = doc.hash.get(field.name.as_slice())?;
+    let value = doc.hash().get(field.name.as_slice())?;
     field_text::number(value)
 }
 

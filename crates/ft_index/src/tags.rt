@@ -53,7 +53,7 @@ fn add_all(
 {
     for (number, field) in fields.iter().enumerate() {
         let found = searched_tags(alloc, field, doc)?;
-        add_field(lists, number as u16, found.as_slice(), doc.id, markers)?;
+        add_field(lists, number as u16, found.as_slice(), doc.id(), markers)?;
     }
     Ok(())
 }
@@ -69,7 +69,7 @@ fn searched_tags(alloc: Global, field: &Field, doc: &Doc) -> Result<ListOf<Bytes
     if field.noindex {
         return Ok(ListOf::new(alloc));
     }
-    match doc.hash.get(field.name.as_slice()) {
+    match doc.hash().get(field.name.as_slice()) {
         Some(value) => tags(alloc, value, separator, case),
         None => Ok(ListOf::new(alloc)),
     }

@@ -46,7 +46,7 @@ pub fn add_words(
 {
     let texts = texts_of(alloc, def, doc)?;
     let found = collected(alloc, texts.as_slice())?;
-    add_all(terms, found, doc.id, markers)
+    add_all(terms, found, doc.id(), markers)
 }
 
 /// The tokens of each field of a document, of which there are none where its words are not found.

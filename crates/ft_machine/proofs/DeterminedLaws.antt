@@ -13,7 +13,7 @@ use Rattle.ft_base.specs.declared.reply.Reply.TheFolds.{fold_out-Reply}
 use Rattle.ft_base.specs.declared.reply.Reply.TheViews.{out-Reply}
 use Rattle.ft_base.specs.declared.definition.Field.{Field}
 use Rattle.ft_base.specs.declared.definition.IndexDef.{IndexDef}
-use Rattle.ft_base.specs.declared.doc.Doc.{Doc}
+use Rattle.ft_base.specs.Docs.{Doc}
 use Rattle.ft_base.specs.declared.query.Param.{Param}
 use Rattle.ft_base.specs.declared.query.Query.{Query}
 use Rattle.ft_base.specs.declared.reply.Reply.{Reply}

@@ -8,7 +8,7 @@ use Rattle.agg_pipeline.specs.declared.step.Load.{Load}
 use Rattle.agg_pipeline.specs.declared.step.Step.{Step}
 use Rattle.cmd_parse.specs.Aggregating.{Aggregating}
 use Rattle.ft_base.specs.declared.definition.IndexDef.{IndexDef}
-use Rattle.ft_base.specs.declared.doc.Doc.{Doc}
+use Rattle.ft_base.specs.Docs.{Doc}
 use Rattle.ft_base.specs.declared.query.Query.{Query}
 use Rattle.ft_base.specs.declared.reply.Reply.{Reply}
 use Rattle.ft_base.specs.declared.reply.Reply.TheVariants.{Array, Bulk, NullBulk, Number}

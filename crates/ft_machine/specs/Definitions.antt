@@ -4,7 +4,7 @@ use Rattle.std.specs.Prelude.{ℕ, List, [], ◌∷◌, map, fold, Option, Some,
 use Rattle.std.specs.Str.{bytes_eq}
 use Rattle.ft_base.specs.Space.{erase}
 use Rattle.ft_base.specs.declared.definition.IndexDef.{IndexDef}
-use Rattle.ft_base.specs.declared.doc.Doc.{Doc}
+use Rattle.ft_base.specs.Docs.{Doc}
 use Rattle.ft_meaning.specs.Member.{failures_with, members}
 
 pub record Defined : Type 0 where

@@ -6,7 +6,7 @@ use Rattle.cursor_book.specs.Cursors.{without_index as without_cursors}
 use Rattle.ft_base.specs.Kinds.{is_tag}
 use Rattle.ft_base.specs.declared.definition.Field.{Field}
 use Rattle.ft_base.specs.declared.definition.IndexDef.{IndexDef}
-use Rattle.ft_base.specs.declared.doc.Doc.{Doc}
+use Rattle.ft_base.specs.Docs.{Doc}
 use Rattle.ft_base.specs.declared.reply.Reply.{Reply}
 use Rattle.ft_base.specs.declared.reply.Reply.TheVariants.{Line, Fault, Bulk, Array}
 use Rattle.ft_schema.specs.Schema.{extended}

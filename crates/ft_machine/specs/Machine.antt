@@ -5,7 +5,7 @@ use Rattle.cursor_book.specs.declared.cursor.Cursor.{Cursor}
 use Rattle.ft_base.specs.Memory.{out_of_memory}
 use Rattle.ft_base.specs.Hash.{Hash}
 use Rattle.ft_base.specs.Space.{doc_of}
-use Rattle.ft_base.specs.declared.doc.Doc.{Doc}
+use Rattle.ft_base.specs.Docs.{Doc}
 use Rattle.ft_base.specs.declared.reply.Reply.{Reply}
 use Rattle.ft_machine.specs.Reads.{hash_in}
 use Rattle.ft_machine.specs.Definitions.{Defined}

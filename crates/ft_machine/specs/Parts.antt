@@ -9,7 +9,7 @@ use Rattle.cursor_book.specs.declared.cursor.Body.TheVariants as body
 use Rattle.cursor_book.specs.declared.cursor.Taken.{Taken}
 use Rattle.cursor_book.specs.declared.cursor.Taken.TheVariants as taken
 use Rattle.ft_base.specs.declared.definition.IndexDef.{IndexDef}
-use Rattle.ft_base.specs.declared.doc.Doc.{Doc}
+use Rattle.ft_base.specs.Docs.{Doc}
 use Rattle.ft_base.specs.declared.query.Query.{Query}
 use Rattle.ft_base.specs.declared.reply.Reply.{Reply}
 use Rattle.ft_base.specs.declared.reply.Reply.TheVariants.{Array, Number}

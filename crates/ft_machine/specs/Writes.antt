@@ -6,7 +6,7 @@ use Rattle.std.specs.Str.{bytes_eq}
 use Rattle.ft_base.specs.Hash.{Hash, set_field}
 use Rattle.ft_base.specs.Number.{int_of, is_i64}
 use Rattle.ft_base.specs.Space.{erase, write}
-use Rattle.ft_base.specs.declared.doc.Doc.{Doc}
+use Rattle.ft_base.specs.Docs.{Doc}
 use Rattle.ft_base.specs.declared.reply.Reply.TheVariants.{Line, Fault, Number}
 use Rattle.ft_machine.specs.Definitions.{tried, without_keys}
 use Rattle.ft_base.specs.Words.{first, second}

@@ -6,7 +6,7 @@ use Rattle.ft_base.specs.Hash.{Hash, get_field}
 use Rattle.ft_base.specs.Kinds.{is_text}
 use Rattle.ft_base.specs.declared.definition.Field.{Field}
 use Rattle.ft_base.specs.declared.definition.IndexDef.{IndexDef}
-use Rattle.ft_base.specs.declared.doc.Doc.{Doc}
+use Rattle.ft_base.specs.Docs.{Doc}
 use Rattle.ft_base.specs.declared.limits.TheConstants.{MAX_WORD_BYTES}
 use Rattle.ft_meaning.specs.Member.{members}
 use Rattle.token_text.specs.Tokens.{tokens}

@@ -6,7 +6,7 @@ use Rattle.ft_base.specs.Hash.{Hash, get_field}
 use Rattle.ft_base.specs.Kinds.{is_numeric}
 use Rattle.ft_base.specs.declared.definition.Field.{Field}
 use Rattle.ft_base.specs.declared.definition.IndexDef.{IndexDef}
-use Rattle.ft_base.specs.declared.doc.Doc.{Doc}
+use Rattle.ft_base.specs.Docs.{Doc}
 use Rattle.field_text.specs.Numbers.{number_of}
 
 -- whether a key begins with one of the prefixes

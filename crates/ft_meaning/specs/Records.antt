@@ -7,7 +7,7 @@ use Rattle.std.specs.Set.{distinct_count}
 use Rattle.std.specs.Str.{bytes_eq}
 use Rattle.ft_base.specs.declared.definition.Field.{Field}
 use Rattle.ft_base.specs.declared.definition.IndexDef.{IndexDef}
-use Rattle.ft_base.specs.declared.doc.Doc.{Doc}
+use Rattle.ft_base.specs.Docs.{Doc}
 use Rattle.ft_meaning.specs.Holds.{field_number, field_tags}
 use Rattle.ft_meaning.specs.Meaning.{field_tokens}
 use Rattle.token_text.specs.declared.token.Token.{Token}

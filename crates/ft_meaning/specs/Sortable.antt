@@ -3,7 +3,7 @@ use Rattle.std.specs.Prelude.{ℕ, ℤ, List, map, filter, Bool, ◌&&◌, Optio
 use Rattle.ft_base.specs.Kinds.{is_numeric}
 use Rattle.ft_base.specs.declared.definition.Field.{Field}
 use Rattle.ft_base.specs.declared.definition.IndexDef.{IndexDef}
-use Rattle.ft_base.specs.declared.doc.Doc.{Doc}
+use Rattle.ft_base.specs.Docs.{Doc}
 use Rattle.ft_meaning.specs.Holds.{field_number}
 
 -- whether a field's numbers are kept: it is NUMERIC and SORTABLE. NOINDEX makes no difference.

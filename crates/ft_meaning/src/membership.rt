@@ -4,22 +4,22 @@ ghost use Rattle.ft_meaning.specs.Member.{has_prefix, takes_key, field_reads};
 ghost use Rattle.ft_meaning.specs.Member.{numbers_read, member, failed};
 
 use field_text::number;
-use ft_base::{Bytes, Doc, Field, HashRec, IndexDef};
+use ft_base::{Bytes, Doc, Field, HashView, IndexDef};
 
 /// Whether a document is a member of an index.
 pub fn member(def: &IndexDef, doc: &Doc) -> bool
     ensures { result ≡ member def.now doc.now }
 {
-    takes_key(def.prefixes.as_slice(), doc.key.as_slice())
-        && numbers_read(def.fields.as_slice(), &doc.hash)
+    takes_key(def.prefixes.as_slice(), doc.key())
+        && numbers_read(def.fields.as_slice(), &doc.hash())
 }
 
 /// Whether a document that an index takes by its key is no member of it.
 pub fn failed(def: &IndexDef, doc: &Doc) -> bool
     ensures { result ≡ failed def.now doc.now }
 {
-    takes_key(def.prefixes.as_slice(), doc.key.as_slice())
-        && !numbers_read(def.fields.as_slice(), &doc.hash)
+    takes_key(def.prefixes.as_slice(), doc.key())
+        && !numbers_read(def.fields.as_slice(), &doc.hash())
 }
 
 fn takes_key(prefixes: &[Bytes], key: &[u8]) -> bool
@@ -39,13 +39,13 @@ fn has_prefix(prefixes: &[Bytes], key: &[u8]) -> bool
         .any(|prefix| key.starts_with(prefix.as_slice()))
 }
 
-fn numbers_read(fields: &[Field], hash: &HashRec) -> bool
+fn numbers_read(fields: &[Field], hash: &HashView<'_>) -> bool
     ensures { result ≡ numbers_read fields.now hash.now }
 {
     fields.iter().all(|field| field_reads(hash, field))
 }
 
-fn field_reads(hash: &HashRec, field: &Field) -> bool
+fn field_reads(hash: &HashView<'_>, field: &Field) -> bool
     ensures { result ≡ field_reads hash.now field.now }
 {
     if !field.kind.is_numeric() {

@@ -20,7 +20,7 @@ pub fn field_tokens(
     if !field.kind.is_text() || field.noindex {
         return Ok(TextTokens::new(alloc));
     }
-    match doc.hash.get(field.name.as_slice()) {
+    match doc.hash().get(field.name.as_slice()) {
         Some(value) => tokens(alloc, value, &def.stops),
         None => Ok(TextTokens::new(alloc)),
     }

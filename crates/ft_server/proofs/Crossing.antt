@@ -1,20 +1,18 @@
 -- That the server may cross threads. A cursor holds queries, expressions and rows, these hold themselves, and a row has a
--- document with several owners; one search through all that the server holds does not end, so it is shown level by level,
--- from a document on.
+-- document; one search through all that the server holds does not end, so it is shown level by level, from a row on.
 use denote.Param.Send.{IsSend, IsSync, sendable}
 use Rattle.std.proofs.Crossing.{crosses}
 use Rattle.std.proofs.MapsCrossing as maps
 use Rattle.std.proofs.alloc.Global.TheSendSync as global
 use Rattle.ft_engine.below.expr_eval.proofs.tree.Expr.TheLaws.TheKnot as expr
+use Rattle.ft_base.proofs.doc.Doc.TheSendSync as doc
 use Rattle.ft_base.proofs.query.Query.TheLaws.TheKnot as query
 use Rattle.ft_base.proofs.row.Value.TheLaws.TheKnot as value
 use Rattle.ft_engine.below.ft_index.proofs.index.FtIndex.TheSendSync as ft_index
 use Rattle.ft_engine.below.hash_store.proofs.store.HashStore.TheSendSync as hash_store
 use Rattle.ft_engine.below.indexed_store.proofs.waiting.CursorPlace.TheSendSync as cursor_place
 use Rattle.turn_gate.proofs.gate.Gate.TheSendSync as gate
-use Rattle.ft_base.specs.contracts.doc.Doc as doc
 use Rattle.ft_base.specs.contracts.row.Row as row
-use Rattle.ft_base.specs.contracts.shared.Shared as shared
 use Rattle.ft_engine.below.agg_pipeline.specs.contracts.stream.StreamSteps as steps
 use Rattle.ft_engine.below.cursor_book.specs.contracts.rows_left.RowsLeft as rows_left
 use Rattle.ft_engine.below.cursor_book.specs.contracts.cursor.Cursor as cursor
@@ -24,24 +22,11 @@ use Rattle.ft_engine.specs.contracts.engine.Engine as engine
 use Rattle.ft_server.specs.contracts.logged_engine.LoggedEngine as logged
 use Rattle.ft_server.specs.contracts.server.Server as server
 
-doc_send : IsSend doc.the_row
-doc_send = search (crosses, sendable) depth 60 fits 20000
-
-doc_sync : IsSync doc.the_row
-doc_sync = search (crosses, sendable) depth 60 fits 20000
-
--- to share a document is to lend it, and the last owner drops it: both are asked of it for either
-shared_send : IsSend (shared.the_row doc.the_row)
-shared_send = search (doc_send, doc_sync, crosses, sendable) depth 60 fits 20000
-
-shared_sync : IsSync (shared.the_row doc.the_row)
-shared_sync = search (doc_send, doc_sync, crosses, sendable) depth 60 fits 20000
-
 row_send : IsSend row.the_row
-row_send = search (shared_send, value.crosses, crosses, sendable) depth 60 fits 20000
+row_send = search (doc.the_send, value.crosses, crosses, sendable) depth 60 fits 20000
 
 row_sync : IsSync row.the_row
-row_sync = search (shared_sync, value.crosses, crosses, sendable) depth 60 fits 20000
+row_sync = search (doc.the_sync, value.crosses, crosses, sendable) depth 60 fits 20000
 
 rows_left_send : IsSend rows_left.the_row
 rows_left_send = search (row_send, crosses, sendable) depth 60 fits 20000

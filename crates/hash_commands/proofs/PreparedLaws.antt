@@ -11,7 +11,7 @@ use Rattle.ft_base.specs.Memory.{out_of_memory}
 use Rattle.ft_base.specs.Number.{int_of, is_i64}
 use Rattle.ft_base.specs.Reply.{spelling}
 use Rattle.ft_base.specs.Space.{doc_of}
-use Rattle.ft_base.specs.declared.doc.Doc.{Doc}
+use Rattle.ft_base.specs.Docs.{Doc}
 use Rattle.ft_base.specs.declared.reply.Reply.{Reply}
 use Rattle.ft_base.specs.declared.reply.Reply.TheVariants.{Line, Number}
 use Rattle.ft_base.specs.Words.{first, second, third}

@@ -4,7 +4,7 @@ use Rattle.std.specs.Prelude.{◌-◌, pos, codes, drop, ◌⊎◌}
 use Rattle.cmd_parse.specs.Read.{Plain}
 use Rattle.cmd_parse.specs.declared.command.Verb.TheVariants.{Del, Flushall}
 use Rattle.ft_base.specs.Reply.{spelling}
-use Rattle.ft_base.specs.declared.doc.Doc.{Doc}
+use Rattle.ft_base.specs.Docs.{Doc}
 use Rattle.ft_base.specs.declared.reply.Reply.TheVariants.{Line, Number}
 use Rattle.ft_machine.specs.Definitions.{Defined, without_keys}
 use Rattle.ft_machine.specs.Machine.{State}

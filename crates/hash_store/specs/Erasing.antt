@@ -1,7 +1,7 @@
 -- Documents that are taken out by their ids.
 use Rattle.std.specs.Prelude.{ℕ, List, find, nat_eq, Option, None, Some}
 use Rattle.ft_base.specs.Space.{erase}
-use Rattle.ft_base.specs.declared.doc.Doc.{Doc}
+use Rattle.ft_base.specs.Docs.{Doc}
 
 -- the documents without one, where there is one
 abbrev pub erase_doc : List Doc → Option Doc → List Doc

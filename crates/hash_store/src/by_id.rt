@@ -1,36 +1,47 @@
 //! The documents by their ids, of which the last may wait.
-ghost use Rattle.std.specs.Prelude.{◌≡◌, nat_eq};
-ghost use Rattle.std.specs.Option.{option_copied};
-ghost use Rattle.std.specs.Map.{lookup};
+ghost use Rattle.std.specs.Prelude.{◌≡◌, Some, nat_eq};
+ghost use Rattle.std.specs.Option.{option_copied, option_eq};
+ghost use Rattle.std.specs.Map.{lookup, remove_entry};
 ghost use Rattle.ft_base.specs.Rows.{live_rows, WaitsLast};
-ghost use Rattle.hash_store.specs.Rows.{doc_in};
+ghost use Rattle.hash_store.specs.Rows.{id_from};
 
-use crate::stored::Stored;
+use crate::by_key::ByKey;
 use ft_base::Doc;
-use id_rows::{HasId, IdRows};
+use id_rows::IdRows;
 
-/// The document of the id, also where it waits.
-pub fn doc_at(docs: &IdRows<Stored>, id: u64) -> Option<&Doc>
-    ensures { option_copied result ≡ lookup (nat_eq id) docs.now }
+// Whether the document of the id waits.
+fn waits(pending: &Option<ByKey>, id: u64) -> bool
+    ensures { result ≡ option_eq nat_eq (id_from pending.now) (Some id) }
 {
-    Some(docs.get(id)?.doc())
+    match pending {
+        Some(waiting) => waiting.doc().id() == id,
+        None => false,
+    }
 }
 
 /// The document of the id, unless it waits.
-pub fn live_doc(docs: &IdRows<Stored>, pending: Option<u64>, id: u64) -> Option<&Stored>
-    requires last { WaitsLast pending docs.now }
-    ensures { option_copied result ≡ lookup (nat_eq id) (live_rows pending docs.now) }
+pub fn live_doc<'a>(docs: &'a IdRows<Doc>, pending: &Option<ByKey>, id: u64) -> Option<&'a Doc>
+    requires last { WaitsLast (id_from pending.now) docs.now }
+    ensures { option_copied result ≡ lookup (nat_eq id) (live_rows (id_from pending.now) docs.now) }
 {
-    if pending == Some(id) {
+    if waits(pending, id) {
         return None; // It isn't written yet.
     }
     docs.get(id)
 }
 
-/// Takes the document of the id out, where there is an id.
-pub fn take_out(docs: &mut IdRows<Stored>, id: Option<u64>) -> Option<Stored>
-    ensures was { result ≡ doc_in id docs.old }
-    ensures gone { docs.new ≡ live_rows id docs.old }
+/// Takes the row of the id out, where there is one.
+pub fn drop_row(docs: &mut IdRows<Doc>, id: u64)
+    ensures { docs.new ≡ remove_entry (nat_eq id) docs.old }
 {
-    docs.remove(id?)
+    docs.remove(id);
+}
+
+/// Takes the row that waits out, where there is one.
+pub fn drop_waiting(docs: &mut IdRows<Doc>, pending: &Option<ByKey>)
+    ensures { docs.new ≡ live_rows (id_from pending.now) docs.old }
+{
+    if let Some(waiting) = pending {
+        drop_row(docs, waiting.doc().id());
+    }
 }

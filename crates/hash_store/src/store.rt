@@ -1,22 +1,20 @@
-//! Two maps: ids by key, and documents by id, of which the last may wait to be committed.
+//! The documents in two places, each of which shares them: in a set by their keys, and in rows by their ids, of which the last
+//! may wait to be committed.
 ghost use Rattle.std.specs.Prelude.{◌≡◌, ◌<◌, ℕ, [], None, Some, All, length, find, nat_eq, IfOk, IfSome, OnOk, OnErr, option_copied, option_map};
+ghost use Rattle.std.specs.HashSet.{spare};
 ghost use Rattle.std.specs.Borrow.{sem};
 ghost use Rattle.ft_base.specs.Space.{doc_of, write, erase};
 ghost use Rattle.hash_store.specs.Erasing.{erase_id};
-ghost use Rattle.hash_store.specs.Maps.{IsStore};
-ghost use Rattle.hash_store.specs.Rows.{store_of};
+ghost use Rattle.hash_store.specs.Rows.{IsStore, store_of};
 ghost use Rattle.hash_store.specs.Store.{Store, IdsRise, KeysDiffer, after_read, after_reads};
 
-use crate::by_id::{live_doc, take_out};
-use crate::by_key::{KeyIds, id_of};
-use crate::rows;
-use crate::rows::{add_rows, drop_waiting, forget_key, lead_nowhere, lead_to};
-use crate::stored::Stored;
+use crate::by_id::{drop_row, drop_waiting, live_doc};
+use crate::by_key::ByKey;
 use crate::walk::{AllRead, DocWalk};
-use ft_base::{Doc, NoMemory, Shared};
+use ft_base::{Doc, NoMemory};
 use id_rows::IdRows;
 use std::alloc::Global;
-use std::collections::HashMap;
+use std::collections::HashSet;
 use std::hash::RandomState;
 use std::marker::Model;
 
@@ -25,10 +23,10 @@ use std::marker::Model;
 pub struct HashStore {
     alloc: Global,
     hashing: RandomState,
-    ids: KeyIds,
-    docs: IdRows<Stored>,
-    // The id of the row that still waits to be committed.
-    pending: Option<u64>,
+    keys: HashSet<ByKey, RandomState>,
+    docs: IdRows<Doc>,
+    // The document of the row that still waits to be committed.
+    pending: Option<ByKey>,
     last: u64,
     reads: u64,
 }
@@ -38,7 +36,7 @@ impl Model for HashStore {
 
     ghost view = { λ s. store_of s.pending s.last s.reads s.docs };
 
-    ghost invariant = { λ s. IsStore s.pending s.last s.docs s.ids.entries };
+    ghost invariant = { λ s. IsStore s.pending s.last s.docs s.keys.keys (spare s.keys) };
 }
 
 /// That a document is ready in the store that made this. A contract sees the document's id.
@@ -64,7 +62,7 @@ impl HashStore {
         HashStore {
             alloc,
             hashing,
-            ids: HashMap::with_hasher(alloc, hashing),
+            keys: HashSet::with_hasher(alloc, hashing),
             docs: IdRows::new(alloc),
             pending: None,
             last: 0,
@@ -77,34 +75,33 @@ impl HashStore {
         ensures* counts { sem 𝓛 (EndsAs self.entry (after_read (doc_of self.old.space key.now) self.old)) }
         ensures found { option_copied result ≡ doc_of self.old.space key.now }
     {
-        let stored = rows::doc_of(&self.ids, &self.docs, key)?;
+        let found = self.keys.get(key)?;
         self.reads = self.reads.saturating_add(1);
-        Some(stored.doc())
+        Some(found.doc())
     }
 
     /// The document of an id, which the reader may share.
-    pub fn get_by_id(&mut self, id: u64) -> Option<&Shared<Doc>>
+    pub fn get_by_id(&mut self, id: u64) -> Option<&Doc>
         ensures* counts { sem 𝓛 (EndsAs self.entry (after_read (find (λ doc. nat_eq id doc.id) self.old.space) self.old)) }
         ensures found { option_copied result ≡ find (λ doc. nat_eq id doc.id) self.old.space }
     {
-        let stored = live_doc(&self.docs, self.pending, id)?;
+        let doc = live_doc(&self.docs, &self.pending, id)?;
         self.reads = self.reads.saturating_add(1);
-        Some(stored.shared())
+        Some(doc)
     }
 
     /// The id of the key's document, which is not read.
     pub fn has(&self, key: &[u8]) -> Option<u64>
         ensures { result ≡ option_map (λ doc. doc.id) (doc_of self.now.space key.now) }
     {
-        id_of(&self.ids, key)
+        Some(self.keys.get(key)?.doc().id())
     }
 
     /// The key of the document of an id. The document is not read.
     pub fn key_of(&self, id: u64) -> Option<&[u8]>
         ensures { option_copied result ≡ option_map (λ doc. doc.key) (find (λ doc. nat_eq id doc.id) self.now.space) }
     {
-        let stored = live_doc(&self.docs, self.pending, id)?;
-        Some(stored.doc().key.as_slice())
+        Some(live_doc(&self.docs, &self.pending, id)?.key())
     }
 
     /// The number of documents.
@@ -151,11 +148,13 @@ impl HashStore {
         ensures put { IfOk result (λ put. put ≡ doc.id) }
         ensures err { OnErr result (self.new ≡ self.old) }
     {
-        let id = doc.id;
-        add_rows(self.alloc, &mut self.ids, &mut self.docs, doc)?;
+        let id = doc.id();
+        let waiting = ByKey::of(doc.share()?);
+        self.keys.reserve(1)?;
+        self.docs.push(doc)?;
         // What was abandoned goes only now, so that out of memory all stays as it was.
-        drop_waiting(&mut self.ids, &mut self.docs, self.pending, id);
-        self.pending = Some(id);
+        drop_waiting(&mut self.docs, &self.pending);
+        self.pending = Some(waiting);
         self.last = id;
         Ok(ReadyPut { id })
     }
@@ -169,10 +168,14 @@ impl HashStore {
         ensures written { IfSome self.old.ready
             (λ doc. self.new ≡ record self.old { space = write self.old.space doc.key doc.hash doc.id; ready = None }) }
     {
-        let old = lead_to(&mut self.ids, &self.docs, ready.id);
-        take_out(&mut self.docs, old);
-        self.pending = None;
-        old
+        let doc = self.pending.take()?;
+        // Room for the key was taken when the document was prepared.
+        let Ok(replaced) = self.keys.replace(doc) else {
+            unreachable!();
+        };
+        let old = replaced?.doc().id();
+        drop_row(&mut self.docs, old);
+        Some(old)
     }
 
     /// Takes the key's document out, and answers its id. One that is prepared stays so. It takes no
@@ -181,9 +184,8 @@ impl HashStore {
         ensures was { result ≡ option_map (λ doc. doc.id) (doc_of self.old.space key.now) }
         ensures gone { self.new ≡ record self.old { space = erase self.old.space key.now } }
     {
-        let id = id_of(&self.ids, key)?;
-        self.docs.remove(id);
-        lead_nowhere(&mut self.ids, &self.docs, self.pending, key);
+        let id = self.keys.take(key)?.doc().id();
+        drop_row(&mut self.docs, id);
         Some(id)
     }
 
@@ -192,11 +194,9 @@ impl HashStore {
     pub fn erase_id(&mut self, id: u64)
         ensures { self.new ≡ record self.old { space = erase_id self.old.space id } }
     {
-        if self.pending == Some(id) {
-            return; // It isn't written yet.
-        }
-        if let Some(gone) = self.docs.remove(id) {
-            forget_key(&mut self.ids, &self.docs, self.pending, gone);
+        if let Some(doc) = live_doc(&self.docs, &self.pending, id) {
+            self.keys.remove(doc.key());
+            drop_row(&mut self.docs, id);
         }
     }
 
@@ -204,7 +204,7 @@ impl HashStore {
     pub fn clear(&mut self)
         ensures { self.new ≡ record self.old { space = []; ready = None } }
     {
-        self.ids = HashMap::with_hasher(self.alloc, self.hashing);
+        self.keys = HashSet::with_hasher(self.alloc, self.hashing);
         self.docs = IdRows::new(self.alloc);
         self.pending = None;
     }

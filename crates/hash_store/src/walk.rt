@@ -5,7 +5,6 @@ ghost use Rattle.std.specs.Prelude.{◌≡◌, take};
 ghost use Rattle.std.specs.Map.{values_of};
 ghost use Rattle.hash_store.specs.Walk.{IsNextDoc};
 
-use crate::stored::Stored;
 use ft_base::Doc;
 use id_rows::{IdRows, RowWalk};
 use std::marker::Model;
@@ -36,14 +35,14 @@ impl AllRead {
 /// The documents that are left, in order of their ids, which a contract sees as a list.
 #[derive(Drop)]
 pub struct DocWalk<'a> {
-    left: RowWalk<'a, Stored>,
+    left: RowWalk<'a, Doc>,
     // So many of them are to be given.
     count: usize,
 }
 
 impl<'a> Model for DocWalk<'a> {
     ghost use Rattle.std.specs.Prelude.{List, take};
-    ghost use Rattle.ft_base.specs.declared.doc.Doc.{Doc};
+    ghost use Rattle.ft_base.specs.Docs.{Doc};
 
     ghost Value = { List Doc };
 
@@ -52,7 +51,7 @@ impl<'a> Model for DocWalk<'a> {
 
 impl<'a> DocWalk<'a> {
     /// A walk over the documents that were counted, the first of all.
-    pub(crate) fn over(docs: &'a IdRows<Stored>, read: AllRead) -> DocWalk<'a>
+    pub(crate) fn over(docs: &'a IdRows<Doc>, read: AllRead) -> DocWalk<'a>
         ensures { result ≡ take read (values_of docs.now) }
     {
         DocWalk {
@@ -69,6 +68,6 @@ impl<'a> DocWalk<'a> {
             return None;
         }
         self.count -= 1;
-        Some(self.left.next()?.doc())
+        self.left.next()
     }
 }

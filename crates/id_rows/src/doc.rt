@@ -7,6 +7,6 @@ impl HasId for Doc {
 
     #[inline(always)]
     fn id(&self) -> u64 {
-        self.id
+        Doc::id(self)
     }
 }

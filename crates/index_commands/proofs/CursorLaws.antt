@@ -8,7 +8,7 @@ use Rattle.cmd_parse.specs.Asked.{Asked, CursorDel, CursorRead}
 use Rattle.cursor_book.specs.Cursors.{cursor_of, has_id, is_cursor, is_of, read, without}
 use Rattle.cursor_book.specs.declared.cursor.Cursor.{Cursor}
 use Rattle.ft_base.specs.Reply.{spelling}
-use Rattle.ft_base.specs.declared.doc.Doc.{Doc}
+use Rattle.ft_base.specs.Docs.{Doc}
 use Rattle.ft_base.specs.declared.reply.Reply.TheVariants.{Fault, Line}
 use Rattle.ft_index.specs.Index.{Index}
 use Rattle.ft_machine.proofs.Stepping.{gives, wants}

@@ -12,7 +12,7 @@ use Rattle.cmd_parse.specs.Options.{Sort}
 use Rattle.cmd_parse.specs.Searching.{Searching}
 use Rattle.ft_base.specs.declared.definition.Field.{Field}
 use Rattle.ft_base.specs.declared.definition.IndexDef.{IndexDef}
-use Rattle.ft_base.specs.declared.doc.Doc.{Doc}
+use Rattle.ft_base.specs.Docs.{Doc}
 use Rattle.ft_base.specs.declared.query.Query.{Query}
 use Rattle.ft_base.specs.declared.query.Query.TheVariants as tree
 use Rattle.ft_machine.specs.Counted.{counted, first_unknown, is_among, least, passes, unknown_filter, unknown_sort}

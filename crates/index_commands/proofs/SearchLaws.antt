@@ -5,7 +5,7 @@ use Rattle.std.proofs.lemmas.List.Elements.{All-filter}
 use Rattle.cmd_parse.specs.Read.{Search}
 use Rattle.cmd_parse.specs.Searching.{Searching}
 use Rattle.ft_base.specs.declared.definition.IndexDef.{IndexDef}
-use Rattle.ft_base.specs.declared.doc.Doc.{Doc}
+use Rattle.ft_base.specs.Docs.{Doc}
 use Rattle.ft_base.specs.declared.query.Query.{Query}
 use Rattle.ft_base.specs.Reply.{fits_wire}
 use Rattle.ft_base.specs.declared.reply.Reply.{Reply}

@@ -1,6 +1,6 @@
 -- What an iterator finds in an index that a query was planned over.
 use Rattle.std.specs.Prelude.{◌≡◌, ◌+◌, ℕ, Bool, List}
-use Rattle.ft_base.specs.declared.doc.Doc.{Doc}
+use Rattle.ft_base.specs.Docs.{Doc}
 use Rattle.ft_base.specs.declared.query.Query.{Query}
 use Rattle.ft_index.specs.Index.{Index}
 use Rattle.ft_index.specs.Lists.{held_of, named_of}

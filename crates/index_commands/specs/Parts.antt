@@ -10,7 +10,7 @@ use Rattle.cursor_book.specs.declared.cursor.Taken.{Taken}
 use Rattle.ft_base.specs.Memory.{out_of_memory}
 use Rattle.ft_base.specs.Reply.{fits_wire, spelling}
 use Rattle.ft_base.specs.declared.definition.IndexDef.{IndexDef}
-use Rattle.ft_base.specs.declared.doc.Doc.{Doc}
+use Rattle.ft_base.specs.Docs.{Doc}
 use Rattle.ft_base.specs.declared.reply.Reply.TheVariants.{Fault}
 use Rattle.ft_index.specs.Index.{Index}
 use Rattle.ft_machine.specs.Aggregating.{rows_reply}

@@ -4,7 +4,7 @@ ghost use Rattle.std.specs.List.{list_all, list_any};
 ghost use Rattle.std.specs.Str.{bytes_eq};
 ghost use Rattle.cmd_parse.specs.Seen.{filter_of, search_of, sort_of};
 ghost use Rattle.ft_base.specs.Kinds.{is_numeric};
-ghost use Rattle.ft_base.specs.declared.doc.Doc.{Doc};
+ghost use Rattle.ft_base.specs.Docs.{Doc};
 ghost use Rattle.ft_machine.specs.Counted.{first_unknown, least, passes, unknown_filter, unknown_sort};
 ghost use Rattle.ft_meaning.specs.Holds.{holds};
 

@@ -66,7 +66,7 @@ fn field_tags(alloc: Global, doc: &Doc, field: &Field) -> Result<ListOf<Bytes>, 
     let FieldKind::Tag { separator, case } = field.kind else {
         return Ok(ListOf::new(alloc));
     };
-    match doc.hash.get(field.name.as_slice()) {
+    match doc.hash().get(field.name.as_slice()) {
         Some(value) => tags(alloc, value, separator, case),
         None => Ok(ListOf::new(alloc)),
     }

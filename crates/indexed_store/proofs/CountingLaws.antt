@@ -18,7 +18,7 @@ use Rattle.std.proofs.lemmas.Map.Keys.{IsDistinct-from_sorted, IsStrictlyIncreas
 use Rattle.std.proofs.lemmas.Map.Made.{length-from_keys}
 use Rattle.std.proofs.lemmas.Slice.Eq.{bytes_eq-Decides}
 use Rattle.ft_base.specs.Space.{doc_of, erase}
-use Rattle.ft_base.specs.declared.doc.Doc.{Doc}
+use Rattle.ft_base.specs.Docs.{Doc}
 use Rattle.indexed_store.specs.Counting.{before, ids_of}
 use Rattle.ft_machine.specs.Definitions.{without_keys}
 use Rattle.indexed_store.proofs.KeysLaws.{KeysDiffer, distinct-filter, erase-filter, key-apart, others-differ}

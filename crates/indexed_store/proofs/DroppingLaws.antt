@@ -7,7 +7,7 @@ use Rattle.std.proofs.Common.{sym, ap, ◌∙◌, subst, arith}
 use Rattle.std.proofs.lemmas.Bool.Decides.{nat_tests}
 use Rattle.doc_table.specs.Table.{Vector}
 use Rattle.ft_base.specs.declared.definition.IndexDef.{IndexDef}
-use Rattle.ft_base.specs.declared.doc.Doc.{Doc}
+use Rattle.ft_base.specs.Docs.{Doc}
 use Rattle.ft_index.proofs.AliveLaws.{same-yes}
 use Rattle.ft_index.specs.Index.{Index}
 use Rattle.ft_meaning.specs.Member.{member, members}

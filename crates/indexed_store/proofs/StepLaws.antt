@@ -10,7 +10,7 @@ use Rattle.std.proofs.lemmas.List.{map-append}
 use Rattle.std.proofs.lemmas.List.Elements.{All-map, All-append, All-cons, All-filter, All-head, All-nil, All-tail, filter-append}
 use Rattle.doc_table.specs.Table.{Vector}
 use Rattle.ft_base.specs.Space.{doc_of, erase, write}
-use Rattle.ft_base.specs.declared.doc.Doc.{Doc}
+use Rattle.ft_base.specs.Docs.{Doc}
 use Rattle.ft_index.proofs.IndexLaws.{last-push, last-removed, rises-push, rises-removed}
 use Rattle.ft_index.proofs.AliveLaws.{above-no, below-no, last_id-low, rows-without, same-yes, without-below}
 use Rattle.ft_index.proofs.MemberLaws.{commits-is, index-committed, index-gone, indexes-gone}

@@ -7,7 +7,7 @@ use Rattle.std.proofs.lemmas.Bool.{cases_Bool}
 use Rattle.std.proofs.lemmas.List.Elements.{All-cons, All-filter, All-head, All-tail}
 use Rattle.ft_base.specs.Hash.{Hash, set_field}
 use Rattle.ft_base.specs.Space.{doc_of}
-use Rattle.ft_base.specs.declared.doc.Doc.{Doc}
+use Rattle.ft_base.specs.Docs.{Doc}
 use Rattle.ft_base.specs.declared.limits.TheConstants.{MAX_WORD_BYTES}
 use Rattle.ft_meaning.specs.Meaning.{ValuesFit}
 use Rattle.cmd_parse.specs.Asking.{AreWords}

@@ -4,7 +4,7 @@ use Rattle.std.specs.List.{All}
 use Rattle.cursor_book.specs.Cursors.{read, without, without_index as without_cursors}
 use Rattle.cursor_book.specs.declared.cursor.Cursor.{Cursor}
 use Rattle.ft_base.specs.Space.{doc_of, erase}
-use Rattle.ft_base.specs.declared.doc.Doc.{Doc}
+use Rattle.ft_base.specs.Docs.{Doc}
 use Rattle.ft_index.specs.Index.{Index}
 use Rattle.ft_machine.specs.Definitions.{Defined, all_tried, index_of, with_index, without_index, without_keys, without_members}
 use Rattle.indexed_store.specs.DefinitionsOf.{defined, definitions_of}

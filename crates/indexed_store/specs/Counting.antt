@@ -1,7 +1,7 @@
 -- Which documents keys lead to.
 use Rattle.std.specs.Prelude.{ℕ, List, [], ◌∷◌, Option, Some, None}
 use Rattle.ft_base.specs.Space.{doc_of}
-use Rattle.ft_base.specs.declared.doc.Doc.{Doc}
+use Rattle.ft_base.specs.Docs.{Doc}
 
 -- the id of a document before others, where there is one
 abbrev pub before : Option Doc → List ℕ → List ℕ

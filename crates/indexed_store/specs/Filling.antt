@@ -1,6 +1,6 @@
 -- What holds of an index that is being filled.
 use Rattle.std.specs.Prelude.{List}
-use Rattle.ft_base.specs.declared.doc.Doc.{Doc}
+use Rattle.ft_base.specs.Docs.{Doc}
 use Rattle.ft_index.specs.Index.{Index, Indexes, IsIndex}
 use Rattle.ft_index.specs.Markers.{AreBefore}
 use Rattle.indexed_store.specs.Standing.{AreOfEvent}

@@ -6,7 +6,7 @@ use Rattle.std.specs.Str.{bytes_eq}
 use Rattle.cursor_book.specs.Cursors.{cursor_of, live, without}
 use Rattle.cursor_book.specs.contracts.cursor.Cursor as cursor
 use Rattle.cursor_book.specs.declared.cursor.Cursor.{Cursor}
-use Rattle.ft_base.specs.declared.doc.Doc.{Doc}
+use Rattle.ft_base.specs.Docs.{Doc}
 use Rattle.ft_index.specs.Index.{Index}
 use Rattle.ft_machine.specs.Indexes.{most_indexes}
 use Rattle.ft_machine.specs.Machine.{State}

@@ -2,7 +2,7 @@
 use Rattle.std.specs.Prelude.{◌≡◌, ◌<◌, ℕ, List, map, length}
 use Rattle.std.specs.List.{All, AllPairs, IsDistinct}
 use Rattle.std.specs.Str.{bytes_eq}
-use Rattle.ft_base.specs.declared.doc.Doc.{Doc}
+use Rattle.ft_base.specs.Docs.{Doc}
 use Rattle.ft_index.specs.Index.{Index, Indexes, IsIndex}
 use Rattle.ft_index.specs.Markers.{AreBefore, HasMarker}
 use Rattle.ft_meaning.specs.Meaning.{ValuesFit}

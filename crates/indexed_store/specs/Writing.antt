@@ -2,7 +2,7 @@
 use Rattle.std.specs.Prelude.{◌≡◌, ◌<◌, ℕ, List, length, Option, Some, None}
 use Rattle.std.specs.List.{All}
 use Rattle.ft_base.specs.Space.{write}
-use Rattle.ft_base.specs.declared.doc.Doc.{Doc}
+use Rattle.ft_base.specs.Docs.{Doc}
 use Rattle.ft_index.specs.Index.{Index}
 use Rattle.ft_meaning.specs.Meaning.{ValuesFit}
 use Rattle.indexed_store.specs.Indexing.{Awaits}

@@ -1,5 +1,5 @@
 //! How a new index takes the documents that are there already.
-ghost use Rattle.std.specs.Prelude.{◌≡◌, ◌<◌, ◌≤◌, [], length, OnOk};
+ghost use Rattle.std.specs.Prelude.{◌≡◌, ◌<◌, ◌≤◌, ◌∷◌, [], length, OnOk};
 ghost use Rattle.hash_store.specs.Store.{reads_after};
 ghost use Rattle.indexed_store.specs.Filling.{HasTaken};
 ghost use Rattle.indexed_store.specs.Standing.{AreOfEvent, AreWritten, IndexStands};
@@ -7,7 +7,6 @@ ghost use Rattle.ft_index.specs.Markers.{AreBefore};
 ghost use Rattle.ft_index.specs.Index.{IsIndex, StandsBeside};
 ghost use Rattle.ft_machine.specs.Definitions.{failures_over};
 ghost use Rattle.ft_meaning.specs.Meaning.{ValuesFit};
-ghost use Rattle.ft_meaning.specs.Member.{failures_with};
 
 use ft_base::{Doc, NoMemory};
 use ft_index::FtIndex;
@@ -49,7 +48,7 @@ fn put_doc(index: &mut FtIndex, doc: &Doc, markers: &mut Markers) -> Result<(), 
     requires given { AreOfEvent markers.old.event index.old }
     ensures stands { OnOk result (StandsBeside doc.now index.old index.new) }
     ensures failures { OnOk result (index.new.failures
-        ≡ failures_with index.old.def doc.now index.old.failures) }
+        ≡ failures_over index.old.def (doc.now ∷ []) index.old.failures) }
     ensures last { OnOk result (index.new.table.last ≤ doc.now.id) }
     ensures def { index.new.def ≡ index.old.def }
     ensures sound { IsIndex index.new }

@@ -1,7 +1,7 @@
 //! What a write does to every index: entries of lists first, liveness last.
 ghost use Rattle.std.specs.Prelude.{◌≡◌, ◌+◌, List, Some, map, OnOk};
 ghost use Rattle.std.specs.List.{All, AllPairs};
-ghost use Rattle.ft_base.specs.declared.doc.Doc.{Doc};
+ghost use Rattle.ft_base.specs.Docs.{Doc};
 ghost use Rattle.ft_meaning.specs.Meaning.{ValuesFit};
 ghost use Rattle.indexed_store.specs.DefinitionsOf.{definitions_of};
 ghost use Rattle.indexed_store.specs.Indexing.{Awaits, killed, settled};

@@ -7,7 +7,7 @@ ghost use Rattle.hash_store.specs.Store.{after_read};
 ghost use Rattle.ft_machine.specs.Reads.{hash_in, names, values};
 ghost use Rattle.ft_base.specs.Hash.{in_turn};
 
-use ft_base::{Bytes, HashRec, ListOf, NoMemory, Reply, in_turn};
+use ft_base::{Bytes, HashView, ListOf, NoMemory, Reply, in_turn};
 use hash_store::HashStore;
 use std::alloc::Global;
 
@@ -19,8 +19,8 @@ pub fn hgetall(store: &mut HashStore, alloc: Global, key: &[u8]) -> Result<Reply
     ensures store { store.new ≡ after_read (doc_of store.old.space key.now) store.old }
 {
     match store.get(key) {
-        Some(doc) => in_turn(alloc, &doc.hash),
-        None => in_turn(alloc, &HashRec::new(alloc)),
+        Some(doc) => in_turn(alloc, &doc.hash()),
+        None => in_turn(alloc, &HashView::empty()),
     }
 }
 
@@ -32,12 +32,12 @@ pub fn hkeys(store: &mut HashStore, alloc: Global, key: &[u8]) -> Result<Reply, 
     ensures store { store.new ≡ after_read (doc_of store.old.space key.now) store.old }
 {
     match store.get(key) {
-        Some(doc) => names_of(alloc, &doc.hash),
-        None => names_of(alloc, &HashRec::new(alloc)),
+        Some(doc) => names_of(alloc, &doc.hash()),
+        None => names_of(alloc, &HashView::empty()),
     }
 }
 
-fn names_of(alloc: Global, hash: &HashRec) -> Result<Reply, NoMemory>
+fn names_of(alloc: Global, hash: &HashView<'_>) -> Result<Reply, NoMemory>
     ensures reply { IfOk result (λ reply. reply ≡ Array (names hash.now)) }
 {
     let mut replies = Vec::new(alloc);
@@ -56,12 +56,12 @@ pub fn hvals(store: &mut HashStore, alloc: Global, key: &[u8]) -> Result<Reply, 
     ensures store { store.new ≡ after_read (doc_of store.old.space key.now) store.old }
 {
     match store.get(key) {
-        Some(doc) => all_values(alloc, &doc.hash),
-        None => all_values(alloc, &HashRec::new(alloc)),
+        Some(doc) => all_values(alloc, &doc.hash()),
+        None => all_values(alloc, &HashView::empty()),
     }
 }
 
-fn all_values(alloc: Global, hash: &HashRec) -> Result<Reply, NoMemory>
+fn all_values(alloc: Global, hash: &HashView<'_>) -> Result<Reply, NoMemory>
     ensures reply { IfOk result (λ reply. reply ≡ Array (values hash.now)) }
 {
     let mut replies = Vec::new(alloc);
@@ -78,7 +78,7 @@ pub fn hlen(store: &mut HashStore, key: &[u8]) -> usize
     ensures store { store.new ≡ after_read (doc_of store.old.space key.now) store.old }
 {
     match store.get(key) {
-        Some(doc) => doc.hash.len(),
+        Some(doc) => doc.hash().len(),
         None => 0,
     }
 }

@@ -7,7 +7,7 @@ ghost use Rattle.ft_base.specs.declared.reply.Reply.TheVariants.{Array};
 ghost use Rattle.hash_store.specs.Store.{after_read};
 ghost use Rattle.ft_machine.specs.Reads.{hash_in, value_reply};
 
-use ft_base::{Bytes, HashRec, ListOf, NoMemory, Reply, Words};
+use ft_base::{Bytes, HashView, ListOf, NoMemory, Reply, Words};
 use hash_store::HashStore;
 use std::alloc::Global;
 
@@ -24,12 +24,12 @@ pub fn hget(
     ensures store { store.new ≡ after_read (doc_of store.old.space key.now) store.old }
 {
     match store.get(key) {
-        Some(doc) => value_of(alloc, &doc.hash, field),
+        Some(doc) => value_of(alloc, &doc.hash(), field),
         None => Ok(Reply::NullBulk),
     }
 }
 
-fn value_of(alloc: Global, hash: &HashRec, field: &[u8]) -> Result<Reply, NoMemory>
+fn value_of(alloc: Global, hash: &HashView<'_>, field: &[u8]) -> Result<Reply, NoMemory>
     ensures reply { IfOk result (λ reply. reply ≡ value_reply (get_field hash.now field.now)) }
     ensures fits { IfOk result (λ reply. IsTrue (fits_wire reply)) }
 {
@@ -50,12 +50,12 @@ pub fn hmget(store: &mut HashStore, alloc: Global, args: &Words<'_>) -> Result<R
 {
     let fields = args.rest(1);
     match store.get(args.word(0)) {
-        Some(doc) => values_of(alloc, &doc.hash, &fields),
-        None => values_of(alloc, &HashRec::new(alloc), &fields),
+        Some(doc) => values_of(alloc, &doc.hash(), &fields),
+        None => values_of(alloc, &HashView::empty(), &fields),
     }
 }
 
-fn values_of(alloc: Global, hash: &HashRec, fields: &Words<'_>) -> Result<Reply, NoMemory>
+fn values_of(alloc: Global, hash: &HashView<'_>, fields: &Words<'_>) -> Result<Reply, NoMemory>
     ensures reply { IfOk result (λ reply. reply
         ≡ Array (map (λ field. value_reply (get_field hash.now field)) fields.now)) }
 {
@@ -72,7 +72,7 @@ pub fn hexists(store: &mut HashStore, key: &[u8], field: &[u8]) -> bool
     ensures store { store.new ≡ after_read (doc_of store.old.space key.now) store.old }
 {
     match store.get(key) {
-        Some(doc) => doc.hash.get(field).is_some(),
+        Some(doc) => doc.hash().get(field).is_some(),
         None => false,
     }
 }

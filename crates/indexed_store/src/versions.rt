@@ -8,7 +8,7 @@ ghost use Rattle.ft_machine.specs.Writes.{number_in, set_pairs, without_fields};
 ghost use Rattle.ft_machine.specs.Reads.{hash_in};
 ghost use Rattle.hash_store.specs.Store.{after_read};
 
-use ft_base::{HashRec, NoMemory, Words, read_int};
+use ft_base::{HashRec, HashView, NoMemory, Words, read_int};
 use hash_store::HashStore;
 use std::alloc::Global;
 
@@ -18,7 +18,7 @@ pub fn copy_of(store: &mut HashStore, alloc: Global, key: &[u8]) -> Result<HashR
     ensures store { store.new ≡ after_read (doc_of store.old.space key.now) store.old }
 {
     match store.get(key) {
-        Some(doc) => doc.hash.copy(),
+        Some(doc) => doc.hash().copy(alloc),
         None => Ok(HashRec::new(alloc)),
     }
 }
@@ -48,13 +48,20 @@ pub fn left_of(
     ensures store { store.new ≡ after_read (doc_of store.old.space key.now) store.old }
 {
     match store.get(key) {
-        Some(doc) => Ok((doc.hash.len(), without_fields(&doc.hash, alloc, fields)?)),
+        Some(doc) => {
+            let hash = doc.hash();
+            Ok((hash.len(), without_fields(&hash, alloc, fields)?))
+        }
         None => Ok((0, HashRec::new(alloc))),
     }
 }
 
 /// A copy of a hash without some fields.
-fn without_fields(hash: &HashRec, alloc: Global, fields: &Words<'_>) -> Result<HashRec, NoMemory>
+fn without_fields(
+    hash: &HashView<'_>,
+    alloc: Global,
+    fields: &Words<'_>,
+) -> Result<HashRec, NoMemory>
     requires { HasDistinctFields hash.now }
     ensures { IfOk result (λ left. left ≡ without_fields hash.now fields.now) }
 {
@@ -75,7 +82,7 @@ fn set_of(alloc: Global, fields: &Words<'_>) -> Result<HashRec, NoMemory>
 }
 
 /// A copy of a hash without the fields that another has.
-fn without(hash: &HashRec, alloc: Global, gone: &HashRec) -> Result<HashRec, NoMemory>
+fn without(hash: &HashView<'_>, alloc: Global, gone: &HashRec) -> Result<HashRec, NoMemory>
     requires { HasDistinctFields hash.now }
     ensures { IfOk result (λ left. left
         ≡ filter (λ (field : List ℕ × List ℕ). not (is_some (get_field gone.now field.0))) hash.now) }
@@ -110,12 +117,12 @@ pub fn number_of(store: &mut HashStore, key: &[u8], field: &[u8]) -> Option<i64>
     ensures store { store.new ≡ after_read (doc_of store.old.space key.now) store.old }
 {
     match store.get(key) {
-        Some(doc) => number_in(&doc.hash, field),
+        Some(doc) => number_in(&doc.hash(), field),
         None => Some(0),
     }
 }
 
-fn number_in(hash: &HashRec, field: &[u8]) -> Option<i64>
+fn number_in(hash: &HashView<'_>, field: &[u8]) -> Option<i64>
     ensures { result ≡ number_in (get_field hash.now field.now) }
 {
     match hash.get(field) {

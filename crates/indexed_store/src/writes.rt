@@ -1,7 +1,7 @@
 //! How a document is written: it waits in the store and in each index until a commit lets it take its
 //! key's old one's place everywhere at once, which wants no memory.
 ghost use Rattle.std.specs.Prelude.{◌≡◌, ◌<◌, ◌+◌, ◌-◌, List, Some, length, IfOk, OnOk};
-ghost use Rattle.ft_base.specs.declared.doc.Doc.{Doc};
+ghost use Rattle.ft_base.specs.Docs.{Doc};
 ghost use Rattle.indexed_store.specs.Writing.{Waits, written};
 ghost use Rattle.indexed_store.specs.Standing.{AreWritten, InStep};
 ghost use Rattle.ft_machine.specs.Definitions.{all_tried};
@@ -9,7 +9,7 @@ ghost use Rattle.indexed_store.specs.DefinitionsOf.{definitions_of};
 ghost use Rattle.ft_meaning.specs.Meaning.{ValuesFit};
 
 use crate::indexes::{commit_all, prepare_all};
-use ft_base::{Bytes, Doc, HashRec, NoMemory};
+use ft_base::{Doc, HashRec, NoMemory};
 use ft_index::FtIndex;
 use hash_store::{HashStore, ReadyPut};
 use inverted_list::Markers;
@@ -34,7 +34,7 @@ fn prepare_write(
     ensures definitions { definitions_of indexes.new ≡ definitions_of indexes.old }
 {
     let mut markers = Markers {
-        event: doc.id,
+        event: doc.id(),
         next: 0,
     };
     prepare_all(indexes, &doc, &mut markers)?;
@@ -75,6 +75,6 @@ pub fn prepare_hash(
     ensures kept { InStep store.new indexes.new (id + 1) }
     ensures definitions { definitions_of indexes.new ≡ definitions_of indexes.old }
 {
-    let key = Bytes::from_slice(alloc, key)?;
-    prepare_write(store, indexes, Doc { id, key, hash })
+    let doc = Doc::new(alloc, id, key, hash)?;
+    prepare_write(store, indexes, doc)
 }

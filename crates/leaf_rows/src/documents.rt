@@ -9,7 +9,7 @@ use crate::queries::query_of;
 use crate::schemas::index_of;
 use crate::trees::put_fault;
 use crate::wanted::tree_of;
-use ft_base::{Bytes, Doc, Field, HashRec, IndexDef, ListOf, NoMemory, Query};
+use ft_base::{Doc, Field, HashView, IndexDef, ListOf, NoMemory, Query};
 use ft_meaning::{failed, field_tokens, member};
 use query_match::matches;
 use query_parse::QueryFault;
@@ -57,14 +57,10 @@ fn case_of(
 }
 
 fn doc_of(alloc: Global, key: &[u8], pairs: &[Vec<u8>]) -> Result<Doc, NoMemory> {
-    Ok(Doc {
-        id: 5,
-        key: Bytes::from_slice(alloc, key)?,
-        hash: hash_of(alloc, pairs)?,
-    })
+    Doc::new(alloc, 5, key, hash_of(alloc, pairs)?)
 }
 
-fn values_fit(hash: &HashRec) -> bool
+fn values_fit(hash: &HashView<'_>) -> bool
     ensures { IsTrue result → ValuesFit hash.now }
 {
     'values: for i in 0..hash.len() {
@@ -96,7 +92,7 @@ fn put_tokens_of(
     field: &Field,
     out: &mut Answer,
 ) -> Result<(), NoMemory> {
-    if values_fit(&doc.hash) {
+    if values_fit(&doc.hash()) {
         let found = field_tokens(alloc, def, doc, field)?;
         put_tokens(field, &found, out);
     }
@@ -172,7 +168,7 @@ fn put_truth_of(
     query: &Query,
     out: &mut Answer,
 ) -> Result<(), NoMemory> {
-    if values_fit(&doc.hash) {
+    if values_fit(&doc.hash()) {
         out.put_truth(matches(alloc, def, doc, query)?);
     }
     Ok(())

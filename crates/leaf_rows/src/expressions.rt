@@ -6,8 +6,8 @@
 //! row has where there is one. A cell's value is `null`, a number, a text, or a list, as `[1 a`.
 use expr_eval::{Expr, ExprFault, Func, LentRow, Op, eval, parse_expr};
 use ft_base::{
-    Bytes, Cell, Doc, Field, FieldKind, HashRec, IndexDef, ListOf, NoMemory, Row, Shared,
-    StopWords, Value, put_int, read_int,
+    Bytes, Cell, Doc, Field, FieldKind, HashRec, IndexDef, ListOf, NoMemory, Row, StopWords, Value,
+    put_int, read_int,
 };
 use std::alloc::Global;
 
@@ -216,14 +216,12 @@ fn row_of(alloc: Global, pairs: &[Vec<u8>]) -> Result<Row, NoMemory> {
     Ok(Row { doc, cells })
 }
 
-fn doc_of(alloc: Global, pairs: &[Vec<u8>]) -> Result<Option<Shared<Doc>>, NoMemory> {
+fn doc_of(alloc: Global, pairs: &[Vec<u8>]) -> Result<Option<Doc>, NoMemory> {
     let hash = hash_of(alloc, pairs)?;
     if hash.len() == 0 {
         return Ok(None);
     }
-    let key = Bytes::new(alloc);
-    let doc = Doc { id: 1, key, hash };
-    Ok(Some(Shared::new(alloc, doc)?))
+    Ok(Some(Doc::new(alloc, 1, b"", hash)?))
 }
 
 // The first name and value, and the pairs behind them.

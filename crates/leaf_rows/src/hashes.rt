@@ -1,7 +1,7 @@
 //! Hashes: fields in order of first setting.
 use crate::answer::Answer;
 use crate::arguments::{halves, rest, word};
-use ft_base::{Bytes, HashRec, NoMemory};
+use ft_base::{Bytes, Doc, HashRec, HashView, NoMemory};
 use std::alloc::Global;
 
 /// Writes the answer of a call, and tells whether it is of this file.
@@ -29,13 +29,14 @@ fn set(alloc: Global, hash: &mut HashRec, pair: &[u8]) -> Result<bool, NoMemory>
     hash.set(field, Bytes::from_slice(alloc, value)?)
 }
 
-// Whether each field is new as it is set, and then all fields.
+// Whether each field is new as it is set, and then all fields, as a document holds them at rest.
 fn put_hash(alloc: Global, pairs: &[Vec<u8>], out: &mut Answer) -> Result<(), NoMemory> {
     let mut hash = HashRec::new(alloc);
     for pair in pairs {
         put_set(alloc, &mut hash, pair.as_slice(), out)?;
     }
-    put_fields(&hash, out);
+    let doc = Doc::new(alloc, 1, b"key", hash)?;
+    put_fields(&doc.hash(), out);
     Ok(())
 }
 
@@ -58,11 +59,16 @@ fn put_without(
     out: &mut Answer,
 ) -> Result<(), NoMemory> {
     let mut hash = hash_of(alloc, pairs)?;
-    put_beside_copy(&mut hash, field, out)
+    put_beside_copy(alloc, &mut hash, field, out)
 }
 
-fn put_beside_copy(hash: &mut HashRec, field: &[u8], out: &mut Answer) -> Result<(), NoMemory> {
-    let copy = hash.copy()?;
+fn put_beside_copy(
+    alloc: Global,
+    hash: &mut HashRec,
+    field: &[u8],
+    out: &mut Answer,
+) -> Result<(), NoMemory> {
+    let copy = hash.view().copy(alloc)?;
     put_removed(hash, field, out);
     put_left(hash, field, out);
     out.put(b", copy");
@@ -83,10 +89,10 @@ fn put_left(hash: &HashRec, field: &[u8], out: &mut Answer) {
         Some(value) => out.put_word(value),
         None => out.put(b"none"),
     }
-    put_fields(hash, out);
+    put_fields(&hash.view(), out);
 }
 
-fn put_fields(hash: &HashRec, out: &mut Answer) {
+fn put_fields(hash: &HashView<'_>, out: &mut Answer) {
     out.put(b":");
     let mut walk = hash.walk();
     while let Some((field, value)) = walk.next() {

@@ -9,7 +9,7 @@ use lib.Dec.{ltb}
 use Rattle.ft_base.specs.Hash.{get_field}
 use Rattle.ft_base.specs.declared.definition.Field.{Field}
 use Rattle.ft_base.specs.declared.definition.IndexDef.{IndexDef}
-use Rattle.ft_base.specs.declared.doc.Doc.{Doc}
+use Rattle.ft_base.specs.Docs.{Doc}
 use Rattle.ft_meaning.specs.Holds.{places_of, has_phrase}
 use Rattle.ft_meaning.specs.Meaning.{has_words, value_tokens, field_tokens}
 use Rattle.phrase_match.specs.Phrase.{has, rises, some_choice, fits}

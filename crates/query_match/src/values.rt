@@ -34,7 +34,7 @@ fn field_tags(alloc: Global, doc: &Doc, field: &Field) -> Result<ListOf<Bytes>, 
     let FieldKind::Tag { separator, case } = field.kind else {
         return Ok(ListOf::new(alloc));
     };
-    match doc.hash.get(field.name.as_slice()) {
+    match doc.hash().get(field.name.as_slice()) {
         Some(value) => Ok(tags(alloc, value, separator, case)?),
         None => Ok(ListOf::new(alloc)),
     }
@@ -77,6 +77,6 @@ fn field_number(doc: &Doc, field: &Field) -> Option<i64>
     if !field.kind.is_numeric() {
         return None;
     }
-    let value = doc.hash.get(field.name.as_slice())?;
+    let value = doc.hash().get(field.name.as_slice())?;
     number(value)
 }

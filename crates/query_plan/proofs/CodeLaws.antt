@@ -11,7 +11,7 @@ use Rattle.std.proofs.lemmas.Slice.Eq.{bytes_eq-Decides}
 use lib.Dec.{ltb}
 use Rattle.ft_base.specs.declared.definition.Field.{Field}
 use Rattle.ft_base.specs.declared.definition.IndexDef.{IndexDef}
-use Rattle.ft_base.specs.declared.doc.Doc.{Doc}
+use Rattle.ft_base.specs.Docs.{Doc}
 use Rattle.ft_meaning.specs.Holds.{places_of}
 use Rattle.ft_meaning.specs.Meaning.{ValuesFit, field_tokens, has_word}
 use Rattle.id_iters.specs.Entries.{field_of, place_of, places_in}

@@ -5,7 +5,7 @@ use Rattle.std.specs.List.{list_any}
 use Rattle.std.proofs.lemmas.Bool.{cases_Bool, false≢true, le-leb, lt-leb, or_parts}
 use Rattle.std.proofs.lemmas.Bool.Decides.{eqb_tells, leb_tells}
 use Rattle.ft_base.specs.declared.definition.IndexDef.{IndexDef}
-use Rattle.ft_base.specs.declared.doc.Doc.{Doc}
+use Rattle.ft_base.specs.Docs.{Doc}
 use Rattle.ft_base.specs.declared.query.Query.{Query}
 use Rattle.ft_meaning.specs.Holds.{holds}
 use Rattle.id_iters.specs.Held.{Held}

@@ -10,7 +10,7 @@ use Rattle.std.proofs.lemmas.Int.{ints}
 use Rattle.std.proofs.lemmas.Option.{slice_get_within, get_or_from_slice_get}
 use Rattle.ft_base.specs.Kinds.{is_numeric}
 use Rattle.ft_base.specs.declared.definition.Field.{Field}
-use Rattle.ft_base.specs.declared.doc.Doc.{Doc}
+use Rattle.ft_base.specs.Docs.{Doc}
 use Rattle.ft_base.specs.Hash.{get_field}
 use Rattle.ft_base.proofs.AnyLaws.{any_filter_and}
 use Rattle.ft_meaning.specs.Holds.{field_number, has_number, is_between}

@@ -6,7 +6,7 @@ use Rattle.std.proofs.lemmas.List.{length-map}
 use Rattle.ft_base.specs.Hash.{get_field}
 use Rattle.ft_base.specs.declared.definition.Field.{Field}
 use Rattle.ft_base.specs.declared.definition.IndexDef.{IndexDef}
-use Rattle.ft_base.specs.declared.doc.Doc.{Doc}
+use Rattle.ft_base.specs.Docs.{Doc}
 use Rattle.ft_meaning.specs.Meaning.{ValuesFit, has_words, value_tokens, field_tokens}
 use Rattle.ft_meaning.proofs.MeaningLaws.{value-fits}
 use Rattle.token_text.specs.Tokens.{units, split, before, runs, lowered, is_stop, numbered, tokens}

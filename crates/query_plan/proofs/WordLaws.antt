@@ -6,7 +6,7 @@ use Rattle.std.specs.Option.{option_map, unwrap_or}
 use Rattle.std.specs.Map.{lookup}
 use Rattle.std.proofs.lemmas.Bool.{cases_Bool}
 use Rattle.ft_base.specs.declared.definition.IndexDef.{IndexDef}
-use Rattle.ft_base.specs.declared.doc.Doc.{Doc}
+use Rattle.ft_base.specs.Docs.{Doc}
 use Rattle.id_iters.specs.Entries.{has_entry, wanted, hit_codes}
 use Rattle.id_iters.specs.Held.{Held, entries_of, codes_of}
 use Rattle.id_iters.specs.Named.{Named}

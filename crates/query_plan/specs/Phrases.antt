@@ -3,7 +3,7 @@ use Rattle.std.specs.Prelude.{◌≡◌, ℕ, List, map, Bool, Option, slice_get
 use Rattle.std.specs.List.{list_any}
 use Rattle.ft_base.specs.declared.definition.Field.{Field}
 use Rattle.ft_base.specs.declared.definition.IndexDef.{IndexDef}
-use Rattle.ft_base.specs.declared.doc.Doc.{Doc}
+use Rattle.ft_base.specs.Docs.{Doc}
 use Rattle.ft_base.specs.declared.query.Fields.{Fields}
 use Rattle.ft_meaning.specs.Holds.{has_of, named}
 use Rattle.ft_meaning.specs.Meaning.{has_words}

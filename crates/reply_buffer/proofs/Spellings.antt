@@ -4,7 +4,7 @@ use Rattle.std.specs.Prelude.{ℤ, pos, codes, is_some, if◌then◌else◌}
 use Rattle.std.specs.Fmt.{decimal, signed_decimal}
 use Rattle.ft_base.proofs.SpellingLaws.{spelling-Fault, spelling-Line, spelling-Number}
 use Rattle.ft_base.specs.Reply.{spelling}
-use Rattle.ft_base.specs.declared.doc.Doc.{Doc}
+use Rattle.ft_base.specs.Docs.{Doc}
 use Rattle.ft_machine.specs.Reads.{kind_of}
 use Rattle.ft_base.specs.declared.reply.Reply.TheVariants.{Line, Fault, Number}
 

@@ -6,7 +6,7 @@ ghost use Rattle.ft_base.specs.declared.reply.Reply.TheVariants.{Fault, Number};
 ghost use Rattle.ft_machine.specs.Reads.{one_if};
 ghost use Rattle.ft_machine.specs.Step.{Told};
 ghost use Rattle.reply_buffer.specs.Refused.{HasShortName, field_refused, query_refused, refused, schema_refused};
-ghost use Rattle.reply_buffer.specs.Written.{CanBeWritten, HasRoom, IsEchoed, IsWritten, TellsKind};
+ghost use Rattle.reply_buffer.specs.Written.{CanBeWritten, HasRoom, IsEchoed, IsWritten, TellsKind, Written, written_in};
 
 use crate::made_reply::{put_if_made, put_made};
 use crate::message::put_message;
@@ -28,8 +28,6 @@ pub struct ReplyBuffer {
 }
 
 impl Model for ReplyBuffer {
-    ghost use Rattle.reply_buffer.specs.Written.{HasRoom, Written, written_in};
-
     ghost Value = { Written };
 
     ghost view = { λ reply. written_in reply.bytes };

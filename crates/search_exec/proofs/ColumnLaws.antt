@@ -13,7 +13,7 @@ use Rattle.std.proofs.lemmas.List.{drop-take, length-drop, length-take, length_p
 use Rattle.std.proofs.lemmas.List.Elements.{filter_map-append}
 use Rattle.std.proofs.lemmas.Map.Keys.{sorted_from_strictly_increasing, sorted_head, sorted_tail}
 use Rattle.cursor_book.proofs.EachLaws.{each-filter, each-passes}
-use Rattle.ft_base.specs.declared.doc.Doc.{Doc}
+use Rattle.ft_base.specs.Docs.{Doc}
 use Rattle.ft_base.specs.declared.reply.Reply.{Reply}
 use Rattle.ft_base.specs.declared.reply.Reply.TheVariants.{Array, Bulk, Number}
 use Rattle.ft_machine.specs.Counted.{num_or_null}

@@ -12,7 +12,7 @@ use Rattle.ft_base.specs.declared.definition.Field.{Field}
 use Rattle.ft_base.specs.declared.definition.FieldKind.{FieldKind}
 use Rattle.ft_base.specs.declared.definition.FieldKind.TheVariants as kinds
 use Rattle.ft_base.specs.declared.definition.IndexDef.{IndexDef}
-use Rattle.ft_base.specs.declared.doc.Doc.{Doc}
+use Rattle.ft_base.specs.Docs.{Doc}
 use Rattle.ft_machine.specs.Counted.{num_or_null}
 use Rattle.ft_meaning.specs.Holds.{field_number, value_number}
 use Rattle.ft_meaning.specs.Sortable.{keeps_number, number_at}

@@ -1,6 +1,6 @@
 -- A page shows the documents so far, and as many are read as is told.
 use Rattle.std.proofs.Common.{◌≡◌, ℕ, List, length, ap, ◌∙◌}
-use Rattle.ft_base.specs.declared.doc.Doc.{Doc}
+use Rattle.ft_base.specs.Docs.{Doc}
 use Rattle.hash_store.specs.Store.{reads_after}
 use Rattle.search_exec.specs.Pages.{Shows, reads_of}
 use Rattle.search_exec.specs.declared.page.Page.{Page}

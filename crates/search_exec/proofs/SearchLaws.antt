@@ -3,7 +3,7 @@ use Rattle.std.proofs.Common.{◌≡◌, ℕ, Bool, true, false, List, length, m
 use Rattle.std.specs.Prelude.{◌-◌, Option, None, Some, is_some, IfOk, OnOk, Result, if◌then◌else◌}
 use Rattle.cmd_parse.specs.Searching.{Searching}
 use Rattle.ft_base.specs.declared.definition.IndexDef.{IndexDef}
-use Rattle.ft_base.specs.declared.doc.Doc.{Doc}
+use Rattle.ft_base.specs.Docs.{Doc}
 use Rattle.ft_base.specs.declared.reply.Reply.{Reply}
 use Rattle.ft_machine.specs.Counted.{in_order}
 use Rattle.ft_machine.specs.Shown.{found_reply}

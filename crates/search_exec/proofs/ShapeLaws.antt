@@ -11,7 +11,7 @@ use Rattle.ft_base.specs.Kinds.{is_numeric}
 use Rattle.ft_base.specs.Reply.{fits_wire}
 use Rattle.ft_base.specs.declared.definition.Field.{Field}
 use Rattle.ft_base.specs.declared.definition.IndexDef.{IndexDef}
-use Rattle.ft_base.specs.declared.doc.Doc.{Doc}
+use Rattle.ft_base.specs.Docs.{Doc}
 use Rattle.ft_base.specs.declared.reply.Reply.{Reply}
 use Rattle.ft_base.specs.declared.reply.Reply.TheVariants.{Array, Bulk, Number}
 use Rattle.ft_base.proofs.RepliesLaws.{fits-Array, fits-Bulk, fits-Number, in_turn-fits}

@@ -3,7 +3,7 @@ use Rattle.std.specs.Prelude.{◌≡◌, ◌<◌, ◌≤◌, ℕ, nat_eq, Bool, 
 use Rattle.std.specs.List.{All, AllByRecursion, filter_map, list_any}
 use Rattle.std.specs.List.Sorted.{IsNonDecreasing}
 use Rattle.ft_base.specs.Space.{doc_of}
-use Rattle.ft_base.specs.declared.doc.Doc.{Doc}
+use Rattle.ft_base.specs.Docs.{Doc}
 use Rattle.ft_machine.specs.Counted.{is_among}
 use Rattle.id_iters.specs.Held.{AreLists, Held}
 use Rattle.id_iters.specs.Ready.{Ready}

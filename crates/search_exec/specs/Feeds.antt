@@ -5,7 +5,7 @@ use Rattle.agg_pipeline.specs.declared.feed.Feed.{Feed}
 use Rattle.agg_pipeline.specs.declared.step.Load.{Load}
 use Rattle.agg_pipeline.specs.declared.step.Step.{Step}
 use Rattle.ft_base.specs.declared.definition.IndexDef.{IndexDef}
-use Rattle.ft_base.specs.declared.doc.Doc.{Doc}
+use Rattle.ft_base.specs.Docs.{Doc}
 use Rattle.ft_base.specs.declared.row.Row.{Row}
 use Rattle.ft_machine.specs.Aggregating.{aggregate_rows}
 

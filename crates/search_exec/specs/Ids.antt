@@ -5,7 +5,7 @@ use Rattle.cmd_parse.specs.Options.{Sort}
 use Rattle.cmd_parse.specs.Searching.{Searching}
 use Rattle.ft_base.specs.declared.definition.Field.{Field}
 use Rattle.ft_base.specs.declared.definition.IndexDef.{IndexDef}
-use Rattle.ft_base.specs.declared.doc.Doc.{Doc}
+use Rattle.ft_base.specs.Docs.{Doc}
 use Rattle.ft_base.specs.declared.reply.Reply.{Reply}
 use Rattle.ft_machine.specs.Counted.{in_order, is_among}
 use Rattle.ft_machine.specs.Shown.{found_reply}
@@ -35,6 +35,10 @@ pub record AreKnown (has : ℕ → Bool) (docs : List Doc) : Type 0 where
 pub record AreNumbered (has : ℕ → Bool) (numbers : ℕ → ℕ → Option ℤ) (def : IndexDef) (docs : List Doc) : Type 0 where
   pub kept : (id column : ℕ) (doc : Doc) → has id ≡ true → doc_at id docs ≡ Some doc
       → numbers id column ≡ number_at (sorting_vector def doc) column
+
+-- so are the numbers of what an iterator finds
+abbrev pub FindsNumbered : Held → Iter → (ℕ → ℕ → Option ℤ) → IndexDef → List Doc → Type 0
+FindsNumbered held iter numbers def docs = AreNumbered (in_set held iter) numbers def docs
 
 -- the documents that an iterator finds
 abbrev pub docs_found : Held → Iter → List Doc → List Doc

@@ -1,7 +1,7 @@
 -- What an unsorted search keeps of the documents that it goes through, and what a search by its shape reads and shows.
 use Rattle.std.specs.Prelude.{◌≡◌, ℕ, pos, ◌-◌, nat_le, nat_lt, ◌==◌, min, Bool, ◌&&◌, List, ◌∷◌, length, take, drop, Option, None, Some, is_some, if◌then◌else◌}
 use Rattle.std.specs.List.{flat_map}
-use Rattle.ft_base.specs.declared.doc.Doc.{Doc}
+use Rattle.ft_base.specs.Docs.{Doc}
 use Rattle.ft_base.specs.declared.reply.Reply.TheVariants.{Number}
 use Rattle.search_exec.specs.Shapes.{order_by, row_by}
 use Rattle.search_exec.specs.declared.page.Page.{Page}

@@ -8,7 +8,7 @@ use Rattle.ft_base.specs.Hash.{Hash, get_field, in_turn}
 use Rattle.ft_base.specs.Kinds.{is_numeric}
 use Rattle.ft_base.specs.declared.definition.Field.{Field}
 use Rattle.ft_base.specs.declared.definition.IndexDef.{IndexDef}
-use Rattle.ft_base.specs.declared.doc.Doc.{Doc}
+use Rattle.ft_base.specs.Docs.{Doc}
 use Rattle.ft_base.specs.declared.reply.Reply.{Reply}
 use Rattle.ft_base.specs.declared.reply.Reply.TheVariants.{Array, Bulk, Number}
 use Rattle.ft_base.specs.declared.row.Value.{Value}

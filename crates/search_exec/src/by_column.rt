@@ -172,7 +172,7 @@ fn show_id(
         };
     }
     match store.get_by_id(id) {
-        Some(doc) => push_row(alloc, shape, doc.get(), replies),
+        Some(doc) => push_row(alloc, shape, doc, replies),
         None => Ok(()),
     }
 }

@@ -104,7 +104,7 @@ fn offer_id(
     ensures reads { store.new ≡ record store.old { reads = reads_after store.old.reads 1 } }
 {
     let doc = store.get_by_id(id).unwrap();
-    offer_doc(first, alloc, doc.get(), shape, key)
+    offer_doc(first, alloc, doc, shape, key)
 }
 
 // Offers the row of a document. It is made only where it may be among the first.
@@ -146,7 +146,7 @@ fn rank(
 fn value_of(alloc: Global, key: SortKey<'_>, doc: &Doc) -> Result<Value, NoMemory>
     ensures { IfOk result (λ value. value ≡ value_by key.entry doc.now) }
 {
-    let Some(text) = doc.hash.get(key.field) else {
+    let Some(text) = doc.hash().get(key.field) else {
         return Ok(Value::Null);
     };
     if key.numeric {

@@ -1,7 +1,7 @@
 //! A search that isn't sorted: its documents in order of their ids. All are counted, and those of the window are shown.
 ghost use Rattle.std.specs.Prelude.{◌≡◌, ◌<◌, ◌≤◌, ◌+◌, ◌^◌, ◌∷◌, ◌++◌, [], ℕ, Some, List, IfOk, IsSome, OnOk, length};
 ghost use Rattle.std.specs.Option.{ForSome};
-ghost use Rattle.ft_base.specs.declared.doc.Doc.{Doc};
+ghost use Rattle.ft_base.specs.Docs.{Doc};
 ghost use Rattle.hash_store.specs.Store.{reads_after};
 ghost use Rattle.search_exec.specs.Candidates.{AreWalkable, docs_counted};
 ghost use Rattle.search_exec.specs.Ids.{doc_at};
@@ -105,5 +105,5 @@ fn note_id(
         return page.note_key(alloc, key);
     }
     let doc = store.get_by_id(id).unwrap();
-    page.note(alloc, shape, doc.get())
+    page.note(alloc, shape, doc)
 }

@@ -1,6 +1,6 @@
 //! What an unsorted search keeps: how many documents count so far, and the rows of those in the window.
 ghost use Rattle.std.specs.Prelude.{◌≡◌, ◌<◌, ◌+◌, ◌^◌, ◌∷◌, ◌++◌, [], List, false, IfOk, IsTrue, OnOk};
-ghost use Rattle.ft_base.specs.declared.doc.Doc.{Doc};
+ghost use Rattle.ft_base.specs.Docs.{Doc};
 ghost use Rattle.search_exec.specs.Pages.{Shows, in_window};
 ghost use Rattle.search_exec.specs.Shapes.{page_by};
 ghost use Rattle.search_exec.specs.declared.shape.Shape.{Shape};

@@ -3,9 +3,8 @@ ghost use Rattle.std.specs.Prelude.{◌≡◌, ◌<◌, ◌≤◌, ◌+◌, ◌^
 ghost use Rattle.cmd_parse.specs.Seen.{search_of};
 ghost use Rattle.ft_base.specs.Reply.{fits_wire};
 ghost use Rattle.hash_store.specs.Store.{reads_after};
-ghost use Rattle.id_iters.specs.Sets.{in_set};
 ghost use Rattle.search_exec.specs.Candidates.{in_candidates, AreWalkable, docs_counted};
-ghost use Rattle.search_exec.specs.Ids.{AreNumbered, IsWalkable, answer_over, docs_found, docs_of, reads_for};
+ghost use Rattle.search_exec.specs.Ids.{AreNumbered, FindsNumbered, IsWalkable, answer_over, docs_found, docs_of, reads_for};
 ghost use Rattle.search_exec.specs.Pages.{ordered_by, reads_by, reads_sorted};
 ghost use Rattle.search_exec.specs.Shapes.{AreSeen, SortsBy, order_by, page_by};
 
@@ -34,7 +33,7 @@ pub fn search_reply<T: Lists, L: Ledger>(
     steps: &mut Steps<L>,
 ) -> Result<Reply, NoMemory>
     requires walkable { IsWalkable (T.held lists.now) iter 0 store.old.space }
-    requires numbered { AreNumbered (in_set (T.held lists.now) iter) (T.named lists.now).numbers def.now store.old.space }
+    requires numbered { FindsNumbered (T.held lists.now) iter (T.named lists.now).numbers def.now store.old.space }
     requires sorts { SortsBy def.now.fields (search_of search.now) }
     ensures reply { IfOk result (λ reply. reply ≡ answer_over (search_of search.now) def.now
         (docs_of (search_of search.now).keys (docs_found (T.held lists.now) iter store.old.space))) }

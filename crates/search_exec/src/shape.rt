@@ -9,7 +9,7 @@ ghost use Rattle.ft_machine.specs.Shown.{bare_name, field_named};
 ghost use Rattle.search_exec.specs.Shapes.{IsShapeOf, column_for, column_named, fields_with, key_for, key_of_field, key_seen, pair_of, resolved, row_by, shown_in};
 
 use cmd_parse::{SearchSpec, SortSpec};
-use ft_base::{Bytes, Doc, Field, HashRec, IndexDef, ListOf, NoMemory, Reply, Words, in_turn};
+use ft_base::{Bytes, Doc, Field, HashView, IndexDef, ListOf, NoMemory, Reply, Words, in_turn};
 use ft_meaning::keeps_number;
 use row_sort::Direction;
 use std::alloc::Global;
@@ -179,9 +179,9 @@ pub fn push_row(
 ) -> Result<(), NoMemory>
     ensures row { OnOk result (rows.new.items ≡ rows.old.items ++ row_by shape.now doc.now) }
 {
-    rows.push(Reply::Bulk(doc.key.clone()?))?;
+    push_key(alloc, doc.key(), rows)?;
     if !shape.no_content {
-        rows.push(fields_shown(alloc, &shape.fields, &doc.hash)?)?;
+        rows.push(fields_shown(alloc, &shape.fields, &doc.hash())?)?;
     }
     Ok(())
 }
@@ -198,7 +198,7 @@ pub fn push_key(alloc: Global, key: &[u8], rows: &mut Vec<Reply>) -> Result<(), 
 fn fields_shown(
     alloc: Global,
     fields: &Option<Vec<ShownField<'_>>>,
-    hash: &HashRec,
+    hash: &HashView<'_>,
 ) -> Result<Reply, NoMemory>
     ensures { IfOk result (λ reply. reply
         ≡ Array (fields_with (option_map (λ shown. shown.items) fields.now) hash.now)) }
@@ -210,7 +210,11 @@ fn fields_shown(
 }
 
 /// The fields that are named and there, in the order in which they are named.
-fn named_fields(alloc: Global, shown: &[ShownField<'_>], hash: &HashRec) -> Result<Reply, NoMemory>
+fn named_fields(
+    alloc: Global,
+    shown: &[ShownField<'_>],
+    hash: &HashView<'_>,
+) -> Result<Reply, NoMemory>
     ensures { IfOk result (λ reply. reply ≡ Array (flat_map (shown_in hash.now) shown.now)) }
 {
     // Each takes two places at the most, so the vector does not grow.
@@ -225,7 +229,7 @@ fn named_fields(alloc: Global, shown: &[ShownField<'_>], hash: &HashRec) -> Resu
 fn push_field(
     alloc: Global,
     shown: &ShownField<'_>,
-    hash: &HashRec,
+    hash: &HashView<'_>,
     replies: &mut Vec<Reply>,
 ) -> Result<(), NoMemory>
     ensures { OnOk result (replies.new.items ≡ replies.old.items ++ shown_in hash.now shown.now) }

@@ -8,7 +8,8 @@ use super::numbers::{number, parted, put_number};
 use crate::answer::Answer;
 use crate::arguments::{rest, word};
 use ft_base::{
-    Bytes, Doc, Field, FieldKind, HashRec, IndexDef, ListOf, NoMemory, Query, Steps, StopWords,
+    Bytes, Doc, Field, FieldKind, HashRec, HashView, IndexDef, ListOf, NoMemory, Query, Steps,
+    StopWords,
 };
 use ft_index::FtIndex;
 use id_iters::{Hints, Iter, Leaf, ListName};
@@ -103,11 +104,10 @@ fn doc(alloc: Global, id: u64, text: &[u8]) -> Result<Doc, NoMemory>
 {
     let mut hash = HashRec::new(alloc);
     hash.put(b"t", text)?;
-    let key = Bytes::new(alloc);
-    Ok(Doc { id, key, hash })
+    Doc::new(alloc, id, b"", hash)
 }
 
-fn values_fit(hash: &HashRec) -> bool
+fn values_fit(hash: &HashView<'_>) -> bool
     ensures { IsTrue result → ValuesFit hash.now }
 {
     'values: for i in 0..hash.len() {
@@ -124,7 +124,7 @@ fn write(index: &mut FtIndex, markers: &mut Markers, doc: &Doc) -> Result<(), No
     ensures last { index.new.table.last ≤ doc.now.id }
     ensures before { AreBefore markers.new index.new.lists }
 {
-    if !values_fit(&doc.hash) {
+    if !values_fit(&doc.hash()) {
         return Ok(());
     }
     let ready = index.prepare(doc, markers)?;

@@ -1,6 +1,9 @@
-use Rattle.std.proofs.Common.{sym, subst}
+use Rattle.std.proofs.Common.{ℕ, sym, subst}
 use Rattle.ft_index.specs.Adding.{RangesUnseen}
+use Rattle.ft_index.specs.Lists.{rows_of}
 use Rattle.ft_index.specs.Markers.{range_marker}
+use Rattle.ft_index.specs.Numbering.{RowsGain, value_entry}
+use Rattle.ft_index.specs.UpTo.{RangesUpTo}
 use Rattle.ft_index.proofs.NumberLaws.{gain-next, gain-unseen}
 use Rattle.ft_index.proofs.TakingLaws.{before-taken, takes-again}
 use Rattle.ft_index.proofs.numbers.add_all.Goals as goal
@@ -21,10 +24,14 @@ returns-in_err-add_field-clause-takes c =
 pub loop-number-preserved : goal.loop-number-preserved
 loop-number-preserved c = record {
   added = gain-next c.loop-number.number c.args.fields.now c.index-fields-number.result c.searched_number-value.result c.args.doc.now c.args.ranges.now c.loop-number.ranges c.add_field.new.ranges
-      c.loop-number-test.true c.index-fields-number.is c.searched_number-value.ensures c.loop-number.invariant.added c.in_ok-add_field.ensures.here c.add_field.ensures.others;
+      c.loop-number-test.true c.index-fields-number.is c.searched_number-value.ensures c.loop-number.invariant.added
+      (subst (λ (id : ℕ). RowsGain (value_entry id c.searched_number-value.result) (rows_of c.loop-number.ranges c.loop-number.number) (rows_of c.add_field.new.ranges c.loop-number.number)) c.id.ensures c.in_ok-add_field.ensures.here)
+      c.add_field.ensures.others;
   unseen = λ def. gain-unseen c.loop-number.number c.searched_number-value.result c.args.doc.now.id c.args.ranges.now c.loop-number.ranges c.add_field.new.ranges def
-      (c.loop-number.invariant.unseen def) c.in_ok-add_field.ensures.here c.add_field.ensures.others;
-  up_to = c.add_field.ensures.up_to;
+      (c.loop-number.invariant.unseen def)
+      (subst (λ (id : ℕ). RowsGain (value_entry id c.searched_number-value.result) (rows_of c.loop-number.ranges c.loop-number.number) (rows_of c.add_field.new.ranges c.loop-number.number)) c.id.ensures c.in_ok-add_field.ensures.here)
+      c.add_field.ensures.others;
+  up_to = subst (λ (id : ℕ). RangesUpTo id c.add_field.new.ranges) c.id.ensures c.add_field.ensures.up_to;
   takes = takes-again c.args.markers.now c.loop-number.markers c.add_field.new.markers (range_marker c.args.ranges.now) (range_marker c.loop-number.ranges) (range_marker c.add_field.new.ranges)
       c.requires.before c.loop-number.invariant.takes c.add_field.ensures.takes;
 }

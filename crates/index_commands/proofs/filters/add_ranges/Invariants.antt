@@ -1,7 +1,7 @@
 use Rattle.std.proofs.Common.{◌≡◌, ◌&&◌, map, take}
 use Rattle.std.specs.List.{list_all}
 use Rattle.cmd_parse.specs.Seen.{filter_of}
-use Rattle.ft_base.specs.declared.doc.Doc.{Doc}
+use Rattle.ft_base.specs.Docs.{Doc}
 use Rattle.ft_base.specs.declared.query.Query.{Query}
 use Rattle.ft_machine.specs.Counted.{passes}
 use Rattle.ft_meaning.specs.Holds.{holds}

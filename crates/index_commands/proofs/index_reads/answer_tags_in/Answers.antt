@@ -2,7 +2,7 @@ use Rattle.std.proofs.Common.{◌≡◌, ◌∙◌, ap, sym, subst, List}
 use Rattle.std.specs.Prelude.{IfOk, Some}
 use Rattle.ft_base.specs.declared.definition.Field.{Field}
 use Rattle.ft_base.specs.declared.definition.IndexDef.{IndexDef}
-use Rattle.ft_base.specs.declared.doc.Doc.{Doc}
+use Rattle.ft_base.specs.Docs.{Doc}
 use Rattle.ft_machine.specs.Definitions.{index_of}
 use Rattle.indexed_store.specs.DefinitionsOf.{defined}
 use Rattle.index_commands.proofs.IndexCommandLaws.{named-none, named-some, tags-no_field, tags-told, tags-unknown}

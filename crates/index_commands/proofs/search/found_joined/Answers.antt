@@ -3,7 +3,7 @@ use Rattle.std.specs.Prelude.{IfOk}
 use Rattle.std.specs.List.{list_all}
 use Rattle.cmd_parse.specs.Seen.{filter_of, search_of}
 use Rattle.ft_base.specs.declared.definition.IndexDef.{IndexDef}
-use Rattle.ft_base.specs.declared.doc.Doc.{Doc}
+use Rattle.ft_base.specs.Docs.{Doc}
 use Rattle.ft_machine.specs.Counted.{passes}
 use Rattle.ft_meaning.specs.Holds.{holds}
 use Rattle.index_commands.proofs.FilterLaws.{counted-is}

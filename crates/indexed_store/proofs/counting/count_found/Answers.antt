@@ -1,6 +1,6 @@
 use Rattle.std.proofs.Common.{ap, arith}
 use Rattle.std.specs.Prelude.{List, length}
-use Rattle.ft_base.specs.declared.doc.Doc.{Doc}
+use Rattle.ft_base.specs.Docs.{Doc}
 use Rattle.indexed_store.proofs.CountingLaws.{counted, without-none, without-whole}
 use Rattle.indexed_store.proofs.counting.count_found.Goals as goal
 

@@ -1,5 +1,5 @@
 use Rattle.std.specs.Prelude.{◌≡◌, ◌++◌, List, length}
-use Rattle.ft_base.specs.declared.doc.Doc.{Doc}
+use Rattle.ft_base.specs.Docs.{Doc}
 use Rattle.ft_machine.specs.Definitions.{failures_over}
 use Rattle.indexed_store.specs.Filling.{HasTaken}
 use Rattle.indexed_store.proofs.FillingLaws.{AreLeft}

@@ -1,5 +1,5 @@
 use Rattle.std.proofs.Common.{◌∙◌, ap, refl, sym, arith, List}
-use Rattle.ft_base.specs.declared.doc.Doc.{Doc}
+use Rattle.ft_base.specs.Docs.{Doc}
 use Rattle.ft_index.specs.Index.{Index}
 use Rattle.ft_machine.specs.Definitions.{Defined, index_of, without_index, without_members}
 use Rattle.indexed_store.specs.DefinitionsOf.{definitions_of}

@@ -6,4 +6,4 @@ pub returns-in-Some-clause-fits : goal.returns-in-Some-clause-fits
 returns-in-Some-clause-fits c = made-fits c.values_of.result _ (values-fit _ _) c.values_of.ensures.reply
 
 pub returns-in-None-clause-fits : goal.returns-in-None-clause-fits
-returns-in-None-clause-fits c = made-fits c.values_of-in-None-2.result _ (values-fit _ _) c.values_of-in-None-2.ensures.reply
+returns-in-None-clause-fits c = made-fits c.values_of-in-None.result _ (values-fit _ _) c.values_of-in-None.ensures.reply

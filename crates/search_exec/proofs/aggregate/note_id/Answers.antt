@@ -1,6 +1,6 @@
 use Rattle.std.proofs.Common.{rules, ◌≡◌, ◌∷◌, [], ◌++◌, subst}
 use Rattle.agg_pipeline.specs.Feeding.{Holds}
-use Rattle.ft_base.specs.declared.doc.Doc.{Doc}
+use Rattle.ft_base.specs.Docs.{Doc}
 use Rattle.search_exec.proofs.aggregate.note_id.Goals as goal
 
 pub returns-clause-noted : goal.returns-clause-noted

@@ -1,6 +1,6 @@
 use Rattle.std.specs.Prelude.{◌≡◌, ◌<◌, ◌≤◌, ◌-◌, ◌^◌, ℕ, List, map}
 use Rattle.std.specs.List.Sorted.{IsStrictlyIncreasing}
-use Rattle.ft_base.specs.declared.doc.Doc.{Doc}
+use Rattle.ft_base.specs.Docs.{Doc}
 use Rattle.search_exec.specs.Candidates.{about_candidates, in_candidates, MayAsk}
 use Rattle.search_exec.specs.Ids.{AreKnown}
 use Rattle.search_exec.specs.Ranks.{AreRanked}

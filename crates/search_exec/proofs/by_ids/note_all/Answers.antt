@@ -1,6 +1,6 @@
 use Rattle.std.proofs.Common.{◌≡◌, ◌+◌, ℕ, List, ◌∙◌, subst, arith}
 use Rattle.std.specs.Prelude.{Option, None, Some, IfSome}
-use Rattle.ft_base.specs.declared.doc.Doc.{Doc}
+use Rattle.ft_base.specs.Docs.{Doc}
 use Rattle.search_exec.proofs.AskLaws.{asked-ended, asked-next, found-still, read-on}
 use Rattle.search_exec.proofs.CandidatesLaws.{answer-same, least-next, live-candidate}
 use Rattle.search_exec.proofs.PageLaws.{AreShown, reads-told}

@@ -1,6 +1,6 @@
 use Rattle.std.proofs.Common.{◌≡◌, ℕ, List, length, ap, sym, subst, arith}
 use Rattle.std.specs.Prelude.{IfOk, OnOk, Option}
-use Rattle.ft_base.specs.declared.doc.Doc.{Doc}
+use Rattle.ft_base.specs.Docs.{Doc}
 use Rattle.ft_base.specs.declared.reply.Reply.{Reply}
 use Rattle.search_exec.proofs.SearchLaws.{page-without-key, page-without-rows, reads-without-rows}
 use Rattle.search_exec.specs.Candidates.{in_candidates}

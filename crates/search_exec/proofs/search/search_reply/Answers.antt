@@ -1,7 +1,7 @@
 use Rattle.std.proofs.Common.{◌≡◌, List, subst}
 use Rattle.std.specs.Prelude.{IfOk, OnOk, length}
 use Rattle.cmd_parse.specs.Seen.{search_of}
-use Rattle.ft_base.specs.declared.doc.Doc.{Doc}
+use Rattle.ft_base.specs.Docs.{Doc}
 use Rattle.ft_machine.specs.Counted.{in_order}
 use Rattle.ft_machine.specs.Shown.{found_reply}
 use Rattle.hash_store.specs.Store.{reads_after}

@@ -1,6 +1,6 @@
 use Rattle.std.specs.Prelude.{◌≡◌, ◌<◌, ◌≤◌, ◌-◌, ◌^◌, map}
 use Rattle.std.specs.List.Sorted.{IsStrictlyIncreasing}
-use Rattle.ft_base.specs.declared.doc.Doc.{Doc}
+use Rattle.ft_base.specs.Docs.{Doc}
 use Rattle.ft_machine.specs.Parts.{stream_row}
 use Rattle.id_iters.specs.Sets.{about, in_set}
 use Rattle.search_exec.proofs.StreamLaws.{IsTaken}

@@ -1,5 +1,5 @@
 use Rattle.std.proofs.Common.{List, ap, refl, subst, sym, ◌∙◌}
-use Rattle.ft_base.specs.declared.doc.Doc.{Doc}
+use Rattle.ft_base.specs.Docs.{Doc}
 use Rattle.indexed_store.specs.Holding.{state_of}
 use Rattle.indexed_store.specs.Standing.{AreWritten}
 use Rattle.ft_engine.proofs.EngineLaws.{before-event}

@@ -19,7 +19,7 @@ no-member fit is member = elim is [ inl n ↦ cc (n, member) | inr f ↦ cc (f, 
 pub returns-in-NoPrefix : goal.returns-in-NoPrefix
 returns-in-NoPrefix c =
     let inside = the_view c.self.inside in
-    let ready : Ready = record { id = c.args.doc.now.id; fit = c.fit_of-fit.result } in
+    let ready : Ready = record { id = c.id.result; fit = c.fit_of-fit.result } in
     let now : Index = record inside { waits = Some ready } in
     let other : fit_of inside.def c.args.doc.now ≡ Member → ⊥ = λ is. no-member c.fit_of-fit.result c.in-NoPrefix.is (c.fit_of-fit.ensures ∙ is) in
     record {
@@ -27,7 +27,7 @@ returns-in-NoPrefix c =
       live = ap (λ (i : Index). i.table.live) c.self.view_is;
       def = ap (λ (i : Index). i.def) c.self.view_is;
       failures = ap (λ (i : Index). i.failures) c.self.view_is;
-      ready = ap (λ (f : Fit). record { id = c.args.doc.now.id; fit = f }) (c.fit_of-fit.ensures ∙ ap (λ (i : Index). fit_of i.def c.args.doc.now) c.self.view_is);
+      ready = ap (λ (n : ℕ). record { id = n; fit = c.fit_of-fit.result }) c.id.ensures ∙ ap (λ (f : Fit). record { id = c.args.doc.now.id; fit = f }) (c.fit_of-fit.ensures ∙ ap (λ (i : Index). fit_of i.def c.args.doc.now) c.self.view_is);
       waits = refl;
       seen = λ docs stands.
           seen-other inside now ready c.args.doc.now docs refl refl refl refl c.fit_of-fit.ensures other (subst (λ (i : Index). Indexes i docs) (sym c.self.view_is) stands);
@@ -61,7 +61,7 @@ returns-clause-unseen c docs stands =
 pub returns-clause-seen : goal.returns-clause-seen
 returns-clause-seen c docs stands =
     let inside = the_view c.self.inside in
-    let ready : Ready = record { id = c.args.doc.now.id; fit = c.fit_of-fit.result } in
+    let ready : Ready = record { id = c.id.result; fit = c.fit_of-fit.result } in
     let now : Index = record inside { table = c.enter.new.table; lists = c.enter.new.lists; waits = Some ready } in
     let before : Indexes inside docs = subst (λ (i : Index). Indexes i docs) (sym c.self.view_is) stands in
     seen-member inside now ready c.args.doc.now docs refl c.in_ok-enter.ensures.waits refl c.fit_of-fit.ensures (sym c.fit_of-fit.ensures ∙ c.in-Member.is)

@@ -1,58 +1,32 @@
-use Rattle.std.proofs.Common.{◌≡◌, ◌∙◌, ap, sym, subst, Option, Some, find, nat_eq}
-use Rattle.std.specs.Map.{lookup}
-use Rattle.ft_base.specs.declared.doc.Doc.{Doc}
-use Rattle.ft_base.specs.Rows.{Rows, live_rows}
-use Rattle.ft_base.specs.Space.{erase}
-use Rattle.ft_base.proofs.LiveRowsLaws.{lookup-waiting, lookup-live_rows}
-use Rattle.id_rows.proofs.IdRowsLaws.{remove_none}
-use Rattle.hash_store.specs.Erasing.{erase_doc}
-use Rattle.hash_store.specs.Maps.{IsStore}
-use Rattle.hash_store.specs.Rows.{store_of}
+use Rattle.std.proofs.Common.{◌≡◌, ◌∙◌, ap, sym, Some, find, nat_eq, ℕ}
+use Rattle.std.specs.HashSet.{spare}
+use Rattle.std.specs.Map.{remove_entry}
+use Rattle.ft_base.specs.Docs.{Doc}
+use Rattle.ft_base.specs.Space.{doc_of, erase}
+use Rattle.hash_store.specs.Rows.{space_of}
 use Rattle.hash_store.specs.Store.{Store}
-use Rattle.hash_store.proofs.ChangeLaws.{erased_store, erased_as}
-use Rattle.hash_store.proofs.ErasingLaws.{keyed-leads, leading-row, unfound}
-use Rattle.hash_store.proofs.StoreLaws.{find-space, waits_last}
+use Rattle.hash_store.proofs.StoreLaws.{waits_last, find-space}
+use Rattle.hash_store.proofs.ChangeLaws.{IsKeyed, keyed, erased_store, erased_as, by_id, unfound}
 use Rattle.hash_store.proofs.store.HashStore.erase_id.Goals as goal
 
-pub returns-then-eq : goal.returns-then-eq
-returns-then-eq c =
-    unfound c.args.id c.args.self.now
-    (find-space (nat_eq c.args.id) c.self.inside.pending c.self.inside.last c.self.inside.docs c.self.inside.ids.entries c.args.self.now c.self.inside.reads c.self.invariant c.self.view_is
-    ∙ lookup-waiting c.self.inside.pending c.args.id c.self.inside.docs (waits_last c.self.inside.pending c.self.inside.last c.self.inside.docs c.self.inside.ids.entries c.self.invariant) (sym c.eq.ensures ∙ c.if-eq.true))
-
-pub forget_key-requires : goal.forget_key-requires
-forget_key-requires c =
-    let found : lookup (nat_eq c.args.id) (live_rows c.self.inside.pending c.self.inside.docs) ≡ Some c.in-Some.gone =
-    lookup-live_rows c.self.inside.pending c.args.id c.self.inside.docs (sym c.eq.ensures ∙ c.if-eq.false) ∙ sym c.in-Some.ensures.was in
-    record { row = leading-row c.args.id c.in-Some.gone.key c.self.inside.ids.entries (keyed-leads c.args.id c.in-Some.gone c.self.inside.pending c.self.inside.last c.self.inside.docs c.self.inside.ids.entries c.self.invariant found) }
+pub live_doc-requires : goal.live_doc-requires
+live_doc-requires c = record { last = waits_last c.self.invariant }
 
 pub invariant_of-self : goal.invariant_of-self
 invariant_of-self c =
-    let found : lookup (nat_eq c.args.id) (live_rows c.self.inside.pending c.self.inside.docs) ≡ Some c.in-Some.gone =
-    lookup-live_rows c.self.inside.pending c.args.id c.self.inside.docs (sym c.eq.ensures ∙ c.if-eq.false) ∙ sym c.in-Some.ensures.was in
-    erased_store c.self.inside.pending c.args.id c.self.inside.last c.self.inside.docs c.self.inside.ids.entries c.in-Some.gone.key c.remove.new.self c.forget_key.new.ids.entries c.self.invariant
-    (keyed-leads c.args.id c.in-Some.gone c.self.inside.pending c.self.inside.last c.self.inside.docs c.self.inside.ids.entries c.self.invariant found) c.remove.ensures.gone c.forget_key.ensures
-
-pub invariant_of-self-in_default : goal.invariant_of-self-in_default
-invariant_of-self-in_default c =
-    let same = c.remove.ensures.gone ∙ remove_none (λ (doc : Doc). doc.id) c.args.id c.self.inside.docs (sym c.in_default.ensures.was) in
-    subst (λ (rows : Rows Doc). IsStore c.self.inside.pending c.self.inside.last rows c.self.inside.ids.entries) (sym same) c.self.invariant
+    let k : IsKeyed c.args.id c.in-Some.doc.now (space_of c.self.inside.pending c.self.inside.docs) = keyed c.self.invariant c.args.id c.in-Some.doc.now (sym c.in-Some.ensures) in
+    let found : doc_of (space_of c.self.inside.pending c.self.inside.docs) c.key.result.now ≡ Some c.in-Some.doc.now = ap (doc_of (space_of c.self.inside.pending c.self.inside.docs)) c.key.ensures ∙ k.found in
+    let left : c.drop_row.new.docs ≡ remove_entry (nat_eq c.in-Some.doc.now.id) c.self.inside.docs = c.drop_row.ensures ∙ ap (λ (n : ℕ). remove_entry (nat_eq n) c.self.inside.docs) (sym k.own) in
+    erased_store c.self.invariant c.key.result.now c.in-Some.doc.now found c.drop_row.new.docs left c.remove.new.self.keys (spare c.remove.new.self) c.remove.ensures.keys c.remove.ensures.unique c.remove.ensures.spare
 
 pub returns-in-Some : goal.returns-in-Some
 returns-in-Some c =
-    let found : lookup (nat_eq c.args.id) (live_rows c.self.inside.pending c.self.inside.docs) ≡ Some c.in-Some.gone =
-    lookup-live_rows c.self.inside.pending c.args.id c.self.inside.docs (sym c.eq.ensures ∙ c.if-eq.false) ∙ sym c.in-Some.ensures.was in
-    let some : find (λ (doc : Doc). nat_eq c.args.id doc.id) c.args.self.now.space ≡ Some c.in-Some.gone =
-    find-space (nat_eq c.args.id) c.self.inside.pending c.self.inside.last c.self.inside.docs c.self.inside.ids.entries c.args.self.now c.self.inside.reads c.self.invariant c.self.view_is ∙ found in
-    erased_as c.self.inside.pending c.args.id c.self.inside.last c.self.inside.reads c.self.inside.docs c.self.inside.ids.entries c.in-Some.gone.key c.remove.new.self c.self.invariant
-    (keyed-leads c.args.id c.in-Some.gone c.self.inside.pending c.self.inside.last c.self.inside.docs c.self.inside.ids.entries c.self.invariant found) c.remove.ensures.gone
-    ∙ (ap (λ (t : Store). record t { space = erase t.space c.in-Some.gone.key }) c.self.view_is
-    ∙ ap (λ (one : Option Doc). record c.args.self.now { space = erase_doc c.args.self.now.space one }) (sym some))
+    let k : IsKeyed c.args.id c.in-Some.doc.now (space_of c.self.inside.pending c.self.inside.docs) = keyed c.self.invariant c.args.id c.in-Some.doc.now (sym c.in-Some.ensures) in
+    let left : c.drop_row.new.docs ≡ remove_entry (nat_eq c.in-Some.doc.now.id) c.self.inside.docs = c.drop_row.ensures ∙ ap (λ (n : ℕ). remove_entry (nat_eq n) c.self.inside.docs) (sym k.own) in
+    let some : find (λ (doc : Doc). nat_eq c.args.id doc.id) c.args.self.now.space ≡ Some c.in-Some.doc.now = ap (λ (t : Store). find (λ (doc : Doc). nat_eq c.args.id doc.id) t.space) (sym c.self.view_is) ∙ (find-space c.self.invariant (nat_eq c.args.id) ∙ sym c.in-Some.ensures) in
+    erased_as c.self.invariant c.in-Some.doc.now.key c.in-Some.doc.now k.found c.drop_row.new.docs left c.self.inside.reads
+    ∙ (ap (λ (t : Store). record t { space = erase t.space c.in-Some.doc.now.key }) c.self.view_is ∙ by_id c.args.id c.in-Some.doc.now c.args.self.now some)
 
 pub returns-in_default : goal.returns-in_default
 returns-in_default c =
-    let same = c.remove.ensures.gone ∙ remove_none (λ (doc : Doc). doc.id) c.args.id c.self.inside.docs (sym c.in_default.ensures.was) in
-    ap (λ (rows : Rows Doc). store_of c.self.inside.pending c.self.inside.last c.self.inside.reads rows) same
-    ∙ (c.self.view_is ∙ unfound c.args.id c.args.self.now
-    (find-space (nat_eq c.args.id) c.self.inside.pending c.self.inside.last c.self.inside.docs c.self.inside.ids.entries c.args.self.now c.self.inside.reads c.self.invariant c.self.view_is
-    ∙ (lookup-live_rows c.self.inside.pending c.args.id c.self.inside.docs (sym c.eq.ensures ∙ c.if-eq.false) ∙ sym c.in_default.ensures.was)))
+    unfound c.args.id c.args.self.now (ap (λ (t : Store). find (λ (doc : Doc). nat_eq c.args.id doc.id) t.space) (sym c.self.view_is) ∙ (find-space c.self.invariant (nat_eq c.args.id) ∙ sym c.in_default.ensures))
