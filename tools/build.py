@@ -4,7 +4,8 @@
     tools/build.py NAME
 
 Each crate is begun as soon as those below it stand, those with the longest chain above them first; a kit whose `rt lib`
-locks the crates below it makes them wait for one another. What earlier runs kept is used. Says on standard error which crate of how many is done and how long it took; exits 1 where one is not proved.
+locks the crates below it makes them wait for one another. What earlier runs kept is used. Says on standard error which crate of
+how many is done and how long it took; exits 1 where one is not proved.
 """
 import os
 import pathlib

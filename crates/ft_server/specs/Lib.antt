@@ -5,6 +5,7 @@ pub mod FaultText
 pub mod Forms
 pub mod Limits
 pub mod Passes
+pub mod Prompt
 pub mod Reading
 pub mod Serving
 pub mod Session

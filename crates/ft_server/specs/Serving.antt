@@ -8,7 +8,8 @@ use Rattle.history_core.specs.Commands.{Said, replies_of, words_of}
 use Rattle.history_core.specs.declared.entry.Entry.{Entry}
 use Rattle.turn_gate.specs.Known.{Known}
 use Rattle.resp_wire.specs.Decoding.{Decoding, fed}
-use Rattle.resp_wire.specs.Stream.{Command, Stream, stream_of}
+use Rattle.resp_wire.specs.Stream.{Command, Stream, ended, stream_of}
+use Rattle.resp_wire.specs.declared.fault.Stop.TheVariants.{More}
 use Rattle.resp_wire.specs.declared.fault.WireFault.{WireFault}
 use Rattle.ft_server.specs.Callers.{Called}
 use Rattle.ft_server.specs.Ends.{Ends}
@@ -41,6 +42,16 @@ pub record Going (held : Decoding) (pass later : Known Entry) (before now : Outs
 abbrev pub LeadsOn : Result ℕ End → Decoding → Known Entry → Known Entry → Outside → Outside → Type 0
 LeadsOn (Ok count) held pass later before now = Going held pass later before now
 LeadsOn (Err how) held pass later before now = Ends (Called pass later) how before now
+
+-- A step leads from all that may have been served before on, or to an end: from what was held, seen and told to the same behind it.
+abbrev pub Leads : Decoding → Decoding → Known Entry → Known Entry → Outside → Outside → Result ℕ End → Type 0
+Leads held held' pass pass' now now' went = (first : Known Entry) (before : Outside)
+    → Going held first pass before now → LeadsOn went held' first pass' before now'
+
+-- No command is whole in what the decoder holds, and it has no fault: more is waited for.
+pub record HoldsNoCommand (held : Decoding) : Type 0 where
+  pub left : List ℕ
+  pub waits : stream_of held.left ≡ ended More left
 
 -- A reply was written: whole, and that of QUIT ends the connection; or a front of it.
 abbrev pub Sent : Result ℕ End → List (List ℕ) → List ℕ → Option (List ℕ) → Option (List ℕ) → ℕ → ℕ → Type 0

@@ -1,16 +1,13 @@
 //! One connection: each command is executed as soon as it is whole, and its reply written before the
 //! next one is.
-ghost use Rattle.std.specs.Prelude.{◌≡◌, ◌<◌, ◌≤◌, ◌+◌, ◌*◌, ◌^◌, ℕ, List, [], length, vec_capacity, IfOk};
-ghost use Rattle.history_core.specs.declared.entry.Entry.{Entry};
-ghost use Rattle.turn_gate.specs.Known.{Known};
+ghost use Rattle.std.specs.Prelude.{◌≡◌, ◌<◌, ◌≤◌, ◌+◌, ◌*◌, ◌^◌, [], length, vec_capacity, IfOk};
 ghost use Rattle.resp_wire.specs.Decoding.{fed};
-ghost use Rattle.resp_wire.specs.Stream.{ended, stream_of};
-ghost use Rattle.resp_wire.specs.declared.fault.Stop.TheVariants.{More};
 ghost use Rattle.ft_server.specs.Callers.{Called};
 ghost use Rattle.ft_server.specs.Ends.{Ends};
 ghost use Rattle.ft_server.specs.Passes.{IsOf};
-ghost use Rattle.ft_server.specs.Serving.{Going, LeadsOn};
-ghost use Rattle.ft_server.specs.Session.{AllAnswered, Outside, told};
+ghost use Rattle.ft_server.specs.Prompt.{MayBeRead};
+ghost use Rattle.ft_server.specs.Serving.{HoldsNoCommand, Leads};
+ghost use Rattle.ft_server.specs.Session.{told};
 
 use crate::input::read_more;
 use crate::replies::{answer, refuse};
@@ -70,9 +67,7 @@ pub fn serve_connection<L: Link, C: Clock, R: Wait>(
 ) -> (Pass, End)
     requires of { IsOf server.now pass }
     // The link is read only where all that came whole was answered.
-    requires prompt { (later : Known Entry) (now : L) (moment : C) → IsOf server.now later
-        → AllAnswered (Called pass later)
-        (told L.Link C.Clock link.old clock.old) (told L.Link C.Clock now moment) → L.readable now }
+    requires prompt { MayBeRead L.Link C.Clock server.now pass link.old clock.old }
 
     ensures of { IsOf server.now result.0 }
     ensures same { (result.0.caller ≡ pass.caller) × (result.0.alone ≡ pass.alone) }
@@ -114,9 +109,7 @@ fn serve<L: Link, C: Clock, R: Wait>(
         ≡ record { taken = 0; left = []; words = []; spare = 65_536 } }
     requires input { 0 < length buffers.old.input.items }
     requires reply { 64 ≤ vec_capacity buffers.old.reply }
-    requires prompt { (later : Known Entry) (now : L) (moment : C) → IsOf server.now later
-        → AllAnswered (Called pass later)
-        (told L.Link C.Clock link.old clock.old) (told L.Link C.Clock now moment) → L.readable now }
+    requires prompt { MayBeRead L.Link C.Clock server.now pass link.old clock.old }
     ensures of { IsOf server.now result.0 }
     ensures same { (result.0.caller ≡ pass.caller) × (result.0.alone ≡ pass.alone) }
     ensures ends { Ends (Called pass result.0) result.1
@@ -150,14 +143,12 @@ fn step<L: Link, C: Clock, R: Wait>(
     requires reply { 64 ≤ vec_capacity buffers.old.reply }
     requires few { total ≤ 2 ^ 40 }
     requires fed { fed buffers.old.decoder ≡ total }
-    requires turn { (left : List ℕ) → stream_of buffers.old.decoder.left ≡ ended More left
-        → total < 2 ^ 40 → L.readable link.old }
+    requires turn { HoldsNoCommand buffers.old.decoder → total < 2 ^ 40 → L.readable link.old }
     ensures of { IsOf server.now result.0 }
     ensures same { (result.0.caller ≡ pass.caller) × (result.0.alone ≡ pass.alone) }
     // From what was served before, on or to an end.
-    ensures leads { (first : Known Entry) (before : Outside)
-        → Going buffers.old.decoder first pass before (told L.Link C.Clock link.old clock.old)
-        → LeadsOn result.1 buffers.new.decoder first result.0 before (told L.Link C.Clock link.new clock.new) }
+    ensures leads { Leads buffers.old.decoder buffers.new.decoder pass result.0
+        (told L.Link C.Clock link.old clock.old) (told L.Link C.Clock link.new clock.new) result.1 }
     ensures fed { IfOk result.1 (λ count. (fed buffers.new.decoder ≡ total + count) × (total + count ≤ 2 ^ 40)) }
     ensures less { IfOk result.1 (λ count. length buffers.new.decoder.left
         < length buffers.old.decoder.left + 2 * count) }

@@ -16,3 +16,4 @@ pub mod PartLaws
 pub mod SeekLaws
 pub mod UnionLaws
 pub mod ShelfLaws
+pub mod HintLaws

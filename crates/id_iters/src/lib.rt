@@ -8,6 +8,7 @@
 mod bits;
 mod blocks;
 mod hint;
+mod hints;
 mod hit_test;
 mod iter;
 mod leaf;

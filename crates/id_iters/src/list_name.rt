@@ -1,11 +1,12 @@
 //! The names of an index's lists.
-ghost use Rattle.std.specs.Prelude.{◌≡◌, ◌≤◌, ◌↔◌, IfSome, IsTrue};
+ghost use Rattle.std.specs.Prelude.{◌≡◌, ◌≤◌, ◌↔◌, IfOk, IfSome, IsTrue};
 ghost use Rattle.std.specs.Option.{option_copied};
+ghost use Rattle.id_iters.specs.Fitting.{IsOpenAt};
 ghost use Rattle.id_iters.specs.Leaves.{word_list};
 ghost use Rattle.id_iters.specs.Places.{FitsList, IsOpened, IsOpenedIn, IsSoundIn};
 
 use crate::lists::Lists;
-use ft_base::{Bytes, Steps};
+use ft_base::{Bytes, NoMemory, Steps};
 use inverted_list::{List, Marker, Place};
 use posting_block::{Payload, TextHit};
 use std::sync::ledger::Ledger;
@@ -19,6 +20,25 @@ pub enum ListName {
 }
 
 impl ListName {
+    /// A copy of the name.
+    pub fn copy(&self) -> Result<ListName, NoMemory>
+        ensures { IfOk result (λ name. name ≡ self.now) }
+    {
+        match self {
+            ListName::Word { text } => Ok(ListName::Word {
+                text: text.clone()?,
+            }),
+            ListName::Tag { field, text } => Ok(ListName::Tag {
+                field: *field,
+                text: text.clone()?,
+            }),
+            ListName::Range { field, low } => Ok(ListName::Range {
+                field: *field,
+                low: *low,
+            }),
+        }
+    }
+
     /// A place in the list behind the ids up to `after`. A hint that is such a place is answered as it is, and costs no
     /// step.
     pub fn open_at<T: Lists, L: Ledger>(
@@ -52,9 +72,34 @@ impl ListName {
         }
     }
 
-    /// Whether a place is the one that is opened in the list behind the ids up to `after`.
+    /// The same place, looked for first where another place of the list stands and in the block before it.
+    pub fn open_near<T: Lists, L: Ledger>(
+        &self,
+        lists: &T,
+        near: Place,
+        after: u64,
+        steps: &mut Steps<L>,
+    ) -> Place
+        ensures opened { IsOpenAt (T.held lists.now) self.now after result }
+        ensures counts { steps.old ≤ steps.new }
+    {
+        match self {
+            ListName::Word { text } => open_close(lists.text(text.as_slice()), near, after, steps),
+            ListName::Tag { field, text } => {
+                open_close(lists.tag(*field, text.as_slice()), near, after, steps)
+            }
+            ListName::Range { field, low } => open_close(
+                lists.range(*field, *low),
+                near,
+                after,
+                steps,
+            ),
+        }
+    }
+
+    /// Whether a place is the one that is opened in the list behind the ids up to `after`, and sound there.
     pub fn is_open_at<T: Lists>(&self, lists: &T, place: Place, after: u64) -> bool
-        ensures { IsTrue result ↔ IsOpened (T.held lists.now) self.now after place }
+        ensures { IsTrue result ↔ IsOpenAt (T.held lists.now) self.now after place }
     {
         match self {
             ListName::Word { text } => is_open_in(lists.text(text.as_slice()), place, after),
@@ -94,21 +139,52 @@ fn open_in<P: Payload, L: Ledger>(
 {
     match list {
         Some(list) => list.open_at(hint, after, steps),
-        None => Place {
-            marker: Marker { event: 0, nth: 0 },
-            block: 0,
-            last: after,
-        },
+        None => first(after),
     }
 }
 
-// Whether a place is the one that is opened in the list, where there is one, behind the ids up to `after`.
-fn is_open_in<P: Payload>(list: Option<&List<P>>, place: Place, after: u64) -> bool
-    ensures { IsTrue result ↔ IsOpenedIn (option_copied list.entry) after place }
+// The same, looked for first where another place of the list stands and in the block before it.
+fn open_close<P: Payload, L: Ledger>(
+    list: Option<&List<P>>,
+    near: Place,
+    after: u64,
+    steps: &mut Steps<L>,
+) -> Place
+    ensures sound { IsSoundIn (option_copied list.entry) result }
+    ensures opened { IsOpenedIn (option_copied list.entry) after result }
+    ensures counts { steps.old ≤ steps.new }
 {
     match list {
-        Some(list) => list.marker() == place.marker && place.last == after,
+        Some(list) => list.open_near(near, after, steps),
+        None => first(after),
+    }
+}
+
+// Whether a place is the one that is opened in the list, where there is one, behind the ids up to `after`, and sound there.
+fn is_open_in<P: Payload>(list: Option<&List<P>>, place: Place, after: u64) -> bool
+    ensures { IsTrue result ↔ (IsSoundIn (option_copied list.entry) place
+        × IsOpenedIn (option_copied list.entry) after place) }
+{
+    match list {
+        Some(list) => {
+            list.marker() == place.marker && place.last == after && list.is_sound(place)
+        }
         None => is_first(place, after),
+    }
+}
+
+// The first place of all.
+fn first(after: u64) -> Place
+    ensures { result ≡ record {
+      marker = record { event = 0; nth = 0 };
+      block = 0;
+      last = after;
+    } }
+{
+    Place {
+        marker: Marker { event: 0, nth: 0 },
+        block: 0,
+        last: after,
     }
 }
 

@@ -128,7 +128,7 @@ fn rows_in<L: Ledger>(
     ensures store { HandsOut store.old store.new }
 {
     let mut counter = Steps::<L>::new(blank);
-    let iter = ids_found(store, index, alloc, query, 0, &mut counter)?;
+    let iter = ids_found(store, index, alloc, query, &mut counter)?;
     let made = aggregate_reply(
         alloc,
         index.def(),

@@ -88,7 +88,7 @@ fn all_rows<L: Ledger>(
     ensures store { HandsOut store.old store.new }
 {
     let mut counter = Steps::<L>::new(blank);
-    let mut iter = ids_found(store, index, alloc, query, 0, &mut counter)?;
+    let mut iter = ids_found(store, index, alloc, query, &mut counter)?;
     let rows = found_rows(
         alloc,
         index.def(),

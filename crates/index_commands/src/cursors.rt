@@ -10,7 +10,7 @@ use crate::part::tell_part;
 use cursor_book::{Cursor, CursorBook};
 use ft_index::FtIndex;
 use hash_store::HashStore;
-use indexed_store::{Change, CursorPlace, IndexedStore, index_named};
+use indexed_store::{Change, CursorPlace, IndexedStore, KeptPlaces, index_named};
 use reply_buffer::ReplyBuffer;
 use std::alloc::Global;
 
@@ -31,6 +31,7 @@ pub fn read_cursor<'a>(
 {
     read_in(
         &mut held.store,
+        &mut held.places,
         held.indexes.as_slice(),
         &held.cursors,
         held.alloc,
@@ -44,6 +45,7 @@ pub fn read_cursor<'a>(
 /// The same over the documents, the indexes and the cursors by themselves.
 fn read_in<'a>(
     store: &mut HashStore,
+    places: &mut KeptPlaces,
     indexes: &[FtIndex],
     cursors: &CursorBook,
     alloc: Global,
@@ -64,7 +66,7 @@ fn read_in<'a>(
         return Change::Nothing;
     };
     match cursors.find(index.def().serial, id) {
-        Some(cursor) => read_next(store, index, alloc, cursor, count, reply),
+        Some(cursor) => read_next(store, places, index, alloc, cursor, count, reply),
         None => {
             reply.set_fault(b"Cursor not found");
             Change::Nothing
@@ -75,6 +77,7 @@ fn read_in<'a>(
 /// Reads a cursor of an index.
 fn read_next<'a>(
     store: &mut HashStore,
+    places: &mut KeptPlaces,
     index: &FtIndex,
     alloc: Global,
     cursor: &Cursor,
@@ -88,7 +91,17 @@ fn read_next<'a>(
     ensures room { reply.old.room ≤ reply.new.room }
 {
     let count = count.unwrap_or(cursor.count);
-    let Some(told) = tell_part(store, index, alloc, &cursor.body, count, cursor.id, reply) else {
+    let told = tell_part(
+        store,
+        places,
+        index,
+        alloc,
+        &cursor.body,
+        count,
+        cursor.id,
+        reply,
+    );
+    let Some(told) = told else {
         return Change::Nothing;
     };
     let place = CursorPlace {

@@ -15,7 +15,7 @@ use cursor_book::{Body, Cursor};
 use ft_base::Query;
 use ft_index::FtIndex;
 use hash_store::HashStore;
-use indexed_store::{Change, IndexedStore, index_named};
+use indexed_store::{Change, IndexedStore, KeptPlaces, index_named};
 use query_parse::parse;
 use reply_buffer::ReplyBuffer;
 use std::alloc::Global;
@@ -48,6 +48,7 @@ pub fn open_cursor<'a>(
     let number = held.next;
     let first = read_first(
         &mut held.store,
+        &mut held.places,
         held.indexes.as_slice(),
         held.alloc,
         asked,
@@ -105,6 +106,7 @@ fn is_full(count: usize) -> bool
 /// The first read in the event of a number: it writes the reply, and answers what is left, if the cursor does not end.
 fn read_first(
     store: &mut HashStore,
+    places: &mut KeptPlaces,
     indexes: &[FtIndex],
     alloc: Global,
     asked: AggregateSpec<'_>,
@@ -128,6 +130,7 @@ fn read_first(
     match parse(alloc, asked.query, index.def(), &asked.params) {
         Ok(query) => read_new(
             store,
+            places,
             index,
             alloc,
             query,
@@ -147,6 +150,7 @@ fn read_first(
 /// The same of a query, in its index.
 fn read_new(
     store: &mut HashStore,
+    places: &mut KeptPlaces,
     index: &FtIndex,
     alloc: Global,
     query: Query,
@@ -163,7 +167,7 @@ fn read_new(
     ensures room { reply.old.room ≤ reply.new.room }
 {
     match new_body(store, index, alloc, query, asked) {
-        Ok(body) => read_of(store, index, alloc, body, count, number, reply),
+        Ok(body) => read_of(store, places, index, alloc, body, count, number, reply),
         Err(_) => {
             reply.set_no_memory();
             None
@@ -174,6 +178,7 @@ fn read_new(
 /// The first read of a body.
 fn read_of(
     store: &mut HashStore,
+    places: &mut KeptPlaces,
     index: &FtIndex,
     alloc: Global,
     body: Body,
@@ -187,7 +192,7 @@ fn read_of(
     ensures store { HandsOut store.old store.new }
     ensures room { reply.old.room ≤ reply.new.room }
 {
-    match tell_part(store, index, alloc, &body, count, number, reply) {
+    match tell_part(store, places, index, alloc, &body, count, number, reply) {
         Some(told) => left_behind(index.def().serial, body, told),
         None => {
             drop(body);

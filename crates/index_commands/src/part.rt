@@ -8,12 +8,14 @@ ghost use Rattle.ft_meaning.specs.Holds.{found_of};
 ghost use Rattle.index_commands.specs.Parts.{IsRead, IsTold};
 ghost use Rattle.index_commands.specs.Reading.{HandsOut, IsReadable};
 
-use crate::ids::ids_found;
+use crate::ids::ids_behind;
 use agg_pipeline::StreamSteps;
 use cursor_book::{Body, RowsLeft, Taken};
 use ft_base::{ListOf, NoMemory, Query, Reply, Steps};
 use ft_index::FtIndex;
 use hash_store::HashStore;
+use id_iters::Hints;
+use indexed_store::KeptPlaces;
 use reply_buffer::ReplyBuffer;
 use search_exec::{StreamRead, lent_rows_reply, read_stream, rows_reply};
 use std::alloc::Global;
@@ -31,13 +33,16 @@ pub struct PartRead {
     pub ends: bool,
 }
 
-/// Reads so many rows of a cursor's body.
+/// Reads so many rows of the body of the cursor with an id. Of a stream `places` may have where its lists were left, and gets
+/// where they are left now.
 fn read_body(
     store: &mut HashStore,
+    places: &mut KeptPlaces,
     index: &FtIndex,
     alloc: Global,
     body: &Body,
     count: u32,
+    id: u64,
 ) -> Result<PartRead, NoMemory>
     requires readable { IsReadable index.now store.old.space }
     ensures read { IfOk result (λ read. IsRead (part_of index.now.def store.old.space count body.now) read) }
@@ -49,7 +54,7 @@ fn read_body(
             query,
             steps,
             after,
-        } => read_found(store, index, alloc, query, steps, *after, count),
+        } => read_found(store, places, index, alloc, query, steps, *after, count, id),
     }
 }
 
@@ -69,31 +74,45 @@ fn read_rows(alloc: Global, left: &RowsLeft, count: u32) -> Result<PartRead, NoM
 /// The rows of the next documents that a query finds.
 fn read_found(
     store: &mut HashStore,
+    places: &mut KeptPlaces,
     index: &FtIndex,
     alloc: Global,
     query: &Query,
     steps: &StreamSteps,
     after: u64,
     count: u32,
+    id: u64,
 ) -> Result<PartRead, NoMemory>
     requires readable { IsReadable index.now store.old.space }
     ensures read { IfOk result (λ read. IsRead (stream_part index.now.def steps.now after count
         (stream_taken index.now.def steps.now after count (found_of query.now index.now.def store.old.space))) read) }
     ensures store { HandsOut store.old store.new }
 {
+    let hints = places.take(id);
     let blank = Blank::new(1);
-    let read = next_rows::<Brand>(store, index, alloc, query, steps, after, count, blank)?;
-    replied(alloc, read, count)
+    let read = next_rows::<Brand>(
+        store, index, alloc, query, steps, &hints, after, count, blank,
+    );
+    drop(hints);
+    replied(places, alloc, read?, count, id)
 }
 
-/// The next rows as they are replied, and what they take.
-fn replied(alloc: Global, read: StreamRead, count: u32) -> Result<PartRead, NoMemory>
+/// The next rows as they are replied, and what they take. Where the lists are left is kept.
+fn replied(
+    places: &mut KeptPlaces,
+    alloc: Global,
+    read: StreamRead,
+    count: u32,
+    id: u64,
+) -> Result<PartRead, NoMemory>
     ensures { IfOk result (λ made. IsRead (part count read.rows.items (taken.UpTo read.after)) made) }
 {
-    let ends = read.rows.len() < count as usize;
+    let StreamRead { rows, after, hints } = read;
+    places.keep(id, hints);
+    let ends = rows.len() < count as usize;
     Ok(PartRead {
-        rows: rows_reply(alloc, read.rows)?,
-        taken: Taken::UpTo(read.after),
+        rows: rows_reply(alloc, rows)?,
+        taken: Taken::UpTo(after),
         ends,
     })
 }
@@ -105,6 +124,7 @@ fn next_rows<L: Ledger>(
     alloc: Global,
     query: &Query,
     steps: &StreamSteps,
+    hints: &Hints,
     after: u64,
     count: u32,
     blank: Blank,
@@ -120,7 +140,7 @@ fn next_rows<L: Ledger>(
     ensures store { HandsOut store.old store.new }
 {
     let mut counter = Steps::<L>::new(blank);
-    let iter = ids_found(store, index, alloc, query, after, &mut counter)?;
+    let iter = ids_behind(store, index, alloc, query, hints, after, &mut counter)?;
     let read = read_stream(
         alloc,
         index.def(),
@@ -146,6 +166,7 @@ pub struct PartTold {
 /// Reads so many rows of a cursor's body, and writes them with the cursor's id. None where memory runs out.
 pub fn tell_part(
     store: &mut HashStore,
+    places: &mut KeptPlaces,
     index: &FtIndex,
     alloc: Global,
     body: &Body,
@@ -159,7 +180,7 @@ pub fn tell_part(
     ensures store { HandsOut store.old store.new }
     ensures room { reply.old.room ≤ reply.new.room }
 {
-    match read_body(store, index, alloc, body, count) {
+    match read_body(store, places, index, alloc, body, count, id) {
         Ok(read) => write_part(alloc, read, id, reply),
         Err(_) => {
             reply.set_no_memory();

@@ -131,7 +131,7 @@ fn found_in<L: Ledger>(
     ensures store { HandsOut store.old store.new }
 {
     let mut steps = Steps::<L>::new(blank);
-    let iter = ids_found(store, index, alloc, query, 0, &mut steps)?;
+    let iter = ids_found(store, index, alloc, query, &mut steps)?;
     let found = search_reply(alloc, index.def(), index, store, iter, search, &mut steps);
     drop(steps);
     found

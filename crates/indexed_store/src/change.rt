@@ -1,7 +1,7 @@
 //! What a prepared command changes once it is committed.
 use crate::waiting::CursorPlace;
 use cursor_book::Taken;
-use ft_base::Words;
+use ft_base::{Boxed, Words};
 use ft_index::FtIndex;
 use hash_store::ReadyPut;
 
@@ -20,10 +20,10 @@ pub enum Change<'a> {
     EraseKey(&'a [u8]),
     /// The documents of these keys are gone.
     EraseKeys(Words<'a>),
-    /// The index goes last.
-    Create(FtIndex),
+    /// The index goes last. (It is large, and each command makes a change and hands it on.)
+    Create(Boxed<FtIndex>),
     /// The index takes the place of the one of its name.
-    Alter(FtIndex),
+    Alter(Boxed<FtIndex>),
     /// The index of this name is gone, and its cursors.
     Drop(&'a [u8]),
     /// The same, and the documents that are its members.

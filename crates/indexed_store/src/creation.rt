@@ -9,7 +9,7 @@ ghost use Rattle.indexed_store.specs.Standing.{AreOfEvent, AreWritten, IndexStan
 
 use crate::filling::fill;
 use crate::held::IndexedStore;
-use ft_base::{IndexDef, NoMemory};
+use ft_base::{Boxed, IndexDef, NoMemory};
 use ft_index::FtIndex;
 use hash_store::HashStore;
 use inverted_list::Markers;
@@ -18,7 +18,7 @@ use std::alloc::Global;
 impl IndexedStore {
     /// An index of this event that has tried each document, and whose count of failures goes on from
     /// the one that is given.
-    pub fn index_over(&mut self, def: IndexDef, failures: u64) -> Result<FtIndex, NoMemory>
+    pub fn index_over(&mut self, def: IndexDef, failures: u64) -> Result<Boxed<FtIndex>, NoMemory>
         requires number { HasNumber self.old }
         requires fields { length def.fields ≤ 1_024 }
         requires counted { failures ≤ most_failures }
@@ -29,7 +29,7 @@ impl IndexedStore {
         let number = self.next;
         self.next += 1;
         let index = index_over(self.alloc, &mut self.store, number, def, failures)?;
-        Ok(index)
+        Boxed::new(self.alloc, index)
     }
 }
 

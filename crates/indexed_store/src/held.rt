@@ -10,6 +10,7 @@ ghost use Rattle.indexed_store.specs.declared.change.Change.TheVariants.{Nothing
 
 use crate::change::{Change, MOST_INDEXES};
 use crate::counting::MOST_COUNTED;
+use crate::kept_places::KeptPlaces;
 use crate::making::make;
 use crate::waiting::{CursorPlace, let_go};
 use crate::writes::prepare_hash;
@@ -41,6 +42,8 @@ pub struct IndexedStore {
     pub ids: Vec<u64>,
     /// A number above those of all documents, markers and cursors.
     pub next: u64,
+    /// Where reads of cursors have come to. No contract sees them.
+    pub places: KeptPlaces,
 }
 
 impl Model for IndexedStore {
@@ -73,6 +76,7 @@ impl IndexedStore {
             latest: 0,
             ids,
             next: 1,
+            places: KeptPlaces::new(alloc),
         })
     }
 

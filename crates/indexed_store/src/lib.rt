@@ -18,6 +18,7 @@ mod filling;
 mod held;
 mod index_list;
 mod indexes;
+mod kept_places;
 mod keys;
 mod listings;
 mod making;
@@ -38,6 +39,8 @@ pub use creation::index_over;
 pub use dropping::{drop_index, drop_members};
 /// The documents and the indexes over them as one value.
 pub use held::IndexedStore;
+/// Where reads of cursors have come to.
+pub use kept_places::KeptPlaces;
 /// The list of indexes.
 pub use index_list::{index_named, push_index, replace_index};
 /// What was prepared is made.

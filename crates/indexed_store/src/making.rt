@@ -49,8 +49,8 @@ pub fn make(
             remove(store, indexes.as_mut_slice(), key);
         }
         Change::EraseKeys(keys) => remove_all(store, indexes.as_mut_slice(), &keys),
-        Change::Create(index) => push_index(indexes, index),
-        Change::Alter(index) => replace_index(indexes.as_mut_slice(), index),
+        Change::Create(index) => push_index(indexes, index.into_inner()),
+        Change::Alter(index) => replace_index(indexes.as_mut_slice(), index.into_inner()),
         Change::Drop(name) => {
             drop_cursors(indexes.as_slice(), cursors, name);
             drop_index(indexes, name);

@@ -1,8 +1,8 @@
 -- How far an id reaches into blocks, by their last ids.
-use Rattle.std.proofs.Common.{◌≡◌, ℕ, zero, suc, ◌+◌, ◌-◌, ◌*◌, ◌/◌, ◌<◌, ◌≤◌, inl, inr, List, [], ◌∷◌, ◌++◌, length, get_or, take, drop, ltb, true, false, ltb-true, ltb-false, refl, ap, sym, ◌∙◌, subst, arith, append_assoc}
+use Rattle.std.proofs.Common.{◌≡◌, ℕ, zero, suc, ◌+◌, ◌-◌, ◌*◌, ◌/◌, ◌<◌, ◌≤◌, inl, inr, List, [], ◌∷◌, ◌++◌, length, get_or, take, drop, ltb, leb, ◌↔◌, IsTrue, true, false, ltb-true, ltb-false, refl, ap, sym, ◌∙◌, subst, arith, append_assoc}
 use Rattle.std.proofs.Math.Seq.{drop-append-add}
 use Rattle.std.proofs.lemmas.List.{get_or-map, get_or_default, length-map, take_all, take_at}
-use Rattle.std.proofs.lemmas.Bool.{lt-ltb}
+use Rattle.std.proofs.lemmas.Bool.{le-leb, leb-true, lt-ltb}
 use Rattle.std.specs.List.Sorted.{IsPartitionedBy, IsPartitionPoint}
 use Rattle.std.proofs.lemmas.List.Elements.{All-head, All-tail}
 use Rattle.std.specs.List.{All}
@@ -38,6 +38,17 @@ module _ {P : Type 0} where
 
   pub reach_blocks : (after : ℕ) (bs : List (List (ℕ × P))) → reach after (by_last bs) ≤ length bs
   reach_blocks after bs = omega (arith, reach_fits after (by_last bs), length_by_last bs)
+
+  -- a block's last id tells whether it and those before it are reached
+  pub told : (after top k : ℕ) (bs : List (List (ℕ × P))) → 0 < k → (top ≤ after → k - 1 + 1 ≤ reach after (by_last bs)) → (after < top → reach after (by_last bs) ≤ k - 1)
+      → IsTrue (leb top after) ↔ (k ≤ reach after (by_last bs))
+  told after top k bs some over under = (
+    λ low. omega (arith, over (leb-true top after low)),
+    λ reached. elim (le_or_lt top after) [
+      | inl h ↦ le-leb top after h
+      | inr h ↦ absurd (omega (arith, under h, reached, some))
+    ],
+  )
 
   -- the ids of blocks part at a number
   pub parted_below : (id : ℕ) (bs : List (List (ℕ × P))) → 0 < id → RisesAbove 0 (by_last bs) → IsPartitionedBy (λ b. ltb (last_id 0 b) id) bs

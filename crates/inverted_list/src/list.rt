@@ -2,13 +2,13 @@
 //!
 //! Each hundred entries are sealed in a block that is shared and no longer changes; the rest is in the tail, to which the
 //! next entry goes. A reader passes over blocks by their last ids, and decodes only the one that it stops in.
-ghost use Rattle.std.specs.Prelude.{◌≡◌, ◌<◌, ◌≤◌, ◌+◌, ◌-◌, ◌*◌, ◌/◌, ◌^◌, [], IfOk, IfSome, IsSome, OnOk, OnErr, Some, length, unwrap_or};
+ghost use Rattle.std.specs.Prelude.{◌≡◌, ◌<◌, ◌≤◌, ◌+◌, ◌-◌, ◌*◌, ◌/◌, ◌^◌, ◌↔◌, [], IfOk, IfSome, IsSome, IsTrue, OnOk, OnErr, Some, length, unwrap_or};
 ghost use Rattle.std.specs.Option.{option_copied};
 ghost use Rattle.inverted_list.specs.Blocks.{Sound, listing};
 ghost use Rattle.inverted_list.specs.Listing.{Listing, RisesAbove, last_id, with_entry, hit_of};
 ghost use Rattle.inverted_list.specs.Places.{IsSound, Fits, KeepsPlaces, between, least, reach, block_from, behind};
 
-use crate::block_search::{block_behind, blocks_below, blocks_from, blocks_in};
+use crate::block_search::{block_behind, blocks_below, blocks_from, blocks_in, is_behind};
 use crate::growth::{put_last, share};
 use crate::marker::Marker;
 use crate::picture::{Picture, empty};
@@ -103,6 +103,41 @@ impl<P: Payload> List<P> {
             block: blocks_in::<P, L>(blocks, all, after, steps),
             last: after,
         }
+    }
+
+    /// The same place, looked for first where another place of the list stands and in the block before it: where a reader
+    /// that has read a block ahead was. That one need not be sound. A step is a block of the others whose last id is looked at.
+    pub fn open_near<L: Ledger>(&self, near: Place, after: u64, steps: &mut Steps<L>) -> Place
+        ensures marker { result.marker ≡ self.now.marker }
+        ensures last { result.last ≡ after }
+        ensures sound { IsSound result self.now }
+        ensures counts { steps.old ≤ steps.new }
+    {
+        let here = Place {
+            marker: self.parts.marker,
+            block: near.block,
+            last: after,
+        };
+        if self.is_sound(here) {
+            return here;
+        }
+        let before = Place {
+            marker: self.parts.marker,
+            block: near.block.saturating_sub(1),
+            last: after,
+        };
+        if self.is_sound(before) {
+            return before;
+        }
+        self.open_at(None, after, steps)
+    }
+
+    /// Whether a place is sound: one of another marker, or it stands where it says. Two blocks' last ids are looked at.
+    pub fn is_sound(&self, place: Place) -> bool
+        ensures { IsTrue result ↔ IsSound place self.now }
+    {
+        place.marker != self.parts.marker
+            || is_behind::<P>(self.parts.sealed.as_slice(), place.block, place.last)
     }
 
     /// The block of the first entry with an id from `from` on, lent. The place then stands behind that block. A step is a

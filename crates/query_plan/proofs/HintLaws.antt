@@ -5,15 +5,15 @@ use Rattle.std.proofs.lemmas.List.Elements.{All-contains, All-from_recursion, re
 use Rattle.inverted_list.specs.Listing.{Listing}
 use Rattle.inverted_list.specs.Places.{reach}
 use Rattle.inverted_list.specs.declared.place.Place.{Place}
-use Rattle.id_iters.specs.Fitting.{FitsLeaf, HasFitting, IsOpenAt, IsPlaced}
+use Rattle.id_iters.specs.Fitting.{HasFitting, IsOpenAt, IsPlaced}
 use Rattle.id_iters.specs.Held.{Held}
-use Rattle.id_iters.specs.Places.{FitsList, IsOpened, IsOpenedIn, IsSoundIn}
+use Rattle.id_iters.specs.Places.{IsOpenedIn, IsSoundIn}
 use Rattle.id_iters.specs.declared.hint.Hint.{Hint}
 use Rattle.id_iters.specs.declared.leaf.Leaf.{Leaf}
 use Rattle.id_iters.specs.declared.list_name.ListName.{ListName}
 use Rattle.id_iters.specs.declared.list_name.ListName.TheVariants as names
 use Rattle.query_plan.specs.Known.{KnowsAll}
-use Rattle.query_plan.specs.Plans.{AllKnown, AllOpen, HintsFit}
+use Rattle.query_plan.specs.Plans.{AllKnown, AllOpen}
 
 -- ---- a list has one place that is opened behind an id
 
@@ -35,27 +35,22 @@ alike held (names.Range field low) after a b one other = alike_in (held.ranges f
 -- ---- each leaf
 
 module _ (held : Held) (after : ℕ) (hints : List Hint) where
-  placed : HintsFit held hints → (leaf : Leaf) → IsOpenAt held leaf.list after leaf.place → IsPlaced held after hints leaf
-  placed fit leaf opened = record { opened = opened; hinted = λ k d inside fits. same (slice_index_or hints k d) (fit k d inside) fits }
-    where
-      same : (hint : Hint) → FitsList held hint.list hint.place → FitsLeaf held after leaf hint → leaf.place ≡ hint.place
-      same hint sound fits =
-          alike held leaf.list after leaf.place hint.place opened
-          (record { sound = subst (λ (name : ListName). FitsList held name hint.place) fits.list sound; opened = fits.opened })
+  placed : (leaf : Leaf) → IsOpenAt held leaf.list after leaf.place → IsPlaced held after hints leaf
+  placed leaf opened = record { opened = opened; hinted = λ k d inside fits. alike held leaf.list after leaf.place (slice_index_or hints k d).place opened fits.place }
 
-  each_placed : HintsFit held hints → (leaves : List Leaf) → AllOpen held after leaves → AllByRecursion (IsPlaced held after hints) leaves
-  each_placed fit [] all = tt
-  each_placed fit (leaf ∷ leaves) all = (placed fit leaf all.0, each_placed fit leaves all.1)
+  each_placed : (leaves : List Leaf) → AllOpen held after leaves → AllByRecursion (IsPlaced held after hints) leaves
+  each_placed [] all = tt
+  each_placed (leaf ∷ leaves) all = (placed leaf all.0, each_placed leaves all.1)
 
-  pub all_placed : HintsFit held hints → (leaves : List Leaf) → AllOpen held after leaves → All (IsPlaced held after hints) leaves
-  all_placed fit leaves all = All-from_recursion (IsPlaced held after hints) leaves (each_placed fit leaves all)
+  pub all_placed : (leaves : List Leaf) → AllOpen held after leaves → All (IsPlaced held after hints) leaves
+  all_placed leaves all = All-from_recursion (IsPlaced held after hints) leaves (each_placed leaves all)
 
   module _ (known : ListName → Option Place) (knows : KnowsAll held after known hints) where
     one_known : (leaf : Leaf) → HasFitting held after hints leaf → IsSome (known leaf.list)
     one_known leaf found =
-        let opens = subst (λ (name : ListName). IsOpened held name after found.hint.place) (sym found.fits.list) found.fits.opened in
+        let opens = subst (λ (name : ListName). IsOpenAt held name after found.hint.place) (sym found.fits.list) found.fits.place in
         subst (λ (name : ListName). IsSome (known name)) found.fits.list
-        (All-contains (λ (hint : Hint). IsOpened held hint.list after hint.place → IsSome (known hint.list)) hints found.hint knows found.among opens)
+        (All-contains (λ (hint : Hint). IsOpenAt held hint.list after hint.place → IsSome (known hint.list)) hints found.hint knows found.among opens)
 
     each_known : (leaves : List Leaf) → AllByRecursion (HasFitting held after hints) leaves → AllKnown known leaves
     each_known [] all = tt

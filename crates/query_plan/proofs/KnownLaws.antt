@@ -15,7 +15,6 @@ use Rattle.std.specs.declared.cmp.Ordering.{Ordering}
 use Rattle.std.specs.declared.cmp.Ordering.TheVariants.{Equal, Less, Greater}
 use Rattle.id_iters.specs.Fitting.{IsOpenAt}
 use Rattle.id_iters.specs.Held.{Held}
-use Rattle.id_iters.specs.Places.{IsOpened}
 use Rattle.id_iters.specs.declared.hint.Hint.{Hint}
 use Rattle.query_plan.specs.Known.{Adds, KnownFit, KnowsAll, Group, group_cmp, group_of, place_at, place_of, text_of}
 use Rattle.id_iters.specs.declared.list_name.ListName.{ListName}
@@ -148,9 +147,9 @@ module _ (old new : ListName → Option Place) (list : ListName) (place : Place)
   now_known = subst IsSome (sym adds.here) (there_is place)
 
 pub knows_more : (held : Held) (after : ℕ) (old new : ListName → Option Place) (hints : List Hint) (i : ℕ) (hint : Hint) → i < length hints → hint ≡ slice_index_or hints i hint
-    → ((list : ListName) → IsSome (old list) → IsSome (new list)) → (IsOpened held hint.list after hint.place → IsSome (new hint.list))
+    → ((list : ListName) → IsSome (old list) → IsSome (new list)) → (IsOpenAt held hint.list after hint.place → IsSome (new hint.list))
     → KnowsAll held after old (take i hints) → KnowsAll held after new (take (i + 1) hints)
 knows_more held after old new hints i hint within is kept here all =
-    All-more (λ (h : Hint). IsOpened held h.list after h.place → IsSome (new h.list)) hints i hint within
+    All-more (λ (h : Hint). IsOpenAt held h.list after h.place → IsSome (new h.list)) hints i hint within
     (λ k d inside opened. kept _ (all k d inside opened))
-    (subst (λ (h : Hint). IsOpened held h.list after h.place → IsSome (new h.list)) is here)
+    (subst (λ (h : Hint). IsOpenAt held h.list after h.place → IsSome (new h.list)) is here)

@@ -8,7 +8,6 @@ use Rattle.std.specs.declared.cmp.Ordering.{Ordering}
 use denote.Ref.{Bor}
 use Rattle.id_iters.specs.Fitting.{IsOpenAt}
 use Rattle.id_iters.specs.Held.{Held}
-use Rattle.id_iters.specs.Places.{IsOpened}
 use Rattle.id_iters.specs.declared.hint.Hint.{Hint}
 use Rattle.id_iters.specs.declared.list_name.ListName.{ListName}
 use Rattle.id_iters.specs.declared.list_name.ListName.TheVariants as names
@@ -51,7 +50,7 @@ pub record Adds (old new : ListName → Option Place) (list : ListName) (place :
 abbrev pub KnownFit : Held → ℕ → (ListName → Option Place) → Type 0
 KnownFit held after known = (list : ListName) (place : Place) → known list ≡ Some place → IsOpenAt held list after place
 
--- a place is known in the list of each hint that is opened there behind the ids up to `after`
+-- a place is known in the list of each hint that is opened there behind the ids up to `after`, and sound
 abbrev pub KnowsAll : Held → ℕ → (ListName → Option Place) → List Hint → Type 0
 KnowsAll held after known hints =
-    All (λ (hint : Hint). IsOpened held hint.list after hint.place → IsSome (known hint.list)) hints
+    All (λ (hint : Hint). IsOpenAt held hint.list after hint.place → IsSome (known hint.list)) hints

@@ -1,6 +1,6 @@
 -- What a planned part tells of the documents of an index.
 use Rattle.std.specs.Prelude.{◌≡◌, ◌⊎◌, ℕ, ℤ, List, [], ◌∷◌, map, Bool, IsSome, Option, Result, Ok, ◌++◌}
-use Rattle.std.specs.List.{All, AllByRecursion, list_any}
+use Rattle.std.specs.List.{AllByRecursion, list_any}
 use Rattle.ft_base.specs.declared.definition.IndexDef.{IndexDef}
 use Rattle.ft_base.specs.Docs.{Doc}
 use Rattle.ft_base.specs.declared.query.Fields.{Fields}
@@ -10,10 +10,8 @@ use Rattle.id_iters.specs.Fitting.{IsOpenAt, leaves_of}
 use Rattle.id_iters.specs.Held.{Held}
 use Rattle.id_iters.specs.Leaves.{list_has}
 use Rattle.id_iters.specs.Named.{Named}
-use Rattle.id_iters.specs.Places.{FitsList}
 use Rattle.id_iters.specs.Ready.{Ready}
 use Rattle.id_iters.specs.Sets.{about}
-use Rattle.id_iters.specs.declared.hint.Hint.{Hint}
 use Rattle.id_iters.specs.declared.leaf.Leaf.{Leaf}
 use Rattle.id_iters.specs.declared.list_name.ListName.{ListName}
 use Rattle.inverted_list.specs.declared.place.Place.{Place}
@@ -85,7 +83,3 @@ pub record Gains {X E : Type 0} (made : Result X E) (old new : List X) : Type 0 
 -- whether some list of these names has an id
 abbrev pub some_has : Held → List ListName → Fields → ℤ → ℤ → ℕ → Bool
 some_has held names looked low high id = list_any (λ name. list_has held name looked low high id) names
-
--- each hint is a place in its list
-abbrev pub HintsFit : Held → List Hint → Type 0
-HintsFit held hints = All (λ (hint : Hint). FitsList held hint.list hint.place) hints

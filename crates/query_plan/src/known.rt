@@ -1,9 +1,8 @@
 //! Places that a reader knows, by the names of their lists.
 ghost use Rattle.std.specs.Prelude.{◌≡◌, IfOk, IsSome, OnOk};
-ghost use Rattle.id_iters.specs.Places.{FitsList, IsOpened};
+ghost use Rattle.id_iters.specs.Fitting.{IsOpenAt};
 ghost use Rattle.id_iters.specs.declared.list_name.ListName.{ListName as Name};
 ghost use Rattle.query_plan.specs.Known.{Adds, KnownFit, KnowsAll, group_of, place_of, text_of};
-ghost use Rattle.query_plan.specs.Plans.{HintsFit};
 
 use ft_base::NoMemory;
 use id_iters::{Hint, ListName, Lists};
@@ -17,15 +16,14 @@ pub type Group = (u8, u16, i64);
 /// The places that are known in lists, by the texts of the lists' names in each group.
 pub type Known<'h> = BTreeMap<Group, BTreeMap<&'h [u8], Place>>;
 
-/// The places of the hints that fit: they are opened in their lists behind the ids up to `after`. Where there are no
-/// hints no memory is taken.
+/// The places of the hints that fit: they are opened in their lists behind the ids up to `after`, and sound. Where there are
+/// no hints no memory is taken.
 pub fn known_places<'h, T: Lists>(
     alloc: Global,
     lists: &T,
     hints: &'h [Hint],
     after: u64,
 ) -> Result<Known<'h>, NoMemory>
-    requires { HintsFit (T.held lists.now) hints.now }
     ensures fit { IfOk result (λ known. KnownFit (T.held lists.now) after (place_of known)) }
     ensures all { IfOk result (λ known. KnowsAll (T.held lists.now) after (place_of known) hints.now) }
 {
@@ -44,10 +42,9 @@ fn add_hint<'h, T: Lists>(
     hint: &'h Hint,
     after: u64,
 ) -> Result<(), NoMemory>
-    requires { FitsList (T.held lists.now) hint.now.list hint.now.place }
     ensures fit { OnOk result (KnownFit (T.held lists.now) after (place_of known.old)
         → KnownFit (T.held lists.now) after (place_of known.new)) }
-    ensures here { OnOk result (IsOpened (T.held lists.now) hint.now.list after hint.now.place
+    ensures here { OnOk result (IsOpenAt (T.held lists.now) hint.now.list after hint.now.place
         → IsSome (place_of known.new hint.now.list)) }
     ensures kept { OnOk result ((list : Name)
         → IsSome (place_of known.old list) → IsSome (place_of known.new list)) }

@@ -6,7 +6,6 @@ ghost use Rattle.id_iters.specs.Held.{AreLists};
 ghost use Rattle.id_iters.specs.Ready.{Ready};
 ghost use Rattle.id_iters.specs.Sets.{in_set};
 ghost use Rattle.query_plan.specs.Finds.{AreOf, finds};
-ghost use Rattle.query_plan.specs.Plans.{HintsFit};
 
 use crate::known::known_places;
 use crate::query_tree::plan_part;
@@ -17,8 +16,8 @@ use std::alloc::Global;
 use std::sync::ledger::Ledger;
 
 /// The iterator of the ids above `after` of the documents that meet the query, and of no others. A leaf stands at the
-/// place of each hint that fits it; where each leaf has one, no list is searched. Which hints there are makes no
-/// difference to the ids.
+/// place of each hint that fits it; where each leaf has one, no list is searched. Any hints may be given, those too whose
+/// lists have changed or are gone: which ones there are makes no difference to the ids.
 pub fn plan<T: Lists, L: Ledger>(
     alloc: Global,
     def: &IndexDef,
@@ -28,7 +27,6 @@ pub fn plan<T: Lists, L: Ledger>(
     after: u64,
     steps: &mut Steps<L>,
 ) -> Result<Iter, NoMemory>
-    requires hints { HintsFit (T.held lists.now) hints.now.0 }
     ensures set { IfOk result (λ iter. (docs : List Doc)
         → AreOf def.now (T.held lists.now) (T.named lists.now) docs
         → (id : ℕ) → in_set (T.held lists.now) iter id ≡ finds query.now def.now docs id) }

@@ -4,6 +4,7 @@ pub mod CandidatesLaws
 pub mod ColumnLaws
 pub mod FieldLaws
 pub mod FoundLaws
+pub mod HintLaws
 pub mod KeyLaws
 pub mod PageLaws
 pub mod RowsReplyLaws

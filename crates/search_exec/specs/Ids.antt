@@ -1,5 +1,6 @@
 -- What the ids of a set find among documents, what has to be known of these, and how many of them are read.
 use Rattle.std.specs.Prelude.{◌≡◌, ◌+◌, ℕ, ℤ, min, nat_eq, not, Bool, true, false, List, filter, find, Option, None, Some, IsSome, ◌-◌, ◌==◌, if◌then◌else◌}
+use Rattle.std.specs.List.{All}
 use Rattle.std.specs.Str.{bytes_eq}
 use Rattle.cmd_parse.specs.Options.{Sort}
 use Rattle.cmd_parse.specs.Searching.{Searching}
@@ -10,9 +11,11 @@ use Rattle.ft_base.specs.declared.reply.Reply.{Reply}
 use Rattle.ft_machine.specs.Counted.{in_order, is_among}
 use Rattle.ft_machine.specs.Shown.{found_reply}
 use Rattle.ft_meaning.specs.Sortable.{keeps_number, number_at, sorting_vector}
+use Rattle.id_iters.specs.Fitting.{IsOpenAt}
 use Rattle.id_iters.specs.Held.{AreLists, Held}
 use Rattle.id_iters.specs.Ready.{Ready}
 use Rattle.id_iters.specs.Sets.{in_set}
+use Rattle.id_iters.specs.declared.hint.Hint.{Hint}
 use Rattle.id_iters.specs.declared.iter.Iter.{Iter}
 
 -- the documents whose ids a set has
@@ -74,3 +77,7 @@ abbrev pub reads_for : Searching → IndexDef → ℕ → ℕ
 reads_for what def count =
     if reads_to_sort (sort_field what.sort def) then (if what.num == 0 then 0 else count)
     else (if what.no_content then 0 else min what.num (count - what.offset))
+
+-- each hint is a place that is opened in its list behind the ids up to `after`
+abbrev pub AreOpenBehind : Held → ℕ → List Hint → Type 0
+AreOpenBehind held after hints = All (λ (hint : Hint). IsOpenAt held hint.list after hint.place) hints

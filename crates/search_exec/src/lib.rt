@@ -15,6 +15,7 @@ mod by_field;
 mod by_ids;
 mod candidates;
 mod facts;
+mod hints;
 mod page;
 mod replied_rows;
 mod search;

@@ -6,13 +6,14 @@ ghost use Rattle.ft_machine.specs.Parts.{last_id, stream_row, stream_taken};
 ghost use Rattle.hash_store.specs.Store.{reads_after};
 ghost use Rattle.id_iters.specs.Least.{IsLeast};
 ghost use Rattle.id_iters.specs.Sets.{about, in_set};
-ghost use Rattle.search_exec.specs.Ids.{IsAskable, IsWalkable, doc_at, docs_found};
+ghost use Rattle.search_exec.specs.Ids.{AreOpenBehind, IsAskable, IsWalkable, doc_at, docs_found};
 
 use crate::facts::tell;
+use crate::hints::hints_behind;
 use agg_pipeline::StreamSteps;
 use ft_base::{IndexDef, NoMemory, Row, Steps};
 use hash_store::HashStore;
-use id_iters::{Iter, Lists};
+use id_iters::{Hints, Iter, Lists};
 use std::alloc::Global;
 use std::sync::ledger::Ledger;
 
@@ -22,6 +23,8 @@ pub struct StreamRead {
     pub rows: Vec<Row>,
     /// The id of the last document that was taken, from which the stream goes on.
     pub after: u64,
+    /// Where the lists are to be opened behind that id; nothing where the stream has ended or memory ran out.
+    pub hints: Hints,
 }
 
 /// Reads so many rows of a stream. The iterator stands behind `after`, and the documents are taken in order of their ids,
@@ -43,6 +46,8 @@ pub fn read_stream<T: Lists, L: Ledger>(
     ensures after { IfOk result (λ read. read.after ≡ last_id after
         (stream_taken def.now steps.now after count (docs_found (T.held lists.now) iter store.old.space))) }
 
+    ensures hints { IfOk result (λ read. AreOpenBehind (T.held lists.now) read.after read.hints.0) }
+
     // What is read.
     ensures reads { OnOk result (store.new.reads ≡ reads_after store.old.reads (length
         (stream_taken def.now steps.now after count (docs_found (T.held lists.now) iter store.old.space)))) }
@@ -63,9 +68,18 @@ pub fn read_stream<T: Lists, L: Ledger>(
         &mut rows,
         counter,
     );
-    drop(iter);
-    let after = read?;
-    Ok(StreamRead { rows, after })
+    match read {
+        Ok(after) => {
+            let ended = rows.len() < count as usize;
+            let hints = hints_behind(alloc, lists, iter, ended, after, counter);
+            Ok(StreamRead { rows, after, hints })
+        }
+        Err(error) => {
+            drop(iter);
+            drop(rows);
+            Err(error)
+        }
+    }
 }
 
 /// Takes documents behind an id until there are so many rows, and answers the id of the last one.

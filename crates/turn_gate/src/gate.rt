@@ -14,6 +14,8 @@ use ft_base::NoMemory;
 use std::alloc::Global;
 use std::marker::{Brand, Model};
 use std::sync::Wait;
+use std::sync::atomic::AtomicU32;
+use std::sync::atomic::Ordering::SeqCst;
 use std::thread::yield_now;
 
 /// How often a waiter tries, with other threads let run between, before it sleeps. A short turn is over by then, and
@@ -24,6 +26,8 @@ const TRIES: u32 = 32;
 #[derive(Drop)]
 pub struct Gate<S: Chronicle> {
     table: Table<Option<S>, View<S::Entry>, u64, Lock, Global>,
+    // How many waiters sleep or are about to. No contract tells of it.
+    sleepers: AtomicU32,
 }
 
 impl<S: Chronicle> Model for Gate<S> {
@@ -52,7 +56,10 @@ impl<S: Chronicle + Drop> Gate<S> {
         let mut slots = Vec::with_capacity(alloc, 1)?;
         slots.push_reserved(Some(state));
         match Table::new(alloc, &[0, 0], slots, &first) {
-            Ok((table, seat)) => Ok((Gate { table }, Pass { seat })),
+            Ok((table, seat)) => {
+                let sleepers = AtomicU32::new(0);
+                Ok((Gate { table, sleepers }, Pass { seat }))
+            }
             Err(Refused { slots: _ }) => Err(NoMemory),
         }
     }
@@ -72,12 +79,12 @@ impl<S: Chronicle + Drop> Gate<S> {
     {
         let Pass { mut seat } = pass;
         let shared = &self.table.shared;
-        begin_turn(rt, shared, &mut seat);
+        begin_turn(rt, shared, &self.sleepers, &mut seat);
         let state = shared.exchange(&mut seat, 0, None).unwrap();
         Turn { seat, state }
     }
 
-    /// Ends the turn, adds the entries that `told` stands for to the log, and wakes a caller that waits.
+    /// Ends the turn, adds the entries that `told` stands for to the log, and wakes a caller that sleeps, if one does.
     ///
     /// The state has to stand for the log with these entries. The pass has then seen all of it.
     pub fn leave<T: Told<S::Entry>>(&self, turn: Turn<S>, told: &T) -> Pass<S>
@@ -92,7 +99,11 @@ impl<S: Chronicle + Drop> Gate<S> {
         let shared = &self.table.shared;
         log_entries::<S, T, Brand>(shared, &mut seat, told);
         give_back(shared, &mut seat, state);
-        shared.wake_one(0);
+        // No wake is lost: the store of word 0, this load and a sleeper's addition are sequentially consistent, and `park`
+        // sleeps only where word 0 is still 1. So either the sleeper is counted here, or it finds word 0 given back.
+        if self.sleepers.load(SeqCst) > 0 {
+            shared.wake_one(0);
+        }
         Pass { seat }
     }
 
@@ -129,6 +140,7 @@ impl<S: Chronicle + Drop> Gate<S> {
 fn begin_turn<S: Chronicle, R: Wait>(
     rt: &R,
     shared: &Shared<Option<S>, View<S::Entry>, u64, Lock>,
+    sleepers: &AtomicU32,
     seat: &mut Seat<Option<S>, View<S::Entry>>,
 )
     requires table { (seat.old.table_id ≡ shared.now.table_id) × (shared.now.table_id.words ≡ 2) }
@@ -141,16 +153,18 @@ fn begin_turn<S: Chronicle, R: Wait>(
         if try_turn::<S, Brand>(shared, seat) == 0 {
             return;
         }
-        back_off(rt, shared, tries);
+        back_off(rt, shared, sleepers, tries);
         tries = tries.saturating_add(1);
     }
     unreachable!()
 }
 
-/// Lets other threads run after one of the first tries, and after a later one sleeps until a turn ends.
+/// Lets other threads run after one of the first tries, and after a later one sleeps until a turn ends. It counts itself
+/// among the sleepers before it looks at word 0 once more, since `leave` wakes nobody where none is counted.
 fn back_off<S: Chronicle, R: Wait>(
     rt: &R,
     shared: &Shared<Option<S>, View<S::Entry>, u64, Lock>,
+    sleepers: &AtomicU32,
     tries: u32,
 )
     requires table { shared.now.table_id.words ≡ 2 }
@@ -158,6 +172,8 @@ fn back_off<S: Chronicle, R: Wait>(
     if tries < TRIES {
         yield_now();
     } else {
+        sleepers.fetch_add(1, SeqCst);
         shared.park(rt, 0, 1);
+        sleepers.fetch_sub(1, SeqCst);
     }
 }

@@ -1,5 +1,5 @@
-//! Plans of queries, over an index of documents: `plan_depth QUERY COUNT:TEXT..` and `plan_parts QUERY COUNT:TEXT..`, where
-//! each `COUNT:TEXT` is so many documents with that text.
+//! Plans of queries, over an index of documents: `plan_depth QUERY COUNT:TEXT..`, `plan_parts QUERY COUNT:TEXT..` and
+//! `plan_hints AFTER QUERY COUNT:TEXT..`, where each `COUNT:TEXT` is so many documents with that text.
 ghost use Rattle.std.specs.Prelude.{◌≡◌, ◌<◌, ◌≤◌, IfOk, IfSome, IsTrue, OnOk};
 ghost use Rattle.ft_meaning.specs.Meaning.{ValuesFit};
 ghost use Rattle.ft_index.specs.Markers.{AreBefore};
@@ -12,7 +12,7 @@ use ft_base::{
     StopWords,
 };
 use ft_index::FtIndex;
-use id_iters::{Hints, Iter, Leaf, ListName};
+use id_iters::{Hint, Hints, Iter, Leaf, ListName};
 use inverted_list::Markers;
 use query_parse::parse;
 use query_plan::plan;
@@ -27,6 +27,16 @@ pub fn put(
     words: &[Vec<u8>],
     out: &mut Answer,
 ) -> Result<bool, NoMemory> {
+    if call == "plan_hints" {
+        put_hints(
+            alloc,
+            number(word(words, 0)),
+            word(words, 1),
+            rest(words, 2),
+            out,
+        )?;
+        return Ok(true);
+    }
     if call != "plan_depth" && call != "plan_parts" {
         return Ok(false);
     }
@@ -235,4 +245,50 @@ fn put_leaf(leaf: &Leaf, out: &mut Answer) {
         ListName::Tag { .. } => out.put(b"(tag)"),
         ListName::Range { .. } => out.put(b"(range)"),
     }
+}
+
+// `plan_hints`: the lists of a plan's leaves, each with the number of the block in which it is to be opened behind an id.
+fn put_hints(
+    alloc: Global,
+    after: u64,
+    text: &[u8],
+    documents: &[Vec<u8>],
+    out: &mut Answer,
+) -> Result<(), NoMemory> {
+    let Some(index) = filled(alloc, documents)? else {
+        return Ok(());
+    };
+    let Some(iter) = plan_over(alloc, &index, text)? else {
+        return Ok(());
+    };
+    let hints = hints_of::<Brand>(alloc, &index, &iter, after, Blank::new(1))?;
+    drop(iter);
+    for hint in hints.0.as_slice() {
+        put_hint(hint, out);
+    }
+    Ok(())
+}
+
+fn hints_of<L: Ledger>(
+    alloc: Global,
+    index: &FtIndex,
+    iter: &Iter,
+    after: u64,
+    blank: Blank,
+) -> Result<Hints, NoMemory>
+    requires name { blank.name ≡ L.name }
+    requires parts { blank.parts ≡ L.parts }
+    requires some { 0 < L.parts }
+{
+    let mut steps = Steps::<L>::new(blank);
+    iter.hints(alloc, index, after, &mut steps)
+}
+
+fn put_hint(hint: &Hint, out: &mut Answer) {
+    out.put(b" ");
+    if let ListName::Word { text } = &hint.list {
+        out.put(text.as_slice());
+    }
+    out.put(b":");
+    put_number(hint.place.block as u64, out);
 }

@@ -16,9 +16,9 @@ serving-init g c = record {
 }
 
 pub step-later-requires-clause-turn : goal.step-later-requires-clause-turn
-step-later-requires-clause-turn g c left more few =
+step-later-requires-clause-turn g c holds few =
     c.requires.prompt c.serving.pass c.serving.link c.serving.clock c.serving.invariant.of
-    (all_answered c.serving.buffers.decoder c.args.pass c.serving.pass _ _ c.serving.total left c.serving.invariant.going more (omega (arith, c.serving.invariant.counted)) few)
+    (all_answered c.serving.buffers.decoder c.args.pass c.serving.pass _ _ c.serving.total holds.left c.serving.invariant.going holds.waits (omega (arith, c.serving.invariant.counted)) few)
 
 pub returns-in-Err-clause-ends : goal.returns-in-Err-clause-ends
 returns-in-Err-clause-ends g c =

@@ -8,7 +8,7 @@ pub read_more-requires-clause-taken : goal.read_more-requires-clause-taken
 read_more-requires-clause-taken g c = same_stream c.args.buffers.now.decoder.left c.take.new.self.left (c.in-More.ensures.more refl)
 
 pub read_more-requires-clause-turn : goal.read_more-requires-clause-turn
-read_more-requires-clause-turn g c few = c.requires.turn c.take.new.self.left (c.in-More.ensures.more refl) few
+read_more-requires-clause-turn g c few = c.requires.turn (record { left = c.take.new.self.left; waits = c.in-More.ensures.more refl }) few
 
 pub returns-in-Words-clause-leads : goal.returns-in-Words-clause-leads
 returns-in-Words-clause-leads g c first before going =

@@ -1,13 +1,15 @@
-use Rattle.std.proofs.Common.{◌∙◌, ap, refl, sym, arith, List}
+use Rattle.std.proofs.Common.{◌∙◌, ap, refl, subst, sym, arith, List}
 use Rattle.ft_base.specs.Docs.{Doc}
 use Rattle.ft_index.specs.Index.{Index}
 use Rattle.ft_machine.specs.Definitions.{Defined, index_of, without_index, without_members}
 use Rattle.indexed_store.specs.DefinitionsOf.{definitions_of}
-use Rattle.std.specs.Prelude.{◌≡◌, ◌+◌, None, length}
+use Rattle.std.specs.Prelude.{◌≡◌, ◌+◌, ◌++◌, ◌∷◌, [], None, length}
+use Rattle.std.specs.List.{All}
 use Rattle.hash_store.specs.Store.{Store}
 use Rattle.ft_machine.specs.Step.{next_number}
 use Rattle.cursor_book.specs.declared.cursor.Cursor.{Cursor}
 use Rattle.indexed_store.specs.Changing.{changed, without_cursors_of}
+use Rattle.indexed_store.specs.Standing.{AreApart, IndexStands, markers_at}
 use Rattle.indexed_store.specs.States.{state_with}
 use Rattle.indexed_store.specs.declared.change.Change.{Change}
 use Rattle.indexed_store.specs.declared.change.Change.TheVariants.{Alter, Move, Write}
@@ -53,16 +55,19 @@ returns-in-EraseKeys-clause-kept c =
 pub returns-in-Create-clause-kept : goal.returns-in-Create-clause-kept
 returns-in-Create-clause-kept c =
     created-step c.args.store.now c.args.change c.in-Create.index c.args.number c.args.store.now.ready c.args.indexes.now.items c.push_index.new.indexes.items c.in-Create.is c.requires.before c.requires.ready c.requires.kept
-    c.push_index.ensures.items
+    (c.push_index.ensures.items ∙ ap (λ (i : Index). c.args.indexes.now.items ++ i ∷ []) c.into_inner.ensures)
 
 pub returns-in-Alter-clause-kept : goal.returns-in-Alter-clause-kept
 returns-in-Alter-clause-kept c =
     let at = made-before c.args.change (Alter c.in-Alter.index) c.args.number c.in-Alter.is refl c.requires.before in
     let lent = lent-step c.args.store.now c.as_mut_slice-in-Alter.result.now c.args.indexes.now.items (next_number c.args.number) (c.args.number + 1) c.as_mut_slice-in-Alter.ensures.value at c.requires.kept in
     let apart = altered-apart c.args.change c.in-Alter.index c.args.number c.args.store.now.space c.args.store.now.ready c.args.indexes.now.items c.as_mut_slice-in-Alter.result.now c.in-Alter.is c.as_mut_slice-in-Alter.ensures.value c.requires.ready in
+    let is = sym c.into_inner-in-Alter.ensures in
     let stands = altered-stands c.args.change c.in-Alter.index c.args.number c.args.store.now.space c.args.store.now.ready c.args.indexes.now.items c.in-Alter.is c.requires.ready in
     whole-step c.args.store.now c.args.indexes.now.len c.args.indexes.now.items c.replace_index.new.indexes (next_number c.args.number) (c.args.number + 1) (omega (arith, c.replace_index.auto.indexes, c.as_mut_slice-in-Alter.ensures.len)) at
-    (c.replace_index.ensures.kept c.args.store.now (c.args.number + 1) stands apart lent)
+    (c.replace_index.ensures.kept c.args.store.now (c.args.number + 1)
+    (subst (λ (i : Index). IndexStands c.args.store.now.space (c.args.number + 1) (markers_at (c.args.number + 1)) i) is stands)
+    (subst (λ (i : Index). All (AreApart i) c.as_mut_slice-in-Alter.result.now) is apart) lent)
 
 pub returns-in-Drop-clause-kept : goal.returns-in-Drop-clause-kept
 returns-in-Drop-clause-kept c = c.drop_index.ensures.kept c.args.store.now (next_number c.args.number) c.requires.kept

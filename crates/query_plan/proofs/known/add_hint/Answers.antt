@@ -4,7 +4,7 @@ use Rattle.query_plan.proofs.known.add_hint.Goals as goal
 
 pub returns-clause-fit : goal.returns-clause-fit
 returns-clause-fit g c =
-    still_fit _ _ c.args.hint.now.list c.args.hint.now.place c.in_ok-add_place.ensures (g.T.Lists.held c.args.lists.now) c.args.after (record { sound = c.requires; opened = search rules })
+    still_fit _ _ c.args.hint.now.list c.args.hint.now.place c.in_ok-add_place.ensures (g.T.Lists.held c.args.lists.now) c.args.after (search rules)
 
 pub returns-clause-here : goal.returns-clause-here
 returns-clause-here g c = λ opened. now_known _ _ c.args.hint.now.list c.args.hint.now.place c.in_ok-add_place.ensures

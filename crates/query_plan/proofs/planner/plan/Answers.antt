@@ -21,7 +21,7 @@ pub returns-in_err-known-clause-lists : goal.returns-in_err-known-clause-lists
 returns-in_err-known-clause-lists g c = λ docs are. are_lists c.args.def.now (g.T.Lists.held c.args.lists.now) (g.T.Lists.named c.args.lists.now) docs are
 
 pub returns-clause-placed : goal.returns-clause-placed
-returns-clause-placed g c = all_placed (g.T.Lists.held c.args.lists.now) c.args.after c.args.hints.now.0 c.requires.hints _ c.in_ok-planned.ensures.placed
+returns-clause-placed g c = all_placed (g.T.Lists.held c.args.lists.now) c.args.after c.args.hints.now.0 _ c.in_ok-planned.ensures.placed
 
 pub returns-clause-free : goal.returns-clause-free
 returns-clause-free g c = λ fitting.

@@ -7,7 +7,7 @@ use Rattle.id_iters.specs.Sets.{in_set}
 use Rattle.query_plan.specs.Finds.{finds}
 use Rattle.search_exec.proofs.FoundLaws.{docs-found, members-known, members-numbered}
 use Rattle.index_commands.proofs.SearchLaws.{index-read}
-use Rattle.index_commands.proofs.ids.ids_found.Goals as goal
+use Rattle.index_commands.proofs.ids.ids_behind.Goals as goal
 
 pub returns : goal.returns
 returns g c =

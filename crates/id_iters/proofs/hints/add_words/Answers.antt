@@ -1,0 +1,13 @@
+use Rattle.std.proofs.Common.{rules, ◌+◌, ◌∷◌, [], take}
+use Rattle.id_iters.proofs.HintLaws.{hinted_more, next_word}
+use Rattle.id_iters.proofs.hints.add_words.Goals as goal
+
+pub words-preserved : goal.words-preserved
+words-preserved g c =
+    let word = c.word-item.result in
+    record {
+      hinted =
+          hinted_more (g.T.Lists.held c.args.lists.now) c.args.after (take c.words.word-index c.args.words.now) (word ∷ []) (take (c.words.word-index + 1) c.args.words.now) _ _ _
+          (next_word c.args.words.now c.words.word-index word (search rules) c.word-item.is) c.words.invariant.hinted c.in_ok-add_leaf.ensures.hinted;
+      counts = search rules;
+    }
