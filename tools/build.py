@@ -3,9 +3,9 @@
 
     tools/build.py NAME
 
-Each crate is begun as soon as those below it stand, those with the longest chain above them first; a kit whose `rt lib`
-locks the crates below it makes them wait for one another. What earlier runs kept is used. Says on standard error which crate of
-how many is done and how long it took; exits 1 where one is not proved.
+`rt all check` in the program's folder proves it and the crates that it stands on, each as soon as those below it stand; what
+earlier runs kept is used. Says on standard error which crate of how many is proved and how long it took so far; exits 1 where
+one is not proved.
 """
 import os
 import pathlib
@@ -13,92 +13,71 @@ import re
 import subprocess
 import sys
 import time
-from concurrent.futures import FIRST_COMPLETED, ThreadPoolExecutor, wait
 
 TOP = pathlib.Path(__file__).resolve().parent.parent
 # What one crate's proof may take.
-BYTES_EACH = 4 << 30
+BYTES_EACH = 3 << 30
 
 
-def below_each():
-    """The crates of the repository that each one names."""
+def below(program):
+    """The program and all crates below it."""
     named = {}
     for line in (TOP / "crates.txt").read_text().splitlines():
         if ":" in line and not line.startswith("#"):
             name, others = line.split(":", 1)
             named[name.split()[0]] = others.split()
-    return {name: [other for other in others if other in named] for name, others in named.items()}
-
-
-def closure(program, below):
-    """The program and all crates below it."""
     found, left = set(), [program]
     while left:
         name = left.pop()
         if name not in found:
             found.add(name)
-            left += below[name]
+            left += [other for other in named[name] if other in named]
     return found
 
 
-def heights(names, below):
-    """For each crate the length of the longest chain of crates that wait for it."""
-    above = {name: [other for other in names if name in below[other]] for name in names}
-    known = {}
-
-    def height(name):
-        if name not in known:
-            known[name] = 1 + max((height(other) for other in above[name]), default=0)
-        return known[name]
-
-    return {name: height(name) for name in names}
-
-
 def lanes():
-    """As many crates at once as there are processors and memory for."""
+    """As many crates at once as there are processors and memory for. One that waits for those below it takes a place and no
+    processor, so there are some more."""
     found = re.search(r"MemAvailable:\s+(\d+)", pathlib.Path("/proc/meminfo").read_text())
     by_memory = int(found[1]) * 1024 // BYTES_EACH if found else 1
-    return max(1, min(len(os.sched_getaffinity(0)), by_memory))
-
-
-def prove(name, is_program):
-    """Proves one crate over those below it, which stand; gives how it ended, what it printed and the seconds."""
-    begun = time.monotonic()
-    words = ["rt", "run", "--", "script"] if is_program else ["rt", "lib"]
-    how = {"cwd": TOP / "crates" / name, "stdin": subprocess.DEVNULL, "stdout": subprocess.PIPE, "stderr": subprocess.STDOUT}
-    ran = subprocess.run(words, errors="replace", **how)
-    return ran.returncode, ran.stdout, time.monotonic() - begun
+    processors = len(os.sched_getaffinity(0))
+    return max(1, min(processors + processors // 2, by_memory))
 
 
 def say(text):
     print(f"rsearch: {text}", file=sys.stderr, flush=True)
 
 
-def main():
-    program = sys.argv[1]
-    below = below_each()
-    names = closure(program, below)
-    order = heights(names, below)
-    begun, done, running = time.monotonic(), set(), {}
-    say(f"proving {len(names)} crates, {lanes()} at once; only what changed since the last time is proved anew")
-    with ThreadPoolExecutor(lanes()) as pool:
-        left = sorted(names, key=lambda name: (-order[name], name))
-        while left or running:
-            ready = [name for name in left if done.issuperset(below[name])]
-            for name in ready[: lanes() - len(running)]:
-                left.remove(name)
-                running[pool.submit(prove, name, name == program)] = name
-            for ended in wait(running, return_when=FIRST_COMPLETED).done:
-                name = running.pop(ended)
-                status, printed, seconds = ended.result()
-                if status:
-                    sys.stderr.write(printed)
-                    say(f"{name} was not proved")
-                    return 1
+def proved(folder, names):
+    """Proves the crates, and says of each that it stands. Gives whether all are proved."""
+    begun, done, printed = time.monotonic(), set(), []
+    words = ["rt", "all", "check", "--jobs", str(lanes())]
+    how = {"cwd": folder, "stdin": subprocess.DEVNULL, "stdout": subprocess.PIPE, "stderr": subprocess.STDOUT}
+    with subprocess.Popen(words, text=True, errors="replace", **how) as ran:
+        for line in ran.stdout:
+            printed.append(line)
+            name = line[3:].strip() if line.startswith("== ") else ""
+            if name in names - done:
                 done.add(name)
                 minutes, rest = divmod(int(time.monotonic() - begun), 60)
-                say(f"{len(done)} of {len(names)} stand: {name} took {seconds:.0f} s ({minutes} min {rest} s so far)")
-    return 0
+                say(f"{len(done)} of {len(names)}: {name} ({minutes} min {rest} s so far)")
+    if ran.returncode:
+        sys.stderr.writelines(printed)
+    return ran.returncode == 0
+
+
+def main():
+    program = sys.argv[1]
+    folder, names = TOP / "crates" / program, below(program)
+    say(f"proving {len(names)} crates, {lanes()} at once; only what changed since the last time is proved anew")
+    if not proved(folder, names):
+        say("not all of it was proved")
+        return 1
+    built = subprocess.run(["rt", "run", "--", "script"], cwd=folder, stdin=subprocess.DEVNULL, capture_output=True, text=True, errors="replace")
+    if built.returncode:
+        sys.stderr.write(built.stdout + built.stderr)
+        say(f"{program} was not built")
+    return 1 if built.returncode else 0
 
 
 if __name__ == "__main__":

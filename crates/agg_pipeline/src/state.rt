@@ -14,7 +14,6 @@ use ft_base::{NoMemory, Value};
 use std::alloc::Global;
 
 /// What a reducer made of the values so far.
-#[derive(Drop)]
 pub enum State {
     Count(u64),
     Differing(Spellings),
@@ -23,6 +22,21 @@ pub enum State {
     Greatest(Option<i64>),
     Many(Distinct),
     First(Option<Value>),
+}
+
+// Written out, it is one step for whoever drops a state, where a derived one has an arm for each reducer.
+impl Drop for State {
+    fn drop(self) {
+        match self {
+            State::Count(_) => {}
+            State::Differing(spellings) => drop(spellings),
+            State::Sum(_) => {}
+            State::Least(_) => {}
+            State::Greatest(_) => {}
+            State::Many(values) => drop(values),
+            State::First(first) => drop(first),
+        }
+    }
 }
 
 impl State {

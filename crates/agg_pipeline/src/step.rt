@@ -3,7 +3,6 @@ use expr_eval::Expr;
 use ft_base::{Bytes, ListOf};
 
 /// What is done with the rows.
-#[derive(Drop)]
 pub enum Step {
     /// GROUPBY: one row for each group of rows with equal values of these properties.
     Group {
@@ -29,6 +28,25 @@ pub enum Step {
         offset: u32,
         num: u32,
     },
+}
+
+// Written out, it is one step for whoever drops a step, where a derived one has an arm for each form.
+impl Drop for Step {
+    fn drop(self) {
+        match self {
+            Step::Group { by, reduce } => {
+                drop(by);
+                drop(reduce);
+            }
+            Step::Sort { keys, max: _ } => drop(keys),
+            Step::Apply { expr, name } => {
+                drop(expr);
+                drop(name);
+            }
+            Step::Keep { expr } => drop(expr),
+            Step::Limit { offset: _, num: _ } => {}
+        }
+    }
 }
 
 /// REDUCE: what is made of a group's values of a property, and the name of its cell.
@@ -59,10 +77,21 @@ pub struct SortKey {
 }
 
 /// LOAD: the properties that have cells in a row from the start.
-#[derive(Debug, Drop)]
+#[derive(Debug)]
 pub enum Load {
     Nothing,
     Fields(ListOf<Bytes>),
     /// All fields of the hash, under their own names.
     All,
+}
+
+// Written out, as that of a step.
+impl Drop for Load {
+    fn drop(self) {
+        match self {
+            Load::Nothing => {}
+            Load::Fields(names) => drop(names),
+            Load::All => {}
+        }
+    }
 }

@@ -11,8 +11,6 @@ mod cursor;
 mod rows_left;
 mod shelf;
 mod shelves;
-#[cfg(test)]
-mod tests;
 
 /// The cursors that are open.
 pub use book::CursorBook;

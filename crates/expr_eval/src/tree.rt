@@ -28,7 +28,6 @@ pub enum Op {
 }
 
 /// An expression.
-#[derive(Drop)]
 pub enum Expr {
     Num(i64),
     Text(Bytes),
@@ -45,4 +44,22 @@ pub enum Expr {
         left: Boxed<Expr>,
         right: Boxed<Expr>,
     },
+}
+
+// Written out, it is one step for whoever drops an expression, where a derived one has an arm for each form.
+impl Drop for Expr {
+    fn drop(self) {
+        match self {
+            Expr::Num(_) => {}
+            Expr::Text(text) => drop(text),
+            Expr::Prop(name) => drop(name),
+            Expr::Call { func: _, arg } => drop(arg),
+            Expr::Not(arg) => drop(arg),
+            Expr::Neg(arg) => drop(arg),
+            Expr::Binary { op: _, left, right } => {
+                drop(left);
+                drop(right);
+            }
+        }
+    }
 }

@@ -23,13 +23,25 @@ const LAST_NUMBER: u64 = 4_611_686_018_427_387_904;
 ///
 /// A command is one event: it is prepared, and then committed or abandoned; or it is refused for its
 /// words. While an event is prepared, no other can begin.
-#[derive(Drop)]
 pub struct Engine {
     alloc: Global,
     held: IndexedStore,
     next: u64,
     // Whether an event is prepared, and neither committed nor abandoned.
     pending: bool,
+}
+
+// Written out, the drops of all that it holds are proved here alone, and not in each crate above.
+impl Drop for Engine {
+    fn drop(self) {
+        let Engine {
+            alloc: _,
+            held,
+            next: _,
+            pending: _,
+        } = self;
+        drop(held);
+    }
 }
 
 impl Model for Engine {

@@ -19,7 +19,6 @@ use std::marker::Model;
 const MOST_FAILURES: u64 = 9_223_372_036_854_775_807;
 
 /// An index of documents by the words, the tags and the numbers of their fields.
-#[derive(Drop)]
 pub struct FtIndex {
     alloc: Global,
     def: IndexDef,
@@ -27,6 +26,23 @@ pub struct FtIndex {
     lists: IndexLists,
     waits: Option<Ready>,
     failures: u64,
+}
+
+// Written out, it is one step for whoever drops an index.
+impl Drop for FtIndex {
+    fn drop(self) {
+        let FtIndex {
+            alloc: _,
+            def,
+            table,
+            lists,
+            waits: _,
+            failures: _,
+        } = self;
+        drop(def);
+        drop(table);
+        drop(lists);
+    }
 }
 
 impl Model for FtIndex {

@@ -23,13 +23,27 @@ const WIRE_END: u64 = 1 << 63;
 
 /// The lists of an index: those of its words, of the tags of its TAG fields, and of the ranges of
 /// its NUMERIC fields.
-#[derive(Drop)]
 pub struct IndexLists {
     alloc: Global,
     terms: Terms,
     tags: TagLists,
     // By the field's number.
     ranges: Vec<Option<Ranges>>,
+}
+
+// Written out, it is one step for whoever drops the lists.
+impl Drop for IndexLists {
+    fn drop(self) {
+        let IndexLists {
+            alloc: _,
+            terms,
+            tags,
+            ranges,
+        } = self;
+        drop(terms);
+        drop(tags);
+        drop(ranges);
+    }
 }
 
 impl Model for IndexLists {

@@ -15,9 +15,16 @@ use turn_gate::Gate;
 pub type Pass = turn_gate::Pass<LoggedEngine>;
 
 /// An engine that callers share. A contract sees which one it is, and the number of its log's first entry.
-#[derive(Drop)]
 pub struct Server {
     pub(crate) gate: Gate<LoggedEngine>,
+}
+
+// Written out, the drops of all that it holds are proved here alone, and not in each crate above.
+impl Drop for Server {
+    fn drop(self) {
+        let Server { gate } = self;
+        drop(gate);
+    }
 }
 
 impl Model for Server {

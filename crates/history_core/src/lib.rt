@@ -9,8 +9,6 @@ mod entry;
 mod event;
 mod machine;
 mod runner;
-#[cfg(test)]
-mod tests;
 
 /// What one event left in a history.
 pub use entry::Entry;

@@ -16,7 +16,6 @@ use ft_base::{ListOf, NoMemory, Steps};
 use std::sync::ledger::Ledger;
 
 /// A set of ids, and how far it was read.
-#[derive(Drop)]
 #[cycle(iter)]
 pub enum Iter {
     /// The ids of a list.
@@ -35,6 +34,26 @@ pub enum Iter {
     Phrase(PhraseIter),
     /// No id.
     Empty,
+}
+
+// Written out, it is one step for whoever drops an iterator, where a derived one has an arm for each form.
+impl Drop for Iter {
+    #[cycle(drop)]
+    fn drop(self) {
+        match self {
+            Iter::Leaf(leaf) => drop(leaf),
+            Iter::And(parts) => drop(parts),
+            Iter::Or { parts, stretch } => {
+                drop(parts);
+                drop(stretch);
+            }
+            Iter::Not(part) => drop(part),
+            Iter::Optional(part) => drop(part),
+            Iter::All => {}
+            Iter::Phrase(phrase) => drop(phrase),
+            Iter::Empty => {}
+        }
+    }
 }
 
 /// A part that keeps its last answer, which may lie ahead of what the whole has come to.

@@ -19,7 +19,6 @@ use std::sync::ledger::Ledger;
 
 /// The ids of a list that count: by `fields` in the list of a word, from `low` to `high` in that of a range. The ids `ahead`
 /// are those up to the place that were read and not given out.
-#[derive(Drop)]
 pub struct Leaf {
     pub list: ListName,
     pub place: Place,
@@ -27,6 +26,23 @@ pub struct Leaf {
     pub low: i64,
     pub high: i64,
     pub ahead: ReadAhead,
+}
+
+// Written out, it is one step for whoever drops a leaf.
+impl Drop for Leaf {
+    fn drop(self) {
+        let Leaf {
+            list,
+            place: _,
+            fields,
+            low: _,
+            high: _,
+            ahead,
+        } = self;
+        drop(list);
+        drop(fields);
+        drop(ahead);
+    }
 }
 
 impl Leaf {

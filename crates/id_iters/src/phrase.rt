@@ -17,13 +17,27 @@ use std::sync::ledger::Ledger;
 
 /// The documents where one field has all the words, with at most `slop` places between them for others. Of the leaves
 /// only the lists are looked at, which are those of the words, and not their fields.
-#[derive(Drop)]
 pub struct PhraseIter {
     pub alloc: Global,
     pub words: ListOf<Leaf>,
     pub fields: Fields,
     pub slop: Option<u32>,
     pub in_order: bool,
+}
+
+// Written out, it is one step for whoever drops a phrase.
+impl Drop for PhraseIter {
+    fn drop(self) {
+        let PhraseIter {
+            alloc: _,
+            words,
+            fields,
+            slop: _,
+            in_order: _,
+        } = self;
+        drop(words);
+        drop(fields);
+    }
 }
 
 impl PhraseIter {

@@ -22,10 +22,17 @@ use std::mem::replace;
 use std::sync::ledger::Ledger;
 
 /// The entries of one word, one tag or one range: ids that rise, each with its hit.
-#[derive(Drop)]
 pub struct List<P: Payload> {
     alloc: Global,
     parts: Picture<P>,
+}
+
+// Written out, it is one step for whoever drops a list.
+impl<P: Payload> Drop for List<P> {
+    fn drop(self) {
+        let List { alloc: _, parts } = self;
+        drop(parts);
+    }
 }
 
 impl<P: Payload> Model for List<P> {

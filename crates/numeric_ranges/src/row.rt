@@ -14,11 +14,22 @@ use std::alloc::Global;
 pub(crate) const LIMIT: u64 = 1024;
 
 /// A range: its low, its list, and what is known of its values.
-#[derive(Drop)]
 pub(crate) struct Row {
     pub low: i64,
     pub list: List<NumHit>,
     pub spread: Spread,
+}
+
+// Written out, it is one step for whoever drops a range.
+impl Drop for Row {
+    fn drop(self) {
+        let Row {
+            low: _,
+            list,
+            spread: _,
+        } = self;
+        drop(list);
+    }
 }
 
 impl Row {

@@ -12,7 +12,6 @@ pub struct Lexeme {
 
 /// What a lexeme is. Words, prefixes and tags are without the backslashes that escape their bytes; the
 /// inside of a quote is as it stands in the text.
-#[derive(Drop)]
 pub enum LexKind {
     Word(Bytes),
     /// A word directly followed by `*`.
@@ -29,6 +28,23 @@ pub enum LexKind {
     /// A form of query language that is left out, by its first byte or word: `%`, `*`, `w` or `W`.
     Foreign(Bytes),
     Sign(Sign),
+}
+
+// Written out, it is one step for whoever drops a lexeme, where a derived one has an arm for each kind.
+impl Drop for LexKind {
+    fn drop(self) {
+        match self {
+            LexKind::Word(bytes) => drop(bytes),
+            LexKind::Prefix(bytes) => drop(bytes),
+            LexKind::Param(bytes) => drop(bytes),
+            LexKind::ParamPrefix(bytes) => drop(bytes),
+            LexKind::Quote(bytes) => drop(bytes),
+            LexKind::Raw(bytes) => drop(bytes),
+            LexKind::Tag { text, prefix: _ } => drop(text),
+            LexKind::Foreign(bytes) => drop(bytes),
+            LexKind::Sign(_) => {}
+        }
+    }
 }
 
 impl LexKind {

@@ -94,23 +94,18 @@ pub fn arranged(
 ) -> Result<Query, NoMemory>
     ensures { IfOk result (λ made. made ≡ arranged slop in_order query (shape_of query)) }
 {
-    match query {
-        Query::Phrase { fields, words, .. } => Ok(Query::Phrase {
-            fields,
-            words,
-            slop,
-            in_order,
-        }),
+    match &query {
+        Query::Phrase { .. } => Ok(query.standing(slop, in_order)),
         Query::And(parts) => {
             if parts.len() < 2 {
-                return Ok(Query::And(parts));
+                return Ok(query);
             }
             if !are_words(parts.as_slice()) {
-                return Ok(Query::And(parts));
+                return Ok(query);
             }
-            phrase(alloc, slop, in_order, parts.into_vec())
+            phrase(alloc, slop, in_order, query.into_parts(alloc).into_vec())
         }
-        other => Ok(other),
+        _ => Ok(query),
     }
 }
 
@@ -152,23 +147,18 @@ fn words_in(alloc: Global, parts: Vec<Query>) -> Result<Vec<Bytes>, NoMemory>
 fn word_in(alloc: Global, part: Query) -> Bytes
     ensures { result ≡ word_in (shape_of part) }
 {
-    match part {
-        Query::Word { text, .. } => text,
+    match &part {
+        Query::Word { .. } => part.into_word(alloc),
         Query::And(parts) => {
-            let mut parts = parts.into_vec();
-            if parts.len() == 1 {
-                match parts.pop() {
-                    Some(part) => word_in(alloc, part),
-                    None => Bytes::new(alloc),
-                }
-            } else {
-                Bytes::new(alloc)
+            if parts.len() != 1 {
+                return Bytes::new(alloc);
+            }
+            match part.into_parts(alloc).into_vec().pop() {
+                Some(part) => word_in(alloc, part),
+                None => Bytes::new(alloc),
             }
         }
-        other => {
-            drop(other);
-            Bytes::new(alloc)
-        }
+        _ => Bytes::new(alloc),
     }
 }
 

@@ -19,6 +19,10 @@ mod failed_calls;
 #[cfg(test)]
 mod found;
 #[cfg(test)]
+mod gates;
+#[cfg(test)]
+mod histories;
+#[cfg(test)]
 mod links;
 #[cfg(test)]
 mod options;
@@ -36,3 +40,5 @@ mod session;
 mod turns;
 #[cfg(test)]
 mod wide;
+#[cfg(test)]
+mod workers;

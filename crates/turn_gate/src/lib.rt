@@ -23,6 +23,3 @@ pub use gate::Gate;
 pub use pass::Pass;
 /// What a caller holds in its turn.
 pub use turn::Turn;
-
-#[cfg(test)]
-mod tests;

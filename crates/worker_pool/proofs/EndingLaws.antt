@@ -12,7 +12,7 @@ use Rattle.ft_server.specs.Passes.{IsOf}
 use Rattle.ft_server.specs.declared.exit.Exit.{Exit}
 use Rattle.ft_server.specs.declared.exit.Exit.TheVariants as exit
 use Rattle.worker_pool.specs.Jobs.{Each, Handed, IsWorker, AreWorkers, Jobs, has_failed, exit_of, Fits, Exits}
-use Rattle.worker_pool.specs.Visits.{MayBeRead}
+use Rattle.worker_pool.specs.Visits.{AllMayBeRead}
 use Rattle.worker_pool.specs.Works.{IsReady}
 use Rattle.worker_pool.specs.declared.work.Work.{Work}
 use Rattle.worker_pool.specs.declared.work.Work.TheVariants as job
@@ -53,7 +53,7 @@ module _ {D C : Type 0} (done : Work D C → Worked D C → Type 0) (doors : Lis
   exits_at exit.DoorFault jobs handed fits = ((jobs, handed), fits)
   exits_at exit.NoThread jobs handed fits = ((jobs, handed), fits)
 
-module _ {D L C : Type 0} (at : D → AtDoor L) (port : Link.Ghosts L) (watch : Clock.Ghosts C) (prompt : MayBeRead port watch) where
+module _ {D L C : Type 0} (at : D → AtDoor L) (port : Link.Ghosts L) (watch : Clock.Ghosts C) (prompt : AllMayBeRead port watch) where
   idle_pairs : (doors : List D) (clocks : List C) → All (λ d. (at d).out ≡ false) doors → Each (λ (g : D × C). (at g.0).out ≡ false) (zip doors clocks)
   idle_pairs [] clocks idle = tt
   idle_pairs (d ∷ ds) [] idle = tt

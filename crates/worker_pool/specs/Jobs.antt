@@ -1,10 +1,11 @@
 -- Which jobs there are, what is handed back of them, and how it all ends.
-use Rattle.std.specs.Prelude.{◌≡◌, ℕ, ◌<◌, Bool, true, false, if◌then◌else◌, List, [], ◌∷◌, length, ⊤}
+use Rattle.std.specs.Prelude.{◌≡◌, ℕ, ◌<◌, Bool, true, false, if◌then◌else◌, List, [], ◌∷◌, length, ⊤, Some, None}
 use Rattle.std.specs.List.{list_any, zip}
 use Rattle.std.specs.Arc.{arc_value}
 use Rattle.fs_ports.specs.Causes.{Rose}
 use Rattle.turn_gate.specs.Known.{GateName}
 use Rattle.std.specs.declared.alloc.Global.{Global}
+use Rattle.std.specs.declared.option.Option.{Option}
 use Rattle.std.specs.declared.string.String.{String}
 use Rattle.ft_server.specs.Forms.{IsServe}
 use Rattle.ft_server.specs.Passes.{IsOf}
@@ -43,6 +44,12 @@ module _ {D C : Type 0} where
   AreWorkers gate [] (worker ∷ workers) = ⊥
   AreWorkers gate (given ∷ all) [] = ⊥
   AreWorkers gate (given ∷ all) (worker ∷ workers) = IsWorker gate given worker × AreWorkers gate all workers
+
+  -- A worker with the first of these doors and clocks, and those behind it; none where no door is left.
+  abbrev pub IsNext : GateName → List D → List C → List D → List C → Option (Work D C) → Type 0
+  IsNext gate doors clocks doors' clocks' None = doors ≡ []
+  IsNext gate doors clocks doors' clocks' (Some worker) =
+      (door : D) × (clock : C) × (doors ≡ door ∷ doors') × (clocks ≡ clock ∷ clocks') × IsWorker gate (door, clock) worker
 
   -- The jobs are a worker for each door with its clock, all of one server that was opened at number 1.
   pub record Jobs (doors : List D) (clocks : List C) : Type 0 where

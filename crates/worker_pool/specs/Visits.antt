@@ -10,7 +10,8 @@ use Rattle.turn_gate.specs.Known.{GateName, Known}
 use Rattle.ft_server.specs.Callers.{Called}
 use Rattle.ft_server.specs.Ends.{Ends}
 use Rattle.ft_server.specs.Passes.{IsOf}
-use Rattle.ft_server.specs.Session.{AllAnswered, told}
+use Rattle.ft_server.specs.Prompt.{MayBeRead}
+use Rattle.ft_server.specs.Session.{told}
 use Rattle.ft_server.specs.declared.connection.End.{End}
 
 -- A link as it was accepted, as it was handed back, and how its connection ended.
@@ -44,10 +45,9 @@ module _ {L : Type 0} where
   Returned (Some before) (Some after) links = after ≡ before ++ links
 
 module _ {L C : Type 0} (port : Link.Ghosts L) (watch : Clock.Ghosts C) where
-  -- Links may be read where all that came whole over them was answered, by a caller of any server.
-  abbrev pub MayBeRead : Type 0
-  MayBeRead = (gate : GateName) (pass later : Known Entry) (link now : L) (clock moment : C) → IsOf gate pass → IsOf gate later
-      → AllAnswered (Called pass later) (told port watch link clock) (told port watch now moment) → port.readable now
+  -- Each link may be read where all that came whole over it was answered, by a caller of any server.
+  abbrev pub AllMayBeRead : Type 0
+  AllMayBeRead = (gate : GateName) (pass : Known Entry) (link : L) (clock : C) → IsOf gate pass → MayBeRead port watch gate pass link clock
 
 module _ {L C : Type 0} (port : Link.Ghosts L) (watch : Clock.Ghosts C) (gate : GateName) where
   -- One connection leads from a pass and a clock to a pass and a clock.

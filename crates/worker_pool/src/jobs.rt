@@ -2,8 +2,9 @@
 ghost use Rattle.std.specs.Prelude.{◌≡◌, ◌≤◌, [], length, vec_capacity, IfOk};
 ghost use Rattle.std.specs.Arc.{arc_value};
 ghost use Rattle.std.specs.List.{zip};
+ghost use Rattle.std.specs.Vec.Iter.{into_iter_items};
 ghost use Rattle.ft_server.specs.Passes.{IsOf};
-ghost use Rattle.worker_pool.specs.Jobs.{AreWorkers, IsWorker, Jobs};
+ghost use Rattle.worker_pool.specs.Jobs.{AreWorkers, IsNext, IsWorker, Jobs};
 
 use crate::work::{Work, Worked};
 use ft_base::NoMemory;
@@ -12,6 +13,7 @@ use ft_server::{Pass, Server};
 use std::alloc::Global;
 use std::hash::RandomState;
 use std::sync::Arc;
+use std::vec::IntoIter;
 
 /// The jobs, room for what runs, and room for what is handed back.
 pub(crate) struct Room<D, C, H> {
@@ -91,13 +93,35 @@ fn make_workers<D: Drop, C: Drop>(
     let mut workers = Vec::with_capacity(alloc, doors.len())?;
     let mut clocks = clocks.into_iter();
     let mut doors = doors.into_iter();
-    while let Some(door) = doors.next() {
-        let Some(clock) = clocks.next() else {
-            unreachable!();
-        };
-        workers.push_reserved(make_worker(alloc, server, pass, door, clock)?);
+    'making: while let Some(worker) = next_worker(alloc, server, pass, &mut doors, &mut clocks)? {
+        workers.push_reserved(worker);
     }
     Ok(workers)
+}
+
+/// A worker with the next door and the next clock, where there are any.
+fn next_worker<D: Drop, C: Drop>(
+    alloc: Global,
+    server: &Arc<Server, Global>,
+    pass: &mut Pass,
+    doors: &mut IntoIter<D, Global>,
+    clocks: &mut IntoIter<C, Global>,
+) -> Result<Option<Work<D, C>>, NoMemory>
+    requires of { IsOf (arc_value server.now) pass.old }
+    requires seen { pass.old.seen ≡ [] }
+    requires equal { length (into_iter_items doors.old) ≡ length (into_iter_items clocks.old) }
+    ensures of { IsOf (arc_value server.now) pass.new }
+    ensures seen { pass.new.seen ≡ [] }
+    ensures next { IfOk result (IsNext (arc_value server.now) (into_iter_items doors.old) (into_iter_items clocks.old)
+        (into_iter_items doors.new) (into_iter_items clocks.new)) }
+{
+    let Some(door) = doors.next() else {
+        return Ok(None);
+    };
+    let Some(clock) = clocks.next() else {
+        unreachable!();
+    };
+    Ok(Some(make_worker(alloc, server, pass, door, clock)?))
 }
 
 /// A worker with this door and this clock.

@@ -16,6 +16,3 @@ mod worker;
 pub use serving::serve;
 /// What a thread does, and what it gives back.
 pub use work::{Work, Worked};
-
-#[cfg(test)]
-mod tests;

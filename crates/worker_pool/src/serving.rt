@@ -2,7 +2,7 @@
 ghost use Rattle.std.specs.Prelude.{◌≡◌, ◌↔◌, ◌≤◌, ◌<◌, ◌⊎◌, false, [], length, vec_capacity, MatchOption};
 ghost use Rattle.std.specs.List.{All, list_any};
 ghost use Rattle.worker_pool.specs.Jobs.{Each, Exits, Fits, Handed, NoServe, exit_of, has_failed};
-ghost use Rattle.worker_pool.specs.Visits.{MayBeRead};
+ghost use Rattle.worker_pool.specs.Visits.{AllMayBeRead};
 ghost use Rattle.worker_pool.specs.Works.{IsDone, IsReady};
 
 use crate::jobs::{Room, take_room};
@@ -40,7 +40,7 @@ pub fn serve<
     requires equal { length doors.items ≡ length clocks.items }
     requires some { 0 < length doors.items }
     requires idle { All (λ door. (D.at door).out ≡ false) doors.items }
-    requires prompt { MayBeRead D.Link.Link C.Clock }
+    requires prompt { AllMayBeRead D.Link.Link C.Clock }
     requires able { S.able spawner.old }
 
     // What was handed back, by how it ended.
@@ -87,7 +87,7 @@ fn serve_doors<
 ) -> (Exit, ListOf<Worked<D, C>>)
     requires equal { length doors.items ≡ length clocks.items }
     requires idle { All (λ door. (D.at door).out ≡ false) doors.items }
-    requires prompt { MayBeRead D.Link.Link C.Clock }
+    requires prompt { AllMayBeRead D.Link.Link C.Clock }
     requires able { S.able spawner.old }
     ensures exits { Exits (IsDone D.at D.Link.Link C.Clock) doors.items clocks.items
         result.0 result.1 (S.faults spawner.old) (S.faults spawner.new) }

@@ -2,7 +2,7 @@
 ghost use Rattle.std.specs.Prelude.{◌≡◌, true, false};
 ghost use Rattle.fs_ports.specs.Doors.{handed_back};
 ghost use Rattle.ft_server.specs.Passes.{IsOf};
-ghost use Rattle.worker_pool.specs.Visits.{Connects, MayBeRead, Visit};
+ghost use Rattle.worker_pool.specs.Visits.{AllMayBeRead, Connects, Visit, WorkerDone};
 ghost use Rattle.worker_pool.specs.Works.{IsWorkerDone};
 
 use crate::work::Worked;
@@ -22,33 +22,40 @@ pub(crate) fn serve_door<D: Door, C: Clock, R: Wait>(
 ) -> Worked<D, C>
     requires of { IsOf server.now pass }
     requires idle { (D.at door).out ≡ false }
-    requires prompt { MayBeRead D.Link.Link C.Clock }
+    requires prompt { AllMayBeRead D.Link.Link C.Clock }
     ensures { IsWorkerDone D.at D.Link.Link C.Clock server.now pass door clock result }
 {
-    let mut pass = pass;
     let mut door = door;
     let mut clock = clock;
+    let (pass, failed) = serve_links(rt, alloc, server, pass, &mut door, &mut clock);
+    Worked::Worker {
+        pass,
+        door,
+        clock,
+        failed,
+    }
+}
+
+/// Serves links until the door gives none or fails, and answers whether it failed.
+fn serve_links<D: Door, C: Clock, R: Wait>(
+    rt: &R,
+    alloc: Global,
+    server: &Server,
+    pass: Pass,
+    door: &mut D,
+    clock: &mut C,
+) -> (Pass, bool)
+    requires of { IsOf server.now pass }
+    requires idle { (D.at door.old).out ≡ false }
+    requires prompt { AllMayBeRead D.Link.Link C.Clock }
+    ensures { WorkerDone D.Link.Link C.Clock server.now D.at pass door.old clock.old result.0 door.new clock.new result.1 }
+{
+    let mut pass = pass;
     for _ in rt.forever() {
         match door.accept() {
-            Err(Failed) => {
-                return Worked::Worker {
-                    pass,
-                    door,
-                    clock,
-                    failed: true,
-                };
-            }
-            Ok(None) => {
-                return Worked::Worker {
-                    pass,
-                    door,
-                    clock,
-                    failed: false,
-                };
-            }
-            Ok(Some(link)) => {
-                pass = serve_link(rt, alloc, server, pass, &mut door, &mut clock, link);
-            }
+            Err(Failed) => return (pass, true),
+            Ok(None) => return (pass, false),
+            Ok(Some(link)) => pass = serve_link(rt, alloc, server, pass, door, clock, link),
         }
     }
     unreachable!()
@@ -66,7 +73,7 @@ fn serve_link<D: Door, C: Clock, R: Wait>(
 ) -> Pass
     requires of { IsOf server.now pass }
     requires out { (D.at door.old).out ≡ true }
-    requires prompt { MayBeRead D.Link.Link C.Clock }
+    requires prompt { AllMayBeRead D.Link.Link C.Clock }
     ensures idle { (D.at door.new).out ≡ false }
     ensures visit { (visit : Visit D.Link) × (visit.link ≡ link)
         × Connects D.Link.Link C.Clock server.now pass result clock.old clock.new visit

@@ -4,13 +4,13 @@ use Rattle.std.specs.Vec.Iter.{into_iter_items}
 use Rattle.worker_pool.proofs.FillingLaws.{filled, snoc_length}
 use Rattle.worker_pool.proofs.jobs.make_workers.Goals as goal
 
-pub loop-door-preserved : goal.loop-door-preserved
-loop-door-preserved g c =
+pub making-preserved : goal.making-preserved
+making-preserved g c =
     let more = c.push_reserved.ensures in
-    let made = c.make_worker.ensures in (
+    let made = c.next_worker.ensures in
+    let next = rw c.in-Some.is at c.in_ok-worker.ensures.next in (
       (made.of, made.seen),
-      filled (arc_value c.args.server.now) c.args.doors.items (into_iter_items c.loop-door.doors) (into_iter_items c.next.new.self) c.args.clocks.items (into_iter_items c.loop-door.clocks) (into_iter_items c.next-in-Some.new.self)
-          c.loop-door.workers.items c.push_reserved.new.self.items c.in-Some.door c.in-Some-next.clock _ c.loop-door.invariant.1 c.in-Some.ensures.items c.in-Some-next.ensures.items more.items
-          c.in_ok-make_worker.ensures.worker,
-      omega (arith, c.loop-door.invariant.2, ap length c.in-Some.ensures.items, snoc_length _ _ _ more.items, more.capacity),
+      filled (arc_value c.args.server.now) c.args.doors.items (into_iter_items c.making.doors) (into_iter_items c.next_worker.new.doors) c.args.clocks.items (into_iter_items c.making.clocks) (into_iter_items c.next_worker.new.clocks)
+          c.making.workers.items c.push_reserved.new.self.items next.0 next.1 c.in-Some.worker c.making.invariant.1 next.2 next.3 more.items next.4,
+      omega (arith, c.making.invariant.2, ap length next.2, snoc_length _ _ _ more.items, more.capacity),
     )

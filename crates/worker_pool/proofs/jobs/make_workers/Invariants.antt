@@ -5,11 +5,11 @@ use Rattle.ft_server.specs.Passes.{IsOf}
 use Rattle.worker_pool.proofs.FillingLaws.{Filling}
 use Rattle.worker_pool.proofs.jobs.make_workers.Given as goal
 
-abbrev pub invariant-loop-door : goal.invariant-loop-door
-invariant-loop-door g l =
+abbrev pub invariant-making : goal.invariant-making
+invariant-making g l =
     (IsOf (arc_value l.server) l.pass × (l.pass.seen ≡ []))
     × Filling (arc_value l.server) l.fn.doors.items (into_iter_items l.doors) l.fn.clocks.items (into_iter_items l.clocks) l.workers.items
     × (length l.workers.items + length (into_iter_items l.doors) ≤ vec_capacity l.workers)
 
-abbrev pub decreases-loop-door : goal.decreases-loop-door
-decreases-loop-door g l = into_iter_len l.doors
+abbrev pub decreases-making : goal.decreases-making
+decreases-making g l = into_iter_len l.doors

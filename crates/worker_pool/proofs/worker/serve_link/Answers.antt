@@ -2,8 +2,7 @@ use Rattle.std.proofs.Common.{refl}
 use Rattle.worker_pool.proofs.worker.serve_link.Goals as goal
 
 pub serve_connection-pass-requires-clause-prompt : goal.serve_connection-pass-requires-clause-prompt
-serve_connection-pass-requires-clause-prompt g c later now moment of answered =
-    c.requires.prompt c.args.server.now c.args.pass later c.args.link now c.args.clock.now moment c.requires.of of answered
+serve_connection-pass-requires-clause-prompt g c = c.requires.prompt c.args.server.now c.args.pass c.args.link c.args.clock.now c.requires.of
 
 pub returns-clause-visit : goal.returns-clause-visit
 returns-clause-visit g c =

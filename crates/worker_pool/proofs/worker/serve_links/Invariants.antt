@@ -1,6 +1,6 @@
 use Rattle.std.proofs.Common.{◌≤◌}
 use Rattle.worker_pool.specs.Visits.{Visited}
-use Rattle.worker_pool.proofs.worker.serve_door.Given as goal
+use Rattle.worker_pool.proofs.worker.serve_links.Given as goal
 
 abbrev pub invariant-loop : goal.invariant-loop
 invariant-loop g l =

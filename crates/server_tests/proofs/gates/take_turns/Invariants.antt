@@ -1,6 +1,6 @@
 use Rattle.std.proofs.Common.{◌≡◌, ◌+◌}
 use Rattle.turn_gate.specs.Log.{StartsWith}
-use Rattle.turn_gate.proofs.tests.take_turns.Given as goal
+use Rattle.server_tests.proofs.gates.take_turns.Given as goal
 
 abbrev pub invariant-loop-taken : goal.invariant-loop-taken
 invariant-loop-taken g l =

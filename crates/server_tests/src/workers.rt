@@ -1,9 +1,7 @@
-//! Shows over the fakes what no clause says: that links are served where memory is ample, that all workers share one
-//! server, and each way to end.
+//! Workers over fakes: links are served where memory is ample, all workers share one server, and each way to end.
 ghost use Rattle.std.specs.Prelude.{◌≡◌, [], ◌∷◌, false, length, IfOk};
 ghost use Rattle.std.specs.List.{All};
 
-use super::*;
 use fs_ports::{CountedPace, MemDoor, MemLink, MemSpawner, ScriptedClock};
 use ft_base::{Bytes, ListOf, NoMemory};
 use ft_server::Exit;
@@ -12,6 +10,7 @@ use std::hash::RandomState;
 use std::sync::Wait;
 use std::test::Fail;
 use std::thread::Threads;
+use worker_pool::{Worked, serve};
 
 type Back = Worked<MemDoor<MemLink>, ScriptedClock>;
 

@@ -1,14 +1,14 @@
-//! Catches what no clause says: that a turn ends and the next begins, that waiters are woken, and that the state and a
-//! pass may cross threads. The proofs say how the logs lie in one another; the totals show that all entries came.
+//! Turns at a gate of its own: that a turn ends and the next begins, that waiters are woken, and that the state and a pass may
+//! cross threads. The proofs say how the logs lie in one another; the totals show that all entries came.
 ghost use Rattle.std.specs.Prelude.{◌≡◌, ◌+◌, IfOk};
 ghost use Rattle.turn_gate.specs.Log.{StartsWith};
 
-use super::*;
 use ft_base::NoMemory;
 use std::alloc::Global;
 use std::sync::Wait;
 use std::test::Fail;
 use std::thread::join;
+use turn_gate::{Chronicle, Gate, Logged, Pass, Told};
 
 /// An entry of a counter's log. No value of it is made.
 struct Step {
