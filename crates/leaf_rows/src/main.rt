@@ -48,15 +48,16 @@ fn main(rt: HostRuntime) -> io::Result<()> {
 /// Runs the rows of all lines of the input.
 fn judge_all(rt: &HostRuntime, tally: &mut Tally) -> io::Result<()> {
     for line in BufReader::new(rt.alloc(), rt.reader())?.lines(rt.alloc()) {
-        judge(rt, line?.as_str(), tally)?;
+        judge(rt, line, tally)?;
     }
     Ok(())
 }
 
-/// Runs the row of a line, if it holds one.
-fn judge(rt: &HostRuntime, line: &str, tally: &mut Tally) -> io::Result<()> {
+/// Runs the row of a line, if it could be read and holds one.
+fn judge(rt: &HostRuntime, line: io::Result<String>, tally: &mut Tally) -> io::Result<()> {
+    let line = line?;
     match read_row(rt.alloc(), line.as_bytes())? {
-        Some(row) => judge_row(rt, line, &row, tally),
+        Some(row) => judge_row(rt, line.as_str(), &row, tally),
         None => Ok(()),
     }
 }
@@ -90,10 +91,7 @@ fn answer_to(alloc: Global, words: &[Vec<u8>]) -> Result<Vec<u8>, NoMemory> {
     let Some((call, words)) = words.split_first() else {
         return Vec::from_slice(alloc, b"no call");
     };
-    if let Some(answer) = expressions::answer(alloc, call.as_slice(), words)? {
-        return Ok(answer);
-    }
-    match lists::answer(alloc, call.as_slice(), words)? {
+    match expressions::answer(alloc, call.as_slice(), words)? {
         Some(answer) => Ok(answer),
         None => leaf_answer(alloc, call.as_slice(), words),
     }
@@ -122,4 +120,5 @@ fn put(alloc: Global, call: &str, words: &[Vec<u8>], out: &mut Answer) -> bool {
         || schemas::put(alloc, call, words, out)
         || commands::put(alloc, call, words, out)
         || documents::put(alloc, call, words, out)
+        || lists::put(alloc, call, words, out)
 }

@@ -7,21 +7,17 @@ use posting_block::{Block, ListOfPlaces, NumHit, Payload, TagHit, TextHit};
 use std::alloc::Global;
 
 /// Writes the answer of a call, and tells whether it is of this file.
-pub fn put(
-    alloc: Global,
-    call: &str,
-    words: &[Vec<u8>],
-    out: &mut Answer,
-) -> Result<bool, NoMemory> {
-    match call {
-        "spell_numbers" => put_numbers(alloc, words, out)?,
-        "spell_places" => put_places(alloc, words, out)?,
-        "spell_tags" => put_bytes(&tags_of(alloc, words)?, out),
-        "block_ids" => put_ids(&tags_of(alloc, words)?, out),
-        "fill_block" => put_filled(alloc, number_at(words, 0), out)?,
-        _ => return Ok(false),
-    }
-    Ok(true)
+pub fn put(alloc: Global, call: &str, words: &[Vec<u8>], out: &mut Answer) -> bool {
+    let done = match call {
+        "spell_numbers" => put_numbers(alloc, words, out),
+        "spell_places" => put_places(alloc, words, out),
+        "spell_tags" => put_tags(alloc, words, out),
+        "block_ids" => put_ids_of(alloc, words, out),
+        "fill_block" => put_filled(alloc, number_at(words, 0), out),
+        _ => return false,
+    };
+    out.note(done);
+    true
 }
 
 // Adds an entry where a block has room for it and ends below its id.
@@ -67,6 +63,17 @@ fn tags_of(alloc: Global, words: &[Vec<u8>]) -> Result<Block<TagHit>, NoMemory> 
         push(&mut block, number(word.as_slice()), &TagHit {})?;
     }
     Ok(block)
+}
+
+// The bytes of ids alone.
+fn put_tags(alloc: Global, words: &[Vec<u8>], out: &mut Answer) -> Result<(), NoMemory> {
+    put_bytes(&tags_of(alloc, words)?, out);
+    Ok(())
+}
+
+fn put_ids_of(alloc: Global, words: &[Vec<u8>], out: &mut Answer) -> Result<(), NoMemory> {
+    put_ids(&tags_of(alloc, words)?, out);
+    Ok(())
 }
 
 // How many ids a block has, and which they are.

@@ -3,27 +3,23 @@ use super::numbers::{parted, put_found, put_list, put_name, put_truth};
 use crate::answer::Answer;
 use crate::arguments::{rest, word};
 use ft_base::NoMemory;
-use inverted_list::Markers;
+use inverted_list::{Marker, Markers};
 use posting_block::{ListOfPlaces, TextHit};
 use std::alloc::Global;
 use term_dict::Terms;
 
 /// Writes the answer of a call, and tells whether it is of this file.
-pub fn put(
-    alloc: Global,
-    call: &str,
-    words: &[Vec<u8>],
-    out: &mut Answer,
-) -> Result<bool, NoMemory> {
+pub fn put(alloc: Global, call: &str, words: &[Vec<u8>], out: &mut Answer) -> bool {
     let first = word(words, 0);
-    match call {
-        "first_word" => put_next(alloc, first, None, rest(words, 1), out)?,
-        "next_word" => put_next(alloc, first, Some(word(words, 1)), rest(words, 2), out)?,
-        "terms" => put_steps(alloc, words, out)?,
-        "add_word_twice" => put_twice(alloc, first, out)?,
-        _ => return Ok(false),
-    }
-    Ok(true)
+    let done = match call {
+        "first_word" => put_next(alloc, first, None, rest(words, 1), out),
+        "next_word" => put_next(alloc, first, Some(word(words, 1)), rest(words, 2), out),
+        "terms" => put_steps(alloc, words, out),
+        "add_word_twice" => put_twice(alloc, first, out),
+        _ => return false,
+    };
+    out.note(done);
+    true
 }
 
 // Adds a word's first entry, where it has none.
@@ -82,16 +78,24 @@ fn put_steps(alloc: Global, words: &[Vec<u8>], out: &mut Answer) -> Result<(), N
 fn put_step(terms: &mut Terms, verb: &[u8], name: &[u8], out: &mut Answer) {
     let verb = std::str::from_utf8(verb).unwrap_or("");
     match verb {
-        "list" => {
-            let list = terms.list(name).map(|list| (list.marker(), list.len()));
-            put_list(list, out);
-        }
+        "list" => put_list(told(terms, name), out),
         "count" => put_found(Some(terms.len() as u64), out),
         "entries" => put_found(terms.entries(), out),
-        "take" => put_found(terms.take_list(name).map(|list| list.len()), out),
+        "take" => put_found(taken(terms, name), out),
         "drop" => put_truth(terms.drop_empty(name), out),
         _ => {}
     }
+}
+
+// The marker of a word's list, and how many entries it has.
+fn told(terms: &Terms, word: &[u8]) -> Option<(Marker, u64)> {
+    let list = terms.list(word)?;
+    Some((list.marker(), list.len()))
+}
+
+// Takes a word's list out, and answers how many entries it had.
+fn taken(terms: &mut Terms, word: &[u8]) -> Option<u64> {
+    Some(terms.take_list(word)?.len())
 }
 
 // How many entries a word has after a second one, and then after its list was put back.

@@ -4,7 +4,7 @@ ghost use Rattle.std.specs.Prelude.{◌≡◌, ◌<◌, ◌≤◌, IfOk, IfSome,
 ghost use Rattle.ft_meaning.specs.Meaning.{ValuesFit};
 ghost use Rattle.ft_index.specs.Markers.{AreBefore};
 
-use super::numbers::{number, parted, put_number};
+use super::numbers::{number, number_at, parted, put_number};
 use crate::answer::Answer;
 use crate::arguments::{rest, word};
 use ft_base::{
@@ -21,30 +21,28 @@ use std::marker::Brand;
 use std::sync::ledger::{Blank, Ledger};
 
 /// Writes the answer of a call, and tells whether it is of this file.
-pub fn put(
+pub fn put(alloc: Global, call: &str, words: &[Vec<u8>], out: &mut Answer) -> bool {
+    let done = match call {
+        "plan_depth" => put_planned(alloc, words, false, out),
+        "plan_parts" => put_planned(alloc, words, true, out),
+        "plan_hints" => put_hints(alloc, words, out),
+        _ => return false,
+    };
+    out.note(done);
+    true
+}
+
+fn put_planned(
     alloc: Global,
-    call: &str,
     words: &[Vec<u8>],
+    by_parts: bool,
     out: &mut Answer,
-) -> Result<bool, NoMemory> {
-    if call == "plan_hints" {
-        put_hints(
-            alloc,
-            number(word(words, 0)),
-            word(words, 1),
-            rest(words, 2),
-            out,
-        )?;
-        return Ok(true);
-    }
-    if call != "plan_depth" && call != "plan_parts" {
-        return Ok(false);
-    }
+) -> Result<(), NoMemory> {
     match planned(alloc, word(words, 0), rest(words, 1))? {
-        Some(iter) => put_plan(&iter, call == "plan_parts", out),
+        Some(iter) => put_plan(&iter, by_parts, out),
         None => out.put(b"no query"),
     }
-    Ok(true)
+    Ok(())
 }
 
 // `plan_parts`: the parts that all have to hold, in the order in which they are asked. `plan_depth`: how many unions lie
@@ -248,25 +246,33 @@ fn put_leaf(leaf: &Leaf, out: &mut Answer) {
 }
 
 // `plan_hints`: the lists of a plan's leaves, each with the number of the block in which it is to be opened behind an id.
-fn put_hints(
+fn put_hints(alloc: Global, words: &[Vec<u8>], out: &mut Answer) -> Result<(), NoMemory> {
+    match filled(alloc, rest(words, 2))? {
+        Some(index) => put_hints_over(alloc, &index, number_at(words, 0), word(words, 1), out),
+        None => Ok(()),
+    }
+}
+
+fn put_hints_over(
     alloc: Global,
+    index: &FtIndex,
     after: u64,
     text: &[u8],
-    documents: &[Vec<u8>],
     out: &mut Answer,
 ) -> Result<(), NoMemory> {
-    let Some(index) = filled(alloc, documents)? else {
-        return Ok(());
-    };
-    let Some(iter) = plan_over(alloc, &index, text)? else {
-        return Ok(());
-    };
-    let hints = hints_of::<Brand>(alloc, &index, &iter, after, Blank::new(1))?;
-    drop(iter);
+    if let Some(iter) = plan_over(alloc, index, text)? {
+        put_each(
+            &hints_of::<Brand>(alloc, index, &iter, after, Blank::new(1))?,
+            out,
+        );
+    }
+    Ok(())
+}
+
+fn put_each(hints: &Hints, out: &mut Answer) {
     for hint in hints.0.as_slice() {
         put_hint(hint, out);
     }
-    Ok(())
 }
 
 fn hints_of<L: Ledger>(

@@ -1,5 +1,6 @@
 //! Places of a word, and places in one posting list.
-ghost use Rattle.std.specs.Prelude.{◌≡◌, ◌<◌, IfSome};
+ghost use Rattle.std.specs.Prelude.{◌≡◌, ◌<◌, IfSome, IsSome};
+ghost use Rattle.inverted_list.specs.Listing.{hit_of};
 ghost use Rattle.inverted_list.specs.Places.{IsSound};
 
 use super::numbers::{number, number_at, put_found, put_marker, put_number};
@@ -13,21 +14,20 @@ use std::marker::Brand;
 use std::sync::ledger::{Blank, Ledger};
 
 /// Writes the answer of a call, and tells whether it is of this file.
-pub fn put(
-    alloc: Global,
-    call: &str,
-    words: &[Vec<u8>],
-    out: &mut Answer,
-) -> Result<bool, NoMemory> {
-    match call {
-        "push_places" => put_pushed(alloc, words, out)?,
-        "take_places" => put_taken(alloc, words, out)?,
-        "walk" => put_walk(alloc, words, out)?,
-        "walk_evens" => put_walk_of_evens(alloc, words, out)?,
-        "take_markers" => put_markers(number_at(words, 0), number_at(words, 1), out),
-        _ => return Ok(false),
-    }
-    Ok(true)
+pub fn put(alloc: Global, call: &str, words: &[Vec<u8>], out: &mut Answer) -> bool {
+    let done = match call {
+        "push_places" => put_pushed(alloc, words, out),
+        "take_places" => put_taken(alloc, words, out),
+        "walk" => put_walk(alloc, words, out),
+        "walk_evens" => put_walk_of_evens(alloc, words, out),
+        "take_markers" => {
+            put_markers(number_at(words, 0), number_at(words, 1), out);
+            Ok(())
+        }
+        _ => return false,
+    };
+    out.note(done);
+    true
 }
 
 // How many places there are, and their codes.
@@ -64,7 +64,8 @@ fn put_walk(alloc: Global, words: &[Vec<u8>], out: &mut Answer) -> Result<(), No
         ids.push(number(word.as_slice()))?;
     }
     let list = list_of(alloc, ids.as_slice())?;
-    put_between(&list, number_at(words, 0), number_at(words, 1), out)
+    put_between(&list, number_at(words, 0), number_at(words, 1), out);
+    Ok(())
 }
 
 // The same in the list of so many even ids from 2 on.
@@ -74,19 +75,14 @@ fn put_walk_of_evens(alloc: Global, words: &[Vec<u8>], out: &mut Answer) -> Resu
         ids.push(2 * i + 2)?;
     }
     let list = list_of(alloc, ids.as_slice())?;
-    put_between(&list, number_at(words, 0), number_at(words, 1), out)
+    put_between(&list, number_at(words, 0), number_at(words, 1), out);
+    Ok(())
 }
 
-fn put_between(
-    list: &List<NumHit>,
-    after: u64,
-    from: u64,
-    out: &mut Answer,
-) -> Result<(), NoMemory> {
-    if from <= after {
-        return Ok(());
+fn put_between(list: &List<NumHit>, after: u64, from: u64, out: &mut Answer) {
+    if after < from {
+        put_places::<Brand>(list, after, from, Blank::new(1), out);
     }
-    put_places::<Brand>(list, after, from, Blank::new(1), out)
 }
 
 // The list of the ids that rise.
@@ -108,13 +104,7 @@ fn list_of(alloc: Global, ids: &[u64]) -> Result<List<NumHit>, NoMemory> {
 }
 
 // A place is opened with a hint of another list, and then with itself as the hint.
-fn put_places<L: Ledger>(
-    list: &List<NumHit>,
-    after: u64,
-    from: u64,
-    blank: Blank,
-    out: &mut Answer,
-) -> Result<(), NoMemory>
+fn put_places<L: Ledger>(list: &List<NumHit>, after: u64, from: u64, blank: Blank, out: &mut Answer)
     requires name { blank.name ≡ L.name }
     requires parts { blank.parts ≡ L.parts }
     requires some { 0 < L.parts }
@@ -128,11 +118,19 @@ fn put_places<L: Ledger>(
     out.put(b",");
     put_found(found, out);
     if let Some(id) = found {
-        out.put(b" with ");
-        out.put_int(list.hit(id)?.value);
+        put_value(list, id, out);
     }
     put_place(&place, out);
-    Ok(())
+}
+
+fn put_value(list: &List<NumHit>, id: u64, out: &mut Answer)
+    requires { IsSome (hit_of id list.now) }
+{
+    out.put(b" with ");
+    match list.hit(id) {
+        Ok(hit) => out.put_int(hit.value),
+        Err(fault) => out.note(Err(fault)),
+    }
 }
 
 // A place of another list.

@@ -8,21 +8,17 @@ use numeric_ranges::Ranges;
 use std::alloc::Global;
 
 /// Writes the answer of a call, and tells whether it is of this file.
-pub fn put(
-    alloc: Global,
-    call: &str,
-    words: &[Vec<u8>],
-    out: &mut Answer,
-) -> Result<bool, NoMemory> {
-    match call {
-        "ranges" => put_shape(alloc, words, out)?,
-        "range_entries" => put_entries(alloc, words, out)?,
-        "ranges_between" => put_between(alloc, words, out)?,
-        "range_at" => put_range(alloc, words, out)?,
-        "hand_out_ranges" => put_handed_out(alloc, words, out)?,
-        _ => return Ok(false),
-    }
-    Ok(true)
+pub fn put(alloc: Global, call: &str, words: &[Vec<u8>], out: &mut Answer) -> bool {
+    let done = match call {
+        "ranges" => put_shape(alloc, words, out),
+        "range_entries" => put_entries(alloc, words, out),
+        "ranges_between" => put_between(alloc, words, out),
+        "range_at" => put_range(alloc, words, out),
+        "hand_out_ranges" => put_handed_out(alloc, words, out),
+        _ => return false,
+    };
+    out.note(done);
+    true
 }
 
 // The ranges of the values.

@@ -26,15 +26,16 @@ struct Documents {
 }
 
 /// Writes the answer of a call, and tells whether it is of this file.
-pub fn put(
-    alloc: Global,
-    call: &str,
-    words: &[Vec<u8>],
-    out: &mut Answer,
-) -> Result<bool, NoMemory> {
+pub fn put(alloc: Global, call: &str, words: &[Vec<u8>], out: &mut Answer) -> bool {
     if call != "table" {
-        return Ok(false);
+        return false;
     }
+    let done = put_steps(alloc, words, out);
+    out.note(done);
+    true
+}
+
+fn put_steps(alloc: Global, words: &[Vec<u8>], out: &mut Answer) -> Result<(), NoMemory> {
     let mut documents = Documents {
         table: DocTable::new(alloc),
         last: 0,
@@ -45,7 +46,7 @@ pub fn put(
     for word in words {
         step(alloc, word.as_slice(), &mut documents, &mut near, out)?;
     }
-    Ok(true)
+    Ok(())
 }
 
 fn step(

@@ -3,31 +3,27 @@ use super::numbers::{field, parted, put_found, put_list, put_name, put_truth};
 use crate::answer::Answer;
 use crate::arguments::{rest, word};
 use ft_base::NoMemory;
-use inverted_list::Markers;
+use inverted_list::{Marker, Markers};
 use posting_block::TagHit;
 use std::alloc::Global;
 use term_dict::TagLists;
 
 /// Writes the answer of a call, and tells whether it is of this file.
-pub fn put(
-    alloc: Global,
-    call: &str,
-    words: &[Vec<u8>],
-    out: &mut Answer,
-) -> Result<bool, NoMemory> {
+pub fn put(alloc: Global, call: &str, words: &[Vec<u8>], out: &mut Answer) -> bool {
     let of = field(word(words, 0));
     let second = word(words, 1);
-    match call {
-        "first_tag" => put_next(alloc, of, second, None, rest(words, 2), out)?,
+    let done = match call {
+        "first_tag" => put_next(alloc, of, second, None, rest(words, 2), out),
         "next_tag" => {
             let after = Some(word(words, 2));
-            put_next(alloc, of, second, after, rest(words, 3), out)?;
+            put_next(alloc, of, second, after, rest(words, 3), out)
         }
-        "tags" => put_steps(alloc, words, out)?,
-        "add_tag_twice" => put_twice(alloc, of, second, out)?,
-        _ => return Ok(false),
-    }
-    Ok(true)
+        "tags" => put_steps(alloc, words, out),
+        "add_tag_twice" => put_twice(alloc, of, second, out),
+        _ => return false,
+    };
+    out.note(done);
+    true
 }
 
 // Adds the first entry of a field's tag, where it has none.
@@ -85,16 +81,24 @@ fn put_step(lists: &mut TagLists, verb: &[u8], name: &[u8], out: &mut Answer) {
     let of = field(of);
     let verb = std::str::from_utf8(verb).unwrap_or("");
     match verb {
-        "list" => {
-            let list = lists.list(of, tag).map(|list| (list.marker(), list.len()));
-            put_list(list, out);
-        }
+        "list" => put_list(told(lists, of, tag), out),
         "count" => put_found(Some(lists.len() as u64), out),
         "entries" => put_found(lists.entries(), out),
-        "take" => put_found(lists.take_list(of, tag).map(|list| list.len()), out),
+        "take" => put_found(taken(lists, of, tag), out),
         "drop" => put_truth(lists.drop_empty(of, tag), out),
         _ => {}
     }
+}
+
+// The marker of a tag's list, and how many entries it has.
+fn told(lists: &TagLists, of: u16, tag: &[u8]) -> Option<(Marker, u64)> {
+    let list = lists.list(of, tag)?;
+    Some((list.marker(), list.len()))
+}
+
+// Takes a tag's list out, and answers how many entries it had.
+fn taken(lists: &mut TagLists, of: u16, tag: &[u8]) -> Option<u64> {
+    Some(lists.take_list(of, tag)?.len())
 }
 
 // How many entries a tag has after a second one, and then after its list was put back.

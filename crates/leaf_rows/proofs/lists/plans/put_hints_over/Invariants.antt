@@ -1,4 +1,4 @@
-use Rattle.leaf_rows.proofs.lists.plans.put_hints.Given as goal
+use Rattle.leaf_rows.proofs.lists.plans.put_hints_over.Given as goal
 
 -- what hints cost is counted in a ledger of its own
 abbrev pub ghosts-hints_of : goal.ghosts-hints_of
