@@ -50,7 +50,7 @@ impl Drop for Step {
 }
 
 /// REDUCE: what is made of a group's values of a property, and the name of its cell.
-#[derive(Debug, Drop)]
+#[derive(Drop)]
 pub struct Reducer {
     pub kind: ReduceKind,
     pub of: Option<Bytes>,
@@ -58,7 +58,7 @@ pub struct Reducer {
 }
 
 /// Which reducer.
-#[derive(Clone, Copy, Debug)]
+#[derive(Clone, Copy)]
 pub enum ReduceKind {
     Count,
     CountDistinct,
@@ -70,14 +70,13 @@ pub enum ReduceKind {
 }
 
 /// A property that rows are put in order by.
-#[derive(Debug, Drop)]
+#[derive(Drop)]
 pub struct SortKey {
     pub name: Bytes,
     pub descending: bool,
 }
 
 /// LOAD: the properties that have cells in a row from the start.
-#[derive(Debug)]
 pub enum Load {
     Nothing,
     Fields(ListOf<Bytes>),

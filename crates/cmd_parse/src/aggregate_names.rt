@@ -8,7 +8,7 @@ use agg_pipeline::ReduceKind;
 use ft_base::is_name;
 
 /// A part of FT.AGGREGATE behind the index and the query.
-#[derive(Clone, Copy, Debug, PartialEq, Eq)]
+#[derive(Clone, Copy)]
 pub enum PartName {
     Verbatim,
     Timeout,
@@ -25,7 +25,7 @@ pub enum PartName {
 }
 
 /// What is done with the rows.
-#[derive(Clone, Copy, Debug, PartialEq, Eq)]
+#[derive(Clone, Copy)]
 pub enum StepName {
     Group,
     Sort,
@@ -35,7 +35,7 @@ pub enum StepName {
 }
 
 /// How a property is named.
-#[derive(Clone, Copy, Debug, PartialEq, Eq)]
+#[derive(Clone, Copy)]
 pub enum NameForm {
     /// `@` and a name.
     Property,

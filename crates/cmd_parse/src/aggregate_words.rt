@@ -24,7 +24,7 @@ pub const MAX_IDLE: usize = 2_147_483_647;
 const USUAL_IDLE: usize = 300_000;
 
 /// WITHCURSOR: the rows of a read, and the milliseconds after which the cursor is gone.
-#[derive(Clone, Copy, Debug, PartialEq, Eq)]
+#[derive(Clone, Copy)]
 pub struct CursorSpec {
     pub count: u32,
     pub max_idle: u32,

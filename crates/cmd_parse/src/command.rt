@@ -7,12 +7,12 @@ use crate::search::SearchSpec;
 use ft_base::{Boxed, Field, IndexDef, ListOf, NoMemory, Words};
 use ft_schema::SchemaFault;
 use std::fmt;
-use std::fmt::{Display, Formatter, Write};
+use std::fmt::{Debug, Display, Formatter, Write};
 use thiserror::Error;
 
 /// A command of the connection, of hashes, of keys or of indexes. `TypeOf` is TYPE; the last four are
 /// FT.DROPINDEX, FT._LIST, FT.INFO and FT.TAGVALS.
-#[derive(Clone, Copy, Debug, PartialEq, Eq)]
+#[derive(Clone, Copy, Debug)]
 pub enum Verb {
     Ping,
     Echo,
@@ -74,7 +74,7 @@ pub enum Command<'a> {
 }
 
 /// Why the words ask nothing.
-#[derive(Clone, Copy, Debug, PartialEq, Eq, Error)]
+#[derive(Clone, Copy, Error)]
 pub enum CmdFault {
     Unknown,
     Arity,
@@ -92,27 +92,42 @@ pub enum CmdFault {
     NoMemory,
 }
 
-impl Display for CmdFault {
-    fn fmt<W: Write>(&self, f: &mut Formatter<W>) -> fmt::Result {
+impl CmdFault {
+    fn cause(&self) -> &'static str {
         match self {
-            Self::Unknown => f.write_str("no command has this name"),
-            Self::Arity => f.write_str("the command does not have this number of words"),
-            Self::Syntax { at } => placed(f, *at, "fits no form of the command"),
-            Self::Limit { at } => placed(f, *at, "exceeds a limit"),
-            Self::OutOfScope { at } => placed(f, *at, "asks for what is not supported"),
-            Self::NotInteger => f.write_str(
-                "the number of SELECT or the increment of HINCRBY is not a whole number of 64 bits",
-            ),
-            Self::BadDb => f.write_str("the only data base is 0"),
-            Self::NotBuilt => f.write_str("the command is not built"),
-            Self::Schema(fault) => fault.fmt(f),
-            Self::NoMemory => f.write_str("out of memory"),
+            Self::Unknown => "no command has this name",
+            Self::Arity => "the command does not have this number of words",
+            Self::Syntax { .. } => "fits no form of the command",
+            Self::Limit { .. } => "exceeds a limit",
+            Self::OutOfScope { .. } => "asks for what is not supported",
+            Self::NotInteger => {
+                "the number of SELECT or the increment of HINCRBY is not a whole number of 64 bits"
+            }
+            Self::BadDb => "the only data base is 0",
+            Self::NotBuilt => "the command is not built",
+            Self::Schema(_) => "the words are no schema",
+            Self::NoMemory => "out of memory",
         }
     }
 }
 
-fn placed<W: Write>(f: &mut Formatter<W>, at: u32, what: &str) -> fmt::Result {
-    write!(f, "word {at} {what}")
+impl Display for CmdFault {
+    fn fmt<W: Write>(&self, f: &mut Formatter<W>) -> fmt::Result {
+        let cause = self.cause();
+        match self {
+            Self::Syntax { at } | Self::Limit { at } | Self::OutOfScope { at } => {
+                write!(f, "word {at} {cause}")
+            }
+            Self::Schema(fault) => write!(f, "{cause}: {fault}"),
+            _ => f.write_str(cause),
+        }
+    }
+}
+
+impl Debug for CmdFault {
+    fn fmt<W: Write>(&self, f: &mut Formatter<W>) -> fmt::Result {
+        Display::fmt(self, f)
+    }
 }
 
 impl From<NoMemory> for CmdFault {

@@ -18,7 +18,7 @@ use crate::stop::{Cause, Stop};
 use ft_base::{Words, is_name};
 
 /// The word behind FT.CURSOR.
-#[derive(Clone, Copy, Debug, PartialEq, Eq)]
+#[derive(Clone, Copy)]
 pub enum Subcommand {
     Read,
     Del,

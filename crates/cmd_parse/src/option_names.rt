@@ -5,7 +5,7 @@ ghost use Rattle.cmd_parse.specs.OptionNames.{is_left_out, option_of};
 use ft_base::is_name;
 
 /// An option of FT.SEARCH.
-#[derive(Clone, Copy, Debug, PartialEq, Eq)]
+#[derive(Clone, Copy)]
 pub enum SearchOption {
     NoContent,
     Verbatim,

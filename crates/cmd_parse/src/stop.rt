@@ -5,7 +5,7 @@ ghost use Rattle.cmd_parse.specs.declared.stop.Stop.TheVariants as stops;
 use ft_base::NoMemory;
 
 /// What is wrong with a word.
-#[derive(Clone, Copy, Debug, PartialEq, Eq)]
+#[derive(Clone, Copy)]
 pub enum Cause {
     Syntax,
     Limit,
@@ -13,7 +13,7 @@ pub enum Cause {
 }
 
 /// Why reading stops: at a word, with the number of words from it on, or out of memory.
-#[derive(Clone, Copy, Debug, PartialEq, Eq)]
+#[derive(Clone, Copy)]
 pub enum Stop {
     Fault { cause: Cause, left: usize },
     NoMemory,

@@ -8,7 +8,7 @@ use ft_base::NoMemory;
 use thiserror::Error;
 
 /// The first fault of a text, at the offset of a byte.
-#[derive(Clone, Copy, Debug, PartialEq, Eq, Error)]
+#[derive(Clone, Copy, Debug, Error)]
 pub enum ExprFault {
     /// The text goes on so that no expression begins like it, or it ends where none does.
     #[error("syntax error at offset {at}")]

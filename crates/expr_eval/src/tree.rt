@@ -2,7 +2,7 @@
 use ft_base::{Boxed, Bytes};
 
 /// A function of one value.
-#[derive(Clone, Copy, Debug, PartialEq, Eq)]
+#[derive(Clone, Copy)]
 pub enum Func {
     Lower,
     Upper,
@@ -12,7 +12,7 @@ pub enum Func {
 }
 
 /// What stands between two operands.
-#[derive(Clone, Copy, Debug, PartialEq, Eq)]
+#[derive(Clone, Copy)]
 pub enum Op {
     Or,
     And,

@@ -6,7 +6,7 @@ use crate::numbers::number;
 use ft_base::is_name;
 
 /// What a text says as an end of an interval.
-#[derive(Clone, Copy, Debug, PartialEq, Eq)]
+#[derive(Clone, Copy)]
 pub enum Bound {
     /// The least number of 64 bits.
     Least,

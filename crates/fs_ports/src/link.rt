@@ -6,7 +6,7 @@ ghost use Rattle.std.specs.Io.KnownBytes.{Appends, Keeps, ReadConsumes, WriteApp
 ghost use Rattle.fs_ports.specs.Causes.{HasCause, WritesFront};
 
 /// A call of the outside that failed.
-#[derive(Clone, Copy, Debug, PartialEq, Eq)]
+#[derive(Clone, Copy, PartialEq, Eq)]
 pub struct Failed;
 
 /// A stream of bytes in both directions.

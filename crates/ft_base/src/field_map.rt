@@ -12,7 +12,7 @@ use std::alloc::Global;
 use std::marker::Model;
 
 /// The fields of a hash and their values, which a contract sees as a list of pairs.
-#[derive(Debug, Drop)]
+#[derive(Drop)]
 pub struct FieldMap {
     fields: IndexMap<Vec<u8>, Bytes>,
 }

@@ -6,7 +6,7 @@ use ft_base::{Doc, IndexDef};
 use ft_meaning::{failed, member};
 
 /// Whether a document is one for an index.
-#[derive(Clone, Copy, Debug, PartialEq, Eq)]
+#[derive(Clone, Copy)]
 pub enum Fit {
     /// It is a member.
     Member,
@@ -17,7 +17,7 @@ pub enum Fit {
 }
 
 /// A document that was prepared: a member has its postings in the lists, and is not live yet.
-#[derive(Clone, Copy, Debug, PartialEq, Eq)]
+#[derive(Clone, Copy)]
 pub struct Ready {
     pub id: u64,
     pub fit: Fit,

@@ -11,7 +11,7 @@ use thiserror::Error;
 
 /// The first fault of a schema's words, at the number of its word. The command word is 0, and a word
 /// that is missing stands at the number of words.
-#[derive(Clone, Copy, PartialEq, Eq, Error)]
+#[derive(Clone, Copy, Error)]
 pub enum SchemaFault {
     BadOption { at: u32 },
     BadKind { at: u32 },
@@ -22,40 +22,46 @@ pub enum SchemaFault {
     NoMemory,
 }
 
-impl Debug for SchemaFault {
-    fn fmt<W: Write>(&self, f: &mut Formatter<W>) -> fmt::Result {
-        match *self {
-            SchemaFault::BadOption { at } => debug_at(f, "BadOption", at),
-            SchemaFault::BadKind { at } => debug_at(f, "BadKind", at),
-            SchemaFault::DuplicateField { at } => debug_at(f, "DuplicateField", at),
-            SchemaFault::TooManyFields { at } => debug_at(f, "TooManyFields", at),
-            SchemaFault::BadNumber { at } => debug_at(f, "BadNumber", at),
-            SchemaFault::OutOfScope { at } => debug_at(f, "OutOfScope", at),
-            SchemaFault::NoMemory => f.write_str("NoMemory"),
+impl SchemaFault {
+    fn cause(&self) -> &'static str {
+        match self {
+            SchemaFault::BadOption { .. } => "bad option",
+            SchemaFault::BadKind { .. } => "bad field type",
+            SchemaFault::DuplicateField { .. } => "duplicate field",
+            SchemaFault::TooManyFields { .. } => "too many fields",
+            SchemaFault::BadNumber { .. } => "bad number",
+            SchemaFault::OutOfScope { .. } => "not supported",
+            SchemaFault::NoMemory => "out of memory",
         }
     }
-}
 
-fn debug_at<W: Write>(f: &mut Formatter<W>, name: &str, at: u32) -> fmt::Result {
-    f.debug_struct(name).field("at", &at).finish()
+    fn word(&self) -> Option<u32> {
+        match *self {
+            SchemaFault::BadOption { at }
+            | SchemaFault::BadKind { at }
+            | SchemaFault::DuplicateField { at }
+            | SchemaFault::TooManyFields { at }
+            | SchemaFault::BadNumber { at }
+            | SchemaFault::OutOfScope { at } => Some(at),
+            SchemaFault::NoMemory => None,
+        }
+    }
 }
 
 impl Display for SchemaFault {
     fn fmt<W: Write>(&self, f: &mut Formatter<W>) -> fmt::Result {
-        match *self {
-            SchemaFault::BadOption { at } => placed(f, "bad option", at),
-            SchemaFault::BadKind { at } => placed(f, "bad field type", at),
-            SchemaFault::DuplicateField { at } => placed(f, "duplicate field", at),
-            SchemaFault::TooManyFields { at } => placed(f, "too many fields", at),
-            SchemaFault::BadNumber { at } => placed(f, "bad number", at),
-            SchemaFault::OutOfScope { at } => placed(f, "not supported", at),
-            SchemaFault::NoMemory => f.write_str("out of memory"),
+        let cause = self.cause();
+        match self.word() {
+            Some(at) => write!(f, "{cause} at word {at}"),
+            None => f.write_str(cause),
         }
     }
 }
 
-fn placed<W: Write>(f: &mut Formatter<W>, cause: &str, at: u32) -> fmt::Result {
-    write!(f, "{cause} at word {at}")
+impl Debug for SchemaFault {
+    fn fmt<W: Write>(&self, f: &mut Formatter<W>) -> fmt::Result {
+        Display::fmt(self, f)
+    }
 }
 
 impl From<NoMemory> for SchemaFault {
@@ -67,7 +73,7 @@ impl From<NoMemory> for SchemaFault {
 }
 
 /// What is wrong with a word.
-#[derive(Clone, Copy, Debug, PartialEq, Eq)]
+#[derive(Clone, Copy)]
 pub enum Cause {
     BadOption,
     BadKind,
@@ -78,7 +84,7 @@ pub enum Cause {
 }
 
 /// Why reading stops: at a word, with the number of words from it on, or out of memory.
-#[derive(Clone, Copy, Debug, PartialEq, Eq)]
+#[derive(Clone, Copy)]
 pub enum Stop {
     Fault { cause: Cause, left: usize },
     NoMemory,

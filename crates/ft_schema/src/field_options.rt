@@ -11,7 +11,7 @@ use crate::reading::{fault, first, weight};
 use ft_base::{FieldKind, Words};
 
 /// The options that were there so far.
-#[derive(Clone, Copy, Debug, PartialEq, Eq)]
+#[derive(Clone, Copy)]
 pub struct FieldOptions {
     pub no_stem: bool,
     pub weight: bool,

@@ -12,7 +12,7 @@ use ft_base::{Bytes, ListOf, Words};
 use std::alloc::Global;
 
 /// The options that were there so far.
-#[derive(Debug, Drop)]
+#[derive(Drop)]
 pub struct IndexOptions {
     pub on_hash: bool,
     pub prefixes: Option<ListOf<Bytes>>,

@@ -7,7 +7,7 @@ ghost use Rattle.ft_schema.specs.Names.{is_left_out_field_option, kind_of};
 use ft_base::FieldKind;
 
 /// An option of an index.
-#[derive(Clone, Copy, Debug, PartialEq, Eq)]
+#[derive(Clone, Copy)]
 pub enum IndexOption {
     On,
     Prefix,
@@ -63,7 +63,7 @@ fn is_left_out_option(word: &[u8]) -> bool
 }
 
 /// What the word for a field's kind names.
-#[derive(Clone, Copy, Debug, PartialEq, Eq)]
+#[derive(Clone, Copy)]
 pub enum Kind {
     Text,
     Tag,
@@ -96,7 +96,7 @@ pub fn kind_of(word: &[u8]) -> Kind
 }
 
 /// An option of a field.
-#[derive(Clone, Copy, Debug, PartialEq, Eq)]
+#[derive(Clone, Copy)]
 pub enum FieldOption {
     NoStem,
     Weight,

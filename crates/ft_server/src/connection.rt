@@ -25,7 +25,7 @@ const READ_ROOM: usize = 65_536;
 const REPLY_ROOM: usize = 65_536;
 
 /// How a connection ended.
-#[derive(Clone, Copy, Debug, PartialEq, Eq)]
+#[derive(Clone, Copy, PartialEq, Eq)]
 pub enum End {
     /// The link ended behind a whole request.
     Closed,

@@ -6,7 +6,7 @@ ghost use Rattle.ft_server.specs.Status.{status_of};
 use crate::connection::End;
 
 /// How a run of the program ended.
-#[derive(Clone, Copy, Debug, PartialEq, Eq)]
+#[derive(Clone, Copy, PartialEq, Eq)]
 pub enum Exit {
     /// The input ended behind a whole request or at QUIT, and every reply was written. All workers ended at the end of
     /// their doors.

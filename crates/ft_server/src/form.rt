@@ -13,7 +13,7 @@ const LAST_PORT: u16 = 65_535;
 const MOST_WORKERS: u16 = 64;
 
 /// A form of the command line.
-#[derive(Clone, Copy, Debug, PartialEq, Eq)]
+#[derive(Clone, Copy)]
 pub enum Form {
     /// Requests from standard input, replies to standard output.
     Script,
@@ -22,7 +22,7 @@ pub enum Form {
 }
 
 /// Why words give no form.
-#[derive(Clone, Copy, Debug, PartialEq, Eq)]
+#[derive(Clone, Copy)]
 pub enum WordFault {
     /// They are none.
     Usage,

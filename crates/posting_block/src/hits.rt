@@ -14,17 +14,17 @@ use crate::zigzag::{code_of, value_of};
 use std::alloc::{AllocError as NoMemory, Global};
 
 /// A posting of a word says where the word stands.
-#[derive(Debug, Drop)]
+#[derive(Drop)]
 pub struct TextHit {
     pub places: ListOfPlaces,
 }
 
 /// A posting of a tag says nothing beside its id.
-#[derive(Debug, Drop)]
+#[derive(Drop)]
 pub struct TagHit {}
 
 /// A posting of a number says the number.
-#[derive(Debug, Drop)]
+#[derive(Drop)]
 pub struct NumHit {
     pub value: i64,
 }

@@ -6,7 +6,7 @@ use thiserror::Error;
 
 /// A fault of a text, at the offset of a byte. Of several faults of a text the one with the least offset is answered,
 /// and of several at one offset the one that stands first here.
-#[derive(Clone, Copy, PartialEq, Eq, Error)]
+#[derive(Clone, Copy, Error)]
 pub enum QueryFault {
     /// The text goes on so that no sentence of the language begins like it, or it ends where none does.
     Syntax { at: usize },
@@ -23,40 +23,46 @@ pub enum QueryFault {
     NoMemory,
 }
 
-impl Debug for QueryFault {
-    fn fmt<W: Write>(&self, f: &mut Formatter<W>) -> fmt::Result {
-        match *self {
-            Self::Syntax { at } => debug_at(f, "Syntax", at),
-            Self::UnknownField { at } => debug_at(f, "UnknownField", at),
-            Self::WrongKind { at } => debug_at(f, "WrongKind", at),
-            Self::NoParam { at } => debug_at(f, "NoParam", at),
-            Self::TooDeep { at } => debug_at(f, "TooDeep", at),
-            Self::OutOfScope { at } => debug_at(f, "OutOfScope", at),
-            Self::NoMemory => f.write_str("NoMemory"),
+impl QueryFault {
+    fn cause(&self) -> &'static str {
+        match self {
+            Self::Syntax { .. } => "syntax error",
+            Self::UnknownField { .. } => "unknown field",
+            Self::WrongKind { .. } => "wrong field kind",
+            Self::NoParam { .. } => "no such parameter",
+            Self::TooDeep { .. } => "query too deep",
+            Self::OutOfScope { .. } => "not supported",
+            Self::NoMemory => "out of memory",
         }
     }
-}
 
-fn debug_at<W: Write>(f: &mut Formatter<W>, name: &str, at: usize) -> fmt::Result {
-    f.debug_struct(name).field("at", &at).finish()
+    fn offset(&self) -> Option<usize> {
+        match *self {
+            Self::Syntax { at }
+            | Self::UnknownField { at }
+            | Self::WrongKind { at }
+            | Self::NoParam { at }
+            | Self::TooDeep { at }
+            | Self::OutOfScope { at } => Some(at),
+            Self::NoMemory => None,
+        }
+    }
 }
 
 impl Display for QueryFault {
     fn fmt<W: Write>(&self, f: &mut Formatter<W>) -> fmt::Result {
-        match *self {
-            Self::Syntax { at } => placed(f, "syntax error", at),
-            Self::UnknownField { at } => placed(f, "unknown field", at),
-            Self::WrongKind { at } => placed(f, "wrong field kind", at),
-            Self::NoParam { at } => placed(f, "no such parameter", at),
-            Self::TooDeep { at } => placed(f, "query too deep", at),
-            Self::OutOfScope { at } => placed(f, "not supported", at),
-            Self::NoMemory => f.write_str("out of memory"),
+        let cause = self.cause();
+        match self.offset() {
+            Some(at) => write!(f, "{cause} at offset {at}"),
+            None => f.write_str(cause),
         }
     }
 }
 
-fn placed<W: Write>(f: &mut Formatter<W>, cause: &str, at: usize) -> fmt::Result {
-    write!(f, "{cause} at offset {at}")
+impl Debug for QueryFault {
+    fn fmt<W: Write>(&self, f: &mut Formatter<W>) -> fmt::Result {
+        Display::fmt(self, f)
+    }
 }
 
 impl From<NoMemory> for QueryFault {

@@ -6,7 +6,7 @@ use crate::lexeme::{LexKind, Sign};
 
 /// Where a lexeme stands: in the text, there directly behind a colon or an arrow, in brackets, or in
 /// the braces of tags or attributes.
-#[derive(Clone, Copy, Debug, PartialEq, Eq)]
+#[derive(Clone, Copy)]
 pub enum Context {
     Text,
     AfterColon,

@@ -8,7 +8,7 @@ use std::alloc::AllocFailed;
 use thiserror::Error;
 
 /// The first fault of a text from the left, at its byte offset.
-#[derive(Clone, Copy, Debug, PartialEq, Eq, Error)]
+#[derive(Clone, Copy, Debug, Error)]
 pub enum LexFault {
     /// A quote without its end, at its first byte.
     #[error("open quote at byte {at}")]
@@ -29,14 +29,14 @@ impl From<NoMemory> for LexFault {
 }
 
 /// What is wrong with a byte.
-#[derive(Clone, Copy, Debug, PartialEq, Eq)]
+#[derive(Clone, Copy)]
 pub enum Cause {
     OpenQuote,
     LoneEscape,
 }
 
 /// Why reading stops: at a byte, with the number of bytes from it on, or out of memory.
-#[derive(Clone, Copy, Debug, PartialEq, Eq)]
+#[derive(Clone, Copy)]
 pub enum Stop {
     Fault { cause: Cause, left: usize },
     NoMemory,

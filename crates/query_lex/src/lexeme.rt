@@ -1,10 +1,8 @@
 //! What a query's text is made of.
 use ft_base::Bytes;
-use std::fmt;
-use std::fmt::{Debug, Formatter, Write};
 
 /// A lexeme, and the offset of its first byte.
-#[derive(Debug, Drop)]
+#[derive(Drop)]
 pub struct Lexeme {
     pub at: usize,
     pub kind: LexKind,
@@ -47,47 +45,8 @@ impl Drop for LexKind {
     }
 }
 
-impl LexKind {
-    fn name(&self) -> &'static str {
-        match self {
-            LexKind::Word(_) => "Word",
-            LexKind::Prefix(_) => "Prefix",
-            LexKind::Param(_) => "Param",
-            LexKind::ParamPrefix(_) => "ParamPrefix",
-            LexKind::Quote(_) => "Quote",
-            LexKind::Raw(_) => "Raw",
-            LexKind::Tag { .. } => "Tag",
-            LexKind::Foreign(_) => "Foreign",
-            LexKind::Sign(_) => "Sign",
-        }
-    }
-}
-
-impl Debug for LexKind {
-    fn fmt<W: Write>(&self, f: &mut Formatter<W>) -> fmt::Result {
-        match self {
-            LexKind::Word(bytes)
-            | LexKind::Prefix(bytes)
-            | LexKind::Param(bytes)
-            | LexKind::ParamPrefix(bytes)
-            | LexKind::Quote(bytes)
-            | LexKind::Raw(bytes)
-            | LexKind::Foreign(bytes) => f.debug_tuple(self.name()).field(bytes).finish(),
-            LexKind::Tag { text, prefix } => debug_tag(f, text, *prefix),
-            LexKind::Sign(sign) => f.debug_tuple("Sign").field(sign).finish(),
-        }
-    }
-}
-
-fn debug_tag<W: Write>(f: &mut Formatter<W>, text: &Bytes, prefix: bool) -> fmt::Result {
-    f.debug_struct("Tag")
-        .field("text", text)
-        .field("prefix", &prefix)
-        .finish()
-}
-
 /// A lexeme without bytes of its own.
-#[derive(Clone, Copy, Debug, PartialEq, Eq)]
+#[derive(Clone, Copy)]
 pub enum Sign {
     /// `*` alone.
     Star,

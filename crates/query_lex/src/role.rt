@@ -8,7 +8,7 @@ use crate::lexeme::Sign;
 use crate::separators::begins_word;
 
 /// What a byte begins.
-#[derive(Clone, Copy, Debug, PartialEq, Eq)]
+#[derive(Clone, Copy)]
 pub enum Role {
     Word,
     Dollar,

@@ -3,7 +3,7 @@ ghost use Rattle.std.specs.Prelude.{◌≡◌};
 ghost use Rattle.query_lex.specs.Quotes.{plain, escaped};
 
 /// A byte of a text, and whether a backslash before it escapes it.
-#[derive(Clone, Copy, Debug, PartialEq, Eq)]
+#[derive(Clone, Copy)]
 pub struct TextByte {
     pub byte: u8,
     pub escaped: bool,

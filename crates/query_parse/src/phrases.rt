@@ -103,7 +103,12 @@ pub fn arranged(
             if !are_words(parts.as_slice()) {
                 return Ok(query);
             }
-            phrase(alloc, slop, in_order, query.into_parts(alloc).into_vec())
+            phrase(
+                alloc,
+                slop,
+                in_order,
+                query.into_parts().unwrap().into_vec(),
+            )
         }
         _ => Ok(query),
     }
@@ -148,12 +153,12 @@ fn word_in(alloc: Global, part: Query) -> Bytes
     ensures { result ≡ word_in (shape_of part) }
 {
     match &part {
-        Query::Word { .. } => part.into_word(alloc),
+        Query::Word { .. } => part.into_word().unwrap(),
         Query::And(parts) => {
             if parts.len() != 1 {
                 return Bytes::new(alloc);
             }
-            match part.into_parts(alloc).into_vec().pop() {
+            match part.into_parts().unwrap().into_vec().pop() {
                 Some(part) => word_in(alloc, part),
                 None => Bytes::new(alloc),
             }

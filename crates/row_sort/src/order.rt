@@ -9,7 +9,7 @@ use ft_base::Value;
 use std::cmp::Ordering;
 
 /// How rows are ordered by one value.
-#[derive(Clone, Copy, Debug)]
+#[derive(Clone, Copy)]
 pub struct Direction {
     /// Texts fall, and then Nums fall. Null and Lists come last all the same.
     pub descending: bool,

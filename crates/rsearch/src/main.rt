@@ -13,12 +13,14 @@ mod tcp;
 mod tests;
 mod threads;
 
-ghost use Rattle.std.specs.Prelude.{◌≡◌, ◌<◌, IfSome};
+ghost use Rattle.std.specs.Prelude.{◌≡◌, ◌<◌, false, length, IfSome};
+ghost use Rattle.std.specs.List.{All};
 ghost use Rattle.std.specs.Process.{exit_status};
 ghost use Rattle.ft_server.specs.Status.{status_of};
 
+use fs_ports::{Door, Spawner};
 use ft_server::{Exit, Form, read_words, run};
-use making::{make_clocks, make_doors};
+use making::{make_clocks, make_doors, make_pace};
 use sleep_pace::SleepPace;
 use std::alloc::Global;
 use std::env;
@@ -26,12 +28,12 @@ use std::hash::RandomState;
 use std::io::ErrorKind;
 use std::marker::PhantomData;
 use std::process::ExitCode;
-use std::sync::Arc;
-use std::sync::atomic::AtomicBool;
+use std::sync::Wait;
+use std::thread::Threads;
 use std_link::{StdLink, SystemClock};
-use tcp::TcpLink;
+use tcp::{TcpDoor, TcpLink};
 use threads::{ThreadSpawner, start_thread};
-use worker_pool::serve;
+use worker_pool::{Work, serve};
 
 fn main(rt: HostRuntime) -> ExitCode {
     let words = match words_of_the_line(&rt) {
@@ -52,12 +54,6 @@ fn main(rt: HostRuntime) -> ExitCode {
         Ok(doors) => doors,
         Err(exit) => return without_doors(&rt, exit),
     };
-    let Ok(clocks) = make_clocks(&rt, alloc, workers) else {
-        return end(&rt, Exit::NoMemory);
-    };
-    let Ok(stop) = Arc::new(alloc, AtomicBool::new(false)) else {
-        return end(&rt, Exit::NoMemory);
-    };
     let _ = eprintln!(rt; "rsearch: listening on 127.0.0.1:{port}, {workers} workers");
     // The closure has to name the door's type of links, which only its contract speaks of.
     let named: PhantomData<TcpLink> = PhantomData;
@@ -69,9 +65,35 @@ fn main(rt: HostRuntime) -> ExitCode {
         faults: 0,
         of: PhantomData,
     };
-    let pace = SleepPace::new(rt, stop);
-    let (exit, _works) = serve(&rt, alloc, hashing, line, doors, &mut spawner, clocks, pace);
-    end(&rt, exit)
+    end(
+        &rt,
+        serve_doors(rt, alloc, hashing, line, doors, &mut spawner),
+    )
+}
+
+/// Serves what comes in at the doors, each by a thread of its own.
+fn serve_doors<
+    R: Threads + Wait + std::rt::Clock + Sync + Copy + Send + Drop + 'static,
+    S: Spawner<Work<TcpDoor, SystemClock<R>>>,
+>(
+    rt: R,
+    alloc: Global,
+    hashing: RandomState,
+    line: &[String],
+    doors: Vec<TcpDoor>,
+    spawner: &mut S,
+) -> Exit
+    requires some { 0 < length doors.items }
+    requires idle { All (λ door. (⟦<TcpDoor as Door>⟧.at door).out ≡ false) doors.items }
+    requires able { S.able spawner.old }
+{
+    let Ok(clocks) = make_clocks(&rt, alloc, doors.len()) else {
+        return Exit::NoMemory;
+    };
+    let Ok(pace) = make_pace(&rt, alloc) else {
+        return Exit::NoMemory;
+    };
+    serve(&rt, alloc, hashing, line, doors, spawner, clocks, pace).0
 }
 
 /// The words behind the program's name, or how the program ends where they cannot be had.

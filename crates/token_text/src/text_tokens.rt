@@ -8,7 +8,7 @@ use std::marker::Model;
 
 /// The tokens of a text, whose words lie lowered one behind the other in one buffer. A contract sees
 /// them as a list of tokens.
-#[derive(Debug, Drop)]
+#[derive(Drop)]
 pub struct TextTokens {
     bytes: Vec<u8>,
     ends: Vec<u32>,

@@ -11,7 +11,7 @@ use std::alloc::Global;
 
 /// A word of a text, with its place among the words that are no stop words, counted from 1. It is
 /// what a contract sees of a token; `TextTokens` lends the word and keeps no such value.
-#[derive(Debug, Drop)]
+#[derive(Drop)]
 pub struct Token {
     pub place: u32,
     pub word: Bytes,

@@ -1,5 +1,5 @@
 //! The lock: how a pass enters a turn and leaves it, and how passes are split and joined.
-ghost use Rattle.std.specs.Prelude.{◌≡◌, ◌+◌, ◌<◌, true, false, [], ◌++◌, IfOk};
+ghost use Rattle.std.specs.Prelude.{◌≡◌, ◌+◌, ◌<◌, true, false, [], ◌++◌, ◌∷◌, IfOk, Some};
 ghost use Rattle.turn_gate.specs.Log.{StartsWith, OthersSince, longer};
 ghost use Rattle.turn_gate.specs.Steps.{Entered};
 
@@ -53,9 +53,7 @@ impl<S: Chronicle + Drop> Gate<S> {
             × (r.1.caller ≡ 0)) }
     {
         let first = state.first_number();
-        let mut slots = Vec::with_capacity(alloc, 1)?;
-        slots.push_reserved(Some(state));
-        match Table::new(alloc, &[0, 0], slots, &first) {
+        match Table::new(alloc, &[0, 0], one_slot(alloc, state)?, &first) {
             Ok((table, seat)) => {
                 let sleepers = AtomicU32::new(0);
                 Ok((Gate { table, sleepers }, Pass { seat }))
@@ -134,6 +132,15 @@ impl<S: Chronicle + Drop> Gate<S> {
         let Pass { seat: other } = other;
         join_seats(&self.table.shared, &mut pass.seat, other);
     }
+}
+
+/// The slot of a gate's table, with its state.
+fn one_slot<S: Drop>(alloc: Global, state: S) -> Result<Vec<Option<S>>, NoMemory>
+    ensures { IfOk result (λ slots. slots.items ≡ Some state ∷ []) }
+{
+    let mut slots = Vec::with_capacity(alloc, 1)?;
+    slots.push_reserved(Some(state));
+    Ok(slots)
 }
 
 /// Waits until a turn begins.

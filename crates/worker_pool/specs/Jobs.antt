@@ -46,9 +46,9 @@ module _ {D C : Type 0} where
   AreWorkers gate (given ∷ all) (worker ∷ workers) = IsWorker gate given worker × AreWorkers gate all workers
 
   -- A worker with the first of these doors and clocks, and those behind it; none where no door is left.
-  abbrev pub IsNext : GateName → List D → List C → List D → List C → Option (Work D C) → Type 0
-  IsNext gate doors clocks doors' clocks' None = doors ≡ []
-  IsNext gate doors clocks doors' clocks' (Some worker) =
+  abbrev pub IsNextWorker : GateName → List D → List C → List D → List C → Option (Work D C) → Type 0
+  IsNextWorker gate doors clocks doors' clocks' None = doors ≡ []
+  IsNextWorker gate doors clocks doors' clocks' (Some worker) =
       (door : D) × (clock : C) × (doors ≡ door ∷ doors') × (clocks ≡ clock ∷ clocks') × IsWorker gate (door, clock) worker
 
   -- The jobs are a worker for each door with its clock, all of one server that was opened at number 1.

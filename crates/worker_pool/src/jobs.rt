@@ -4,7 +4,7 @@ ghost use Rattle.std.specs.Arc.{arc_value};
 ghost use Rattle.std.specs.List.{zip};
 ghost use Rattle.std.specs.Vec.Iter.{into_iter_items};
 ghost use Rattle.ft_server.specs.Passes.{IsOf};
-ghost use Rattle.worker_pool.specs.Jobs.{AreWorkers, IsNext, IsWorker, Jobs};
+ghost use Rattle.worker_pool.specs.Jobs.{AreWorkers, IsNextWorker, IsWorker, Jobs};
 
 use crate::work::{Work, Worked};
 use ft_base::NoMemory;
@@ -112,7 +112,7 @@ fn next_worker<D: Drop, C: Drop>(
     requires equal { length (into_iter_items doors.old) ≡ length (into_iter_items clocks.old) }
     ensures of { IsOf (arc_value server.now) pass.new }
     ensures seen { pass.new.seen ≡ [] }
-    ensures next { IfOk result (IsNext (arc_value server.now) (into_iter_items doors.old) (into_iter_items clocks.old)
+    ensures next { IfOk result (IsNextWorker (arc_value server.now) (into_iter_items doors.old) (into_iter_items clocks.old)
         (into_iter_items doors.new) (into_iter_items clocks.new)) }
 {
     let Some(door) = doors.next() else {
