@@ -14,7 +14,7 @@ import subprocess
 import sys
 
 # What the gate may cost, in what it is made of.
-MOST_EDITS = 40
+MOST_EDITS = 24
 MOST_EDITS_EACH = 4
 MOST_TESTS = 60
 

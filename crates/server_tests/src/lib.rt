@@ -31,14 +31,20 @@ mod passes;
 #[cfg(test)]
 mod plain;
 #[cfg(test)]
+mod ports;
+#[cfg(test)]
 mod queries;
 #[cfg(test)]
 mod rows;
 #[cfg(test)]
 mod session;
 #[cfg(test)]
+mod stored;
+#[cfg(test)]
 mod turns;
 #[cfg(test)]
 mod wide;
+#[cfg(test)]
+mod wire;
 #[cfg(test)]
 mod workers;

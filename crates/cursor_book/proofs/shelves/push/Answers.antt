@@ -1,4 +1,5 @@
-use Rattle.std.proofs.Common.{◌∙◌, sym, ap, List}
+use Rattle.std.proofs.Common.{◌∙◌, sym, ap, List, arith}
+use Rattle.std.proofs.lemmas.Grind.{common_steps}
 use Rattle.std.specs.List.{position}
 use Rattle.cursor_book.specs.Shelved.{Shelved, has_serial}
 use Rattle.cursor_book.proofs.PlaceLaws.{OnOk-then, pushed-behind, pushed-last}
@@ -13,3 +14,6 @@ returns-in-Some-clause-ok c =
 pub returns-in-None-clause-ok : goal.returns-in-None-clause-ok
 returns-in-None-clause-ok c =
     OnOk-then c.push_shelf.result _ _ (λ made. made ∙ pushed-last c.args.cursor c.args.shelves.now.items (sym (c.in-None.ensures.place ∙ ap (λ (shelves : List Shelved). position (has_serial c.args.cursor.serial) shelves) c.as_slice.ensures.value))) c.push_shelf.ensures.ok
+
+pub returns-in-Some-clause-err : goal.returns-in-Some-clause-err
+returns-in-Some-clause-err c = grind (arith, common_steps)

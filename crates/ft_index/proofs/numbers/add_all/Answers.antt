@@ -1,4 +1,5 @@
-use Rattle.std.proofs.Common.{ℕ, sym, subst}
+use Rattle.std.proofs.Common.{ℕ, sym, subst, arith}
+use Rattle.std.proofs.lemmas.Grind.{common_steps, elements}
 use Rattle.ft_index.specs.Adding.{RangesUnseen}
 use Rattle.ft_index.specs.Lists.{rows_of}
 use Rattle.ft_index.specs.Markers.{range_marker}
@@ -35,3 +36,9 @@ loop-number-preserved c = record {
   takes = takes-again c.args.markers.now c.loop-number.markers c.add_field.new.markers (range_marker c.args.ranges.now) (range_marker c.loop-number.ranges) (range_marker c.add_field.new.ranges)
       c.requires.before c.loop-number.invariant.takes c.add_field.ensures.takes;
 }
+
+pub add_field-requires-clause-later : goal.add_field-requires-clause-later
+add_field-requires-clause-later c = grind (arith, elements)
+
+pub returns-clause-ok : goal.returns-clause-ok
+returns-clause-ok c = grind (arith, common_steps)

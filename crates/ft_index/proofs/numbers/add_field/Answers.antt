@@ -1,4 +1,5 @@
 use Rattle.std.proofs.Common.{◌<◌, ℕ, length, IfSome, set, slice_index_or, sym, subst, ap, inl, inr, arith, Option}
+use Rattle.std.proofs.lemmas.Grind.{common_steps, elements}
 use Rattle.std.proofs.lemmas.Result.{on_ok_weaker}
 use Rattle.numeric_ranges.specs.Ranges.{Rows}
 use Rattle.ft_index.specs.Lists.{rows_of}
@@ -44,3 +45,12 @@ returns-clause-takes c =
     (subst (λ (new : Option Rows). TakesMarkers c.args.markers.now c.add_value.new.markers (slot_marker (slice_index_or c.args.ranges.now c.args.number c.index-ranges-number.result)) (slot_marker new))
     (sym (rows-set_here c.args.ranges.now c.args.number c.add_value.new.slot within)) c.add_value.ensures.takes))
     (λ name away. ap (λ (slot : Option Rows). slot_marker slot name.1) (rows-set_other c.args.ranges.now c.args.number c.add_value.new.slot name.0 away))
+
+pub returns-then-ranges-number-clause-here : goal.returns-then-ranges-number-clause-here
+returns-then-ranges-number-clause-here c = grind (arith, elements)
+
+pub add_value-requires-clause-above : goal.add_value-requires-clause-above
+add_value-requires-clause-above c = grind (arith, elements)
+
+pub returns-clause-err : goal.returns-clause-err
+returns-clause-err c = grind (arith, common_steps)

@@ -1,4 +1,5 @@
-use Rattle.std.proofs.Common.{rules, ◌≡◌, ◌∙◌, ◌++◌, ◌∷◌, [], ap, ◌+◌, ◌-◌, ◌*◌, ℤ, length, Some, Option, IfSome, sym, subst}
+use Rattle.std.proofs.Common.{rules, ◌≡◌, ◌∙◌, ◌++◌, ◌∷◌, [], ap, ◌+◌, ◌-◌, ◌*◌, ℤ, length, Some, Option, IfSome, sym, subst, arith}
+use Rattle.std.proofs.lemmas.Grind.{elements}
 use Rattle.std.proofs.lemmas.Result.{on_ok_weaker}
 use mir.Syntax.{w64}
 use mir.Val.{SFits, of_z, to_z}
@@ -47,3 +48,6 @@ returns-clause-takes c =
     (added-takes c.in-Some.rows c.args.id c.in-Some-value.value c.args.markers.now c.add.new.markers before c.add.ensures.event c.add.ensures.rises
     (subst (λ (rows : Rows). c.add.new.markers.next ≡ c.args.markers.now.next + 2 * (length rows - length c.in-Some.rows)) is taken)))
     (λ old. subst Takes (sym old) (takes-lost c.args.markers.now c.add.new.markers (slot_marker (Some c.in-Some.rows)) c.add.ensures.event c.add.ensures.rises before)))
+
+pub returns-in_default-value-clause-up_to : goal.returns-in_default-value-clause-up_to
+returns-in_default-value-clause-up_to c = grind (arith, elements)

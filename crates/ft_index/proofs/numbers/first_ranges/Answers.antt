@@ -1,4 +1,5 @@
 use Rattle.std.proofs.Common.{◌≡◌, ℕ, Option, None, List, ◌+◌, length, length-append, take, ◌∙◌, sym, subst, ap, arith}
+use Rattle.std.proofs.lemmas.Grind.{common_steps}
 use Rattle.std.specs.Prelude.{slice_get}
 use Rattle.numeric_ranges.specs.Ranges.{Rows}
 use Rattle.ft_index.specs.Lists.{rows_of}
@@ -18,3 +19,6 @@ loop-field-preserved c =
       takes = subst (λ (ranges : List (Option Rows)). TakesMarkers c.args.markers.now c.first_of.new.markers (λ _. None) (range_marker ranges)) (sym c.in_ok-push.ensures.items)
           (first-takes c.args.markers.now c.loop-field.markers c.first_of.new.markers c.loop-field.ranges.items c.in_ok-first.first c.loop-field.invariant.takes c.in_ok-first.ensures.takes);
     }
+
+pub returns-clause-numbers : goal.returns-clause-numbers
+returns-clause-numbers c = grind (arith, common_steps)

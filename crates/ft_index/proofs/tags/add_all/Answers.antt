@@ -1,4 +1,5 @@
-use Rattle.std.proofs.Common.{◌∙◌, ℕ, List, subst, sym}
+use Rattle.std.proofs.Common.{◌∙◌, ℕ, List, subst, sym, arith}
+use Rattle.std.proofs.lemmas.Grind.{common_steps}
 use Rattle.ft_index.specs.Adding.{TagsUnseen}
 use Rattle.ft_index.specs.Markers.{tag_marker}
 use Rattle.ft_index.specs.Tagging.{FieldTagsGain}
@@ -22,3 +23,6 @@ loop-number-preserved c = record {
   takes = takes-again c.args.markers.now c.loop-number.markers c.add_field.new.markers (tag_marker c.args.lists.now) (tag_marker c.loop-number.lists) (tag_marker c.add_field.new.lists)
       c.requires.before c.loop-number.invariant.takes c.add_field.ensures.takes;
 }
+
+pub returns-clause-ok : goal.returns-clause-ok
+returns-clause-ok c = grind (arith, common_steps)

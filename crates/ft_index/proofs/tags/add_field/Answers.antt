@@ -1,5 +1,6 @@
+use Rattle.std.proofs.lemmas.Grind.{common_steps}
 use Rattle.ft_index.specs.Adding.{TagsUnseen}
-use Rattle.std.proofs.Common.{sym, subst}
+use Rattle.std.proofs.Common.{sym, subst, arith}
 use Rattle.ft_index.specs.Markers.{tag_marker}
 use Rattle.ft_index.proofs.TagLaws.{tag-later, tag-next, tagged-unseen}
 use Rattle.ft_index.proofs.TakingLaws.{takes-again}
@@ -27,3 +28,6 @@ loop-tag-preserved c = record {
   takes = takes-again c.args.markers.now c.loop-tag.markers c.add.new.markers (tag_marker c.args.lists.now) (tag_marker c.loop-tag.lists) (tag_marker c.add.new.lists)
       c.requires.before c.loop-tag.invariant.takes c.add.ensures.takes;
 }
+
+pub returns-clause-ok : goal.returns-clause-ok
+returns-clause-ok c = grind (arith, common_steps)

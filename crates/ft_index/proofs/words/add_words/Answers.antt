@@ -1,4 +1,5 @@
-use Rattle.std.proofs.Common.{◌≡◌, ◌++◌, ℕ, List, ap, subst, ◌∙◌}
+use Rattle.std.proofs.Common.{◌≡◌, ◌++◌, ℕ, List, ap, subst, ◌∙◌, arith}
+use Rattle.std.proofs.lemmas.Grind.{common_steps}
 use Rattle.std.proofs.lemmas.Result.{on_ok_weaker}
 use Rattle.ft_index.specs.Collected.{GrowBy, codes_of, occurrences_in}
 use Rattle.ft_index.specs.Entries.{codes, codes_among, entry}
@@ -20,3 +21,6 @@ returns-clause-seen c =
     (λ word. added word ∙ (ap (λ (id : ℕ). entries_of c.args.terms.now word ++ entry id (codes_of c.in_ok-found.found.entries word)) c.id.ensures
     ∙ ap (λ (codes : List ℕ). entries_of c.args.terms.now word ++ entry c.args.doc.now.id codes) (found word))))
     c.add_all.ensures.ok
+
+pub collected-requires : goal.collected-requires
+collected-requires c = grind (arith, common_steps)

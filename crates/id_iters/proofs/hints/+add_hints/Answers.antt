@@ -1,4 +1,5 @@
-use Rattle.std.proofs.Common.{rules, ◌+◌, List, take, sym, ap, ◌∙◌}
+use Rattle.std.proofs.Common.{rules, ◌+◌, List, take, sym, ap, ◌∙◌, arith}
+use Rattle.std.proofs.lemmas.Grind.{common_steps}
 use Rattle.std.specs.List.{flat_map}
 use Rattle.id_iters.specs.Fitting.{leaves_of, leaves_of_ahead}
 use Rattle.id_iters.specs.declared.iter.Ahead.{Ahead}
@@ -39,3 +40,9 @@ add_union-parts-preserved g t c =
           (next_part leaves_of_ahead c.args.parts.now c.parts.part-index part (search rules) c.part-item.is) c.parts.invariant.hinted c.in_ok-add_ahead.ensures.hinted;
       counts = search rules;
     }
+
+pub add_parts-returns-clause-hinted : goal.add_parts-returns-clause-hinted
+add_parts-returns-clause-hinted g t c = grind (arith, common_steps)
+
+pub add_union-returns-clause-hinted : goal.add_union-returns-clause-hinted
+add_union-returns-clause-hinted g t c = grind (arith, common_steps)

@@ -1,4 +1,5 @@
-use Rattle.std.proofs.Common.{rules, ◌+◌, ◌∷◌, [], take}
+use Rattle.std.proofs.Common.{rules, ◌+◌, ◌∷◌, [], take, arith}
+use Rattle.std.proofs.lemmas.Grind.{common_steps}
 use Rattle.id_iters.proofs.HintLaws.{hinted_more, next_word}
 use Rattle.id_iters.proofs.hints.add_words.Goals as goal
 
@@ -11,3 +12,6 @@ words-preserved g c =
           (next_word c.args.words.now c.words.word-index word (search rules) c.word-item.is) c.words.invariant.hinted c.in_ok-add_leaf.ensures.hinted;
       counts = search rules;
     }
+
+pub returns-clause-hinted : goal.returns-clause-hinted
+returns-clause-hinted g c = grind (arith, common_steps)

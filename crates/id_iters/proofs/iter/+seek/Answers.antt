@@ -1,4 +1,5 @@
 use Rattle.std.proofs.Common.{rules, arith, ◌≡◌, ◌<◌, ◌≤◌, ◌+◌, ℕ, length, subst, sym, refl, ◌∙◌, ap, Box, Global, length-set, Option, IfSome}
+use Rattle.std.proofs.lemmas.Grind.{common_steps}
 use Rattle.id_iters.specs.declared.iter.Iter.{Iter}
 use Rattle.id_iters.specs.Least.{IsLeast}
 use Rattle.id_iters.specs.Places.{LeafReady, LeavesReady}
@@ -186,3 +187,27 @@ mark_all-parts-preserved g t c =
           c.in_ok-mark.ensures.same c.in_ok-mark.ensures.ready c.in_ok-mark.ensures.base c.in_ok-mark.ensures.limit c.in_ok-mark.ensures.has;
       counts = omega (arith, c.parts.invariant.counts, c.mark.ensures.counts);
     }
+
+pub mark-returns-then-limit-id-clause-has : goal.mark-returns-then-limit-id-clause-has
+mark-returns-then-limit-id-clause-has g t c = grind (arith, common_steps)
+
+pub mark-ids-preserved : goal.mark-ids-preserved
+mark-ids-preserved g t c = grind (arith, common_steps)
+
+pub mark-returns-clause-has : goal.mark-returns-clause-has
+mark-returns-clause-has g t c = grind (arith, common_steps)
+
+pub mark_all-returns-clause-ready : goal.mark_all-returns-clause-ready
+mark_all-returns-clause-ready g t c = grind (arith, common_steps)
+
+pub seek_all-parts-smaller-then-id-next : goal.seek_all-parts-smaller-then-id-next
+seek_all-parts-smaller-then-id-next g t c = grind (arith, common_steps)
+
+pub seek_any-returns-clause-least : goal.seek_any-returns-clause-least
+seek_any-returns-clause-least g t c = grind (arith, common_steps)
+
+pub seek_some-returns-clause-least : goal.seek_some-returns-clause-least
+seek_some-returns-clause-least g t c = grind (arith, common_steps)
+
+pub seek_some-returns-clause-ready : goal.seek_some-returns-clause-ready
+seek_some-returns-clause-ready g t c = grind (arith, common_steps)

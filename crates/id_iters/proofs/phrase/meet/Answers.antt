@@ -1,4 +1,5 @@
 use Rattle.std.proofs.Common.{arith, ◌&&◌, ℕ, Option, IfSome, ap, subst}
+use Rattle.std.proofs.lemmas.Grind.{common_steps}
 use Rattle.id_iters.specs.Least.{IsLeast}
 use Rattle.id_iters.specs.Leaves.{has_word}
 use Rattle.id_iters.specs.Places.{StandAt, WordReady}
@@ -51,3 +52,6 @@ returns-clause-least g c =
     let held = g.T.Lists.held c.args.lists.now in
     all_agree (λ (leaf : Leaf). leaf.list) (has_word held) held.live (WordReady held) (StandAt held)
     c.args.words.now c.words.words c.args.from c.words.id c.words.lead c.words.at c.words.invariant.agreed (omega (arith, c.words-test.false, c.len.ensures))
+
+pub words-smaller-then-id-next : goal.words-smaller-then-id-next
+words-smaller-then-id-next g c = grind (arith, common_steps)

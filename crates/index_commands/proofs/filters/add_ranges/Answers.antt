@@ -1,4 +1,5 @@
-use Rattle.std.proofs.Common.{◌∙◌, ◌&&◌, List, ap, sym}
+use Rattle.std.proofs.Common.{◌∙◌, ◌&&◌, List, ap, sym, arith}
+use Rattle.std.proofs.lemmas.Grind.{common_steps}
 use Rattle.std.specs.List.{list_all}
 use Rattle.std.proofs.lemmas.List.{map_more}
 use Rattle.cmd_parse.specs.Filters.{Filter}
@@ -16,3 +17,6 @@ ranges-2-preserved c doc =
     ap (list_all asks) c.in_ok-push.ensures.items
     ∙ (ranges-more asks (passes def doc) (list_all asks c.args.parts.now.items) c.ranges-2.parts.items c.range.result _ _ (c.ranges-2.invariant doc) (c.range.ensures doc)
     ∙ ap (λ (filters : List Filter). list_all asks c.args.parts.now.items && list_all (passes def doc) filters) (sym (map_more filter_of c.args.filters.now c.ranges-2.filter-index _ c.ranges-2-test.true)))
+
+pub returns : goal.returns
+returns c = grind (arith, common_steps)

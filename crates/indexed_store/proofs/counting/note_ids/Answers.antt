@@ -1,4 +1,5 @@
 use Rattle.std.proofs.Common.{◌∙◌, ap, sym, subst, arith}
+use Rattle.std.proofs.lemmas.Grind.{common_steps}
 use Rattle.std.specs.Prelude.{◌<◌, ◌≤◌, ◌+◌, length, vec_capacity}
 use Rattle.ft_machine.specs.PlainCommands.{most_counted}
 use Rattle.indexed_store.proofs.CountingLaws.{few-more, noted-none, noted-some}
@@ -22,3 +23,6 @@ loop-i-preserved c =
         room = subst (λ v. most_counted ≤ vec_capacity v) (sym w.ids-is) c.loop-i.invariant.room;
       }
     ]
+
+pub returns-clause-ok : goal.returns-clause-ok
+returns-clause-ok c = grind (arith, common_steps)

@@ -1,5 +1,6 @@
+use Rattle.std.proofs.lemmas.Grind.{elements}
 use Rattle.std.specs.Prelude.{◌≡◌, ◌∷◌, ◌++◌, []}
-use Rattle.std.proofs.Common.{◌∙◌, ap, sym, subst, rules, append_assoc}
+use Rattle.std.proofs.Common.{◌∙◌, ap, sym, subst, rules, append_assoc, arith}
 use Rattle.indexed_store.specs.Filling.{HasTaken}
 use Rattle.indexed_store.specs.Standing.{AreOfEvent}
 use Rattle.indexed_store.proofs.FillingLaws.{AreLeft, left-next}
@@ -19,3 +20,6 @@ filling-preserved c =
     let whole : (done.done ++ c.in-Some.doc.now ∷ []) ++ c.next.new.self ≡ c.args.store.now.space =
     append_assoc done.done (c.in-Some.doc.now ∷ []) c.next.new.self ∙ (ap (λ docs. done.done ++ docs) (sym c.in-Some.ensures) ∙ done.whole) in
     search (rules, whole, left, taken)
+
+pub put_doc-requires-clause-values : goal.put_doc-requires-clause-values
+put_doc-requires-clause-values c = grind (arith, elements)

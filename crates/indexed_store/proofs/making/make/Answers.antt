@@ -1,4 +1,5 @@
 use Rattle.std.proofs.Common.{◌∙◌, ap, refl, subst, sym, arith, List}
+use Rattle.std.proofs.lemmas.Grind.{common_steps}
 use Rattle.ft_base.specs.Docs.{Doc}
 use Rattle.ft_index.specs.Index.{Index}
 use Rattle.ft_machine.specs.Definitions.{Defined, index_of, without_index, without_members}
@@ -91,3 +92,39 @@ pub returns-in-Flush-clause-kept : goal.returns-in-Flush-clause-kept
 returns-in-Flush-clause-kept c =
     flushed-step c.args.store.now c.clear.new.self c.args.indexes.now.items c.clear-in-Flush.new.self.items (next_number c.args.number) (ap (λ (s : Store). s.space) c.clear.ensures) (ap (λ (s : Store). s.last) c.clear.ensures) c.clear-in-Flush.ensures.items
     c.requires.kept
+
+pub returns-in-Write-clause-state : goal.returns-in-Write-clause-state
+returns-in-Write-clause-state c = grind (arith, common_steps)
+
+pub returns-in-Write-clause-few : goal.returns-in-Write-clause-few
+returns-in-Write-clause-few c = grind (arith, common_steps)
+
+pub returns-in-Move-clause-state : goal.returns-in-Move-clause-state
+returns-in-Move-clause-state c = grind (arith, common_steps)
+
+pub returns-in-Move-clause-few : goal.returns-in-Move-clause-few
+returns-in-Move-clause-few c = grind (arith, common_steps)
+
+pub returns-in-EraseKey-clause-state : goal.returns-in-EraseKey-clause-state
+returns-in-EraseKey-clause-state c = grind (arith, common_steps)
+
+pub returns-in-EraseKey-clause-few : goal.returns-in-EraseKey-clause-few
+returns-in-EraseKey-clause-few c = grind (arith, common_steps)
+
+pub returns-in-EraseKeys-clause-state : goal.returns-in-EraseKeys-clause-state
+returns-in-EraseKeys-clause-state c = grind (arith, common_steps)
+
+pub returns-in-EraseKeys-clause-few : goal.returns-in-EraseKeys-clause-few
+returns-in-EraseKeys-clause-few c = grind (arith, common_steps)
+
+pub returns-in-Create-clause-state : goal.returns-in-Create-clause-state
+returns-in-Create-clause-state c = grind (arith, common_steps)
+
+pub returns-in-Create-clause-few : goal.returns-in-Create-clause-few
+returns-in-Create-clause-few c = grind (arith, common_steps)
+
+pub returns-in-Alter-clause-state : goal.returns-in-Alter-clause-state
+returns-in-Alter-clause-state c = grind (arith, common_steps)
+
+pub returns-in-Alter-clause-few : goal.returns-in-Alter-clause-few
+returns-in-Alter-clause-few c = grind (arith, common_steps)

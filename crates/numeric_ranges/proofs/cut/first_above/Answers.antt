@@ -1,4 +1,5 @@
-use Rattle.std.proofs.Common.{get_or, pos, true, ◌∙◌, rules}
+use Rattle.std.proofs.Common.{get_or, pos, true, ◌∙◌, rules, arith}
+use Rattle.std.proofs.lemmas.Grind.{common_steps}
 use Rattle.std.proofs.lemmas.Int.{to_z-of_z}
 use mir.Syntax.{w64}
 use mir.Val.{SFits}
@@ -25,3 +26,6 @@ returns-clause-member c = absurd (none_above c.args.rising.now c.rising.value-in
 pub returns-clause-above : goal.returns-clause-above
 returns-clause-above c = absurd (none_above c.args.rising.now c.rising.value-index c.args.smallest c.rising-test.false
     (cast_small c.args.rising.now c.rising.value-index c.args.smallest c.ranges.smallest c.rising.invariant) c.requires.mixed)
+
+pub rising-preserved : goal.rising-preserved
+rising-preserved c = grind (arith, common_steps)

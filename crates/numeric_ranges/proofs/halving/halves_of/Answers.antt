@@ -30,3 +30,75 @@ returns-clause-ok c =
     c.new-left.ensures.list c.new-right.ensures.list c.in_ok-first.ensures.ok
     (c.in_ok-second.ensures.ok ∙ next_marker_is c.args.markers.now c.next_marker.new.markers c.in_ok-first.ensures.next c.next_marker.ensures.event) filled)
     c.filled.ensures
+
+pub returns-in_err-entries-clause-ok : goal.returns-in_err-entries-clause-ok
+returns-in_err-entries-clause-ok c = search rules
+
+pub returns-in_err-entries-clause-taken : goal.returns-in_err-entries-clause-taken
+returns-in_err-entries-clause-taken c = search rules
+
+pub returns-in_err-entries-clause-event : goal.returns-in_err-entries-clause-event
+returns-in_err-entries-clause-event c = search rules
+
+pub returns-in_err-entries-clause-rises : goal.returns-in_err-entries-clause-rises
+returns-in_err-entries-clause-rises c = search rules
+
+pub returns-in_err-entries-clause-twice : goal.returns-in_err-entries-clause-twice
+returns-in_err-entries-clause-twice c = search rules
+
+pub returns-in_err-cut-clause-ok : goal.returns-in_err-cut-clause-ok
+returns-in_err-cut-clause-ok c = search rules
+
+pub returns-in_err-cut-clause-taken : goal.returns-in_err-cut-clause-taken
+returns-in_err-cut-clause-taken c = search rules
+
+pub returns-in_err-cut-clause-event : goal.returns-in_err-cut-clause-event
+returns-in_err-cut-clause-event c = search rules
+
+pub returns-in_err-cut-clause-rises : goal.returns-in_err-cut-clause-rises
+returns-in_err-cut-clause-rises c = search rules
+
+pub returns-in_err-cut-clause-twice : goal.returns-in_err-cut-clause-twice
+returns-in_err-cut-clause-twice c = search rules
+
+pub returns-in_err-first-clause-ok : goal.returns-in_err-first-clause-ok
+returns-in_err-first-clause-ok c = search rules
+
+pub returns-in_err-first-clause-taken : goal.returns-in_err-first-clause-taken
+returns-in_err-first-clause-taken c = search rules
+
+pub returns-in_err-first-clause-event : goal.returns-in_err-first-clause-event
+returns-in_err-first-clause-event c = search rules
+
+pub returns-in_err-first-clause-rises : goal.returns-in_err-first-clause-rises
+returns-in_err-first-clause-rises c = search rules
+
+pub returns-in_err-first-clause-twice : goal.returns-in_err-first-clause-twice
+returns-in_err-first-clause-twice c = search rules
+
+pub returns-in_err-second-clause-ok : goal.returns-in_err-second-clause-ok
+returns-in_err-second-clause-ok c = search rules
+
+pub returns-in_err-second-clause-taken : goal.returns-in_err-second-clause-taken
+returns-in_err-second-clause-taken c = search rules
+
+pub returns-in_err-second-clause-event : goal.returns-in_err-second-clause-event
+returns-in_err-second-clause-event c = search rules
+
+pub returns-in_err-second-clause-rises : goal.returns-in_err-second-clause-rises
+returns-in_err-second-clause-rises c = search rules
+
+pub returns-in_err-second-clause-twice : goal.returns-in_err-second-clause-twice
+returns-in_err-second-clause-twice c = search rules
+
+pub returns-clause-taken : goal.returns-clause-taken
+returns-clause-taken c = search rules
+
+pub returns-clause-event : goal.returns-clause-event
+returns-clause-event c = search rules
+
+pub returns-clause-rises : goal.returns-clause-rises
+returns-clause-rises c = search rules
+
+pub returns-clause-twice : goal.returns-clause-twice
+returns-clause-twice c = search rules

@@ -1,3 +1,4 @@
+use Rattle.std.proofs.lemmas.Grind.{common_steps}
 -- The row in which the value lies takes the entry, or is split in two with it.
 use Rattle.std.proofs.Common.{◌≡◌, ◌++◌, ◌∷◌, [], ◌+◌, ◌-◌, ℕ, List, suc, set, length, true, false, refl, IfSome, IfNone, Option, ap, subst, sym, ◌∙◌, arith, rules}
 use Rattle.std.proofs.lemmas.List.{length-set}
@@ -91,3 +92,18 @@ returns-in_ok-put_halves-in-None c =
       rises = search rules;
       twice = search rules;
     }
+
+pub grown-requires : goal.grown-requires
+grown-requires c = grind (arith, common_steps)
+
+pub returns-in_err-append-in-Some-clause-err : goal.returns-in_err-append-in-Some-clause-err
+returns-in_err-append-in-Some-clause-err c = grind (arith, common_steps)
+
+pub returns-in_err-append-in-Some-clause-held : goal.returns-in_err-append-in-Some-clause-held
+returns-in_err-append-in-Some-clause-held c = grind (arith, common_steps)
+
+pub halves_of-requires-clause-mixed : goal.halves_of-requires-clause-mixed
+halves_of-requires-clause-mixed c = grind (arith, common_steps)
+
+pub put_halves-requires : goal.put_halves-requires
+put_halves-requires c = grind (arith, common_steps)

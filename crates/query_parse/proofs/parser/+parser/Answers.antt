@@ -1,4 +1,4 @@
-use Rattle.std.proofs.Common.{◌≡◌, ℕ, suc, ◌-◌, ◌++◌, true, false, Some, sym, ap, ◌∙◌, arith}
+use Rattle.std.proofs.Common.{◌≡◌, ℕ, suc, ◌-◌, ◌++◌, true, false, Some, sym, ap, ◌∙◌, arith, rules}
 use Rattle.std.specs.Prelude.{option_to_list}
 use Rattle.ft_base.specs.Kinds.{is_text}
 use Rattle.ft_base.specs.declared.query.Fields.TheVariants as asked
@@ -104,3 +104,207 @@ group-returns-clause-read t c =
     gives-same (λ x. (option_to_list x.0, x.1.now)) c.inside.result _ _
     (group-read def params c.args.fields.now c.args.levels n c.args.at c.args.lexemes.now level (sym c.group_ends.ensures ∙ c.if-group_ends.false))
     c.inside.ensures.read
+
+pub atom-returns-in_default-clause-shorter : goal.atom-returns-in_default-clause-shorter
+atom-returns-in_default-clause-shorter t c = search rules
+
+pub atom-returns-in-Sign-Open-clause-shorter : goal.atom-returns-in-Sign-Open-clause-shorter
+atom-returns-in-Sign-Open-clause-shorter t c = search rules
+
+pub atom-returns-then-is_atom-clause-shorter : goal.atom-returns-then-is_atom-clause-shorter
+atom-returns-then-is_atom-clause-shorter t c = search rules
+
+pub atom-returns-else-is_atom-clause-shorter : goal.atom-returns-else-is_atom-clause-shorter
+atom-returns-else-is_atom-clause-shorter t c = search rules
+
+pub denied_part-returns-then-levels-eq0-clause-read : goal.denied_part-returns-then-levels-eq0-clause-read
+denied_part-returns-then-levels-eq0-clause-read t c = search rules
+
+pub denied_part-returns-then-levels-eq0-clause-within : goal.denied_part-returns-then-levels-eq0-clause-within
+denied_part-returns-then-levels-eq0-clause-within t c = search rules
+
+pub denied_part-returns-in_err-part-clause-read : goal.denied_part-returns-in_err-part-clause-read
+denied_part-returns-in_err-part-clause-read t c = search rules
+
+pub denied_part-returns-in_err-part-clause-within : goal.denied_part-returns-in_err-part-clause-within
+denied_part-returns-in_err-part-clause-within t c = search rules
+
+pub denied_part-returns-in_err-denied-clause-read : goal.denied_part-returns-in_err-denied-clause-read
+denied_part-returns-in_err-denied-clause-read t c = search rules
+
+pub denied_part-returns-in_err-denied-clause-within : goal.denied_part-returns-in_err-denied-clause-within
+denied_part-returns-in_err-denied-clause-within t c = search rules
+
+pub denied_part-returns-clause-read : goal.denied_part-returns-clause-read
+denied_part-returns-clause-read t c = search rules
+
+pub denied_part-returns-clause-within : goal.denied_part-returns-clause-within
+denied_part-returns-clause-within t c = search rules
+
+pub field-returns-then-levels-eq0-clause-read : goal.field-returns-then-levels-eq0-clause-read
+field-returns-then-levels-eq0-clause-read t c = search rules
+
+pub field-returns-then-levels-eq0-clause-within : goal.field-returns-then-levels-eq0-clause-within
+field-returns-then-levels-eq0-clause-within t c = search rules
+
+pub field-returns-in_err-numbers-clause-read : goal.field-returns-in_err-numbers-clause-read
+field-returns-in_err-numbers-clause-read t c = search rules
+
+pub field-returns-in_err-numbers-clause-within : goal.field-returns-in_err-numbers-clause-within
+field-returns-in_err-numbers-clause-within t c = search rules
+
+pub field-returns-in-Some-Colon-clause-within : goal.field-returns-in-Some-Colon-clause-within
+field-returns-in-Some-Colon-clause-within t c = search rules
+
+pub field-returns-in_default-clause-read : goal.field-returns-in_default-clause-read
+field-returns-in_default-clause-read t c = search rules
+
+pub field-returns-in_default-clause-within : goal.field-returns-in_default-clause-within
+field-returns-in_default-clause-within t c = search rules
+
+pub group-returns-then-levels-eq0-clause-read : goal.group-returns-then-levels-eq0-clause-read
+group-returns-then-levels-eq0-clause-read t c = search rules
+
+pub group-returns-then-levels-eq0-clause-within : goal.group-returns-then-levels-eq0-clause-within
+group-returns-then-levels-eq0-clause-within t c = search rules
+
+pub group-returns-then-group_ends-clause-read : goal.group-returns-then-group_ends-clause-read
+group-returns-then-group_ends-clause-read t c = search rules
+
+pub group-returns-then-group_ends-clause-within : goal.group-returns-then-group_ends-clause-within
+group-returns-then-group_ends-clause-within t c = search rules
+
+pub group-returns-clause-within : goal.group-returns-clause-within
+group-returns-clause-within t c = search rules
+
+pub inside-returns-in_err-sides-clause-read : goal.inside-returns-in_err-sides-clause-read
+inside-returns-in_err-sides-clause-read t c = search rules
+
+pub inside-returns-in_err-sides-clause-within : goal.inside-returns-in_err-sides-clause-within
+inside-returns-in_err-sides-clause-within t c = search rules
+
+pub inside-returns-clause-within : goal.inside-returns-clause-within
+inside-returns-clause-within t c = search rules
+
+pub inter-returns-in-Err-clause-shorter : goal.inter-returns-in-Err-clause-shorter
+inter-returns-in-Err-clause-shorter t c = search rules
+
+pub inter-returns-in_err-add-clause-read : goal.inter-returns-in_err-add-clause-read
+inter-returns-in_err-add-clause-read t c = search rules
+
+pub inter-returns-in_err-add-clause-shorter : goal.inter-returns-in_err-add-clause-shorter
+inter-returns-in_err-add-clause-shorter t c = search rules
+
+pub inter-returns-in-Err-unary-clause-read : goal.inter-returns-in-Err-unary-clause-read
+inter-returns-in-Err-unary-clause-read t c = search rules
+
+pub inter-returns-in-Err-unary-clause-shorter : goal.inter-returns-in-Err-unary-clause-shorter
+inter-returns-in-Err-unary-clause-shorter t c = search rules
+
+pub inter-returns-in_err-add-2-clause-read : goal.inter-returns-in_err-add-2-clause-read
+inter-returns-in_err-add-2-clause-read t c = search rules
+
+pub inter-returns-in_err-add-2-clause-shorter : goal.inter-returns-in_err-add-2-clause-shorter
+inter-returns-in_err-add-2-clause-shorter t c = search rules
+
+pub inter-returns-clause-read : goal.inter-returns-clause-read
+inter-returns-clause-read t c = search rules
+
+pub inter-returns-clause-shorter : goal.inter-returns-clause-shorter
+inter-returns-clause-shorter t c = search rules
+
+pub optional_part-returns-then-levels-eq0-clause-read : goal.optional_part-returns-then-levels-eq0-clause-read
+optional_part-returns-then-levels-eq0-clause-read t c = search rules
+
+pub optional_part-returns-then-levels-eq0-clause-within : goal.optional_part-returns-then-levels-eq0-clause-within
+optional_part-returns-then-levels-eq0-clause-within t c = search rules
+
+pub optional_part-returns-in_err-part-clause-read : goal.optional_part-returns-in_err-part-clause-read
+optional_part-returns-in_err-part-clause-read t c = search rules
+
+pub optional_part-returns-in_err-part-clause-within : goal.optional_part-returns-in_err-part-clause-within
+optional_part-returns-in_err-part-clause-within t c = search rules
+
+pub optional_part-returns-in_err-optional-clause-read : goal.optional_part-returns-in_err-optional-clause-read
+optional_part-returns-in_err-optional-clause-read t c = search rules
+
+pub optional_part-returns-in_err-optional-clause-within : goal.optional_part-returns-in_err-optional-clause-within
+optional_part-returns-in_err-optional-clause-within t c = search rules
+
+pub optional_part-returns-clause-read : goal.optional_part-returns-clause-read
+optional_part-returns-clause-read t c = search rules
+
+pub optional_part-returns-clause-within : goal.optional_part-returns-clause-within
+optional_part-returns-clause-within t c = search rules
+
+pub part-returns-in_err-part-clause-shorter : goal.part-returns-in_err-part-clause-shorter
+part-returns-in_err-part-clause-shorter t c = search rules
+
+pub part-returns-clause-shorter : goal.part-returns-clause-shorter
+part-returns-clause-shorter t c = search rules
+
+pub part_target-returns-then-not-begins_atom-clause-within : goal.part_target-returns-then-not-begins_atom-clause-within
+part_target-returns-then-not-begins_atom-clause-within t c = search rules
+
+pub part_target-returns-then-has_other-clause-within : goal.part_target-returns-then-has_other-clause-within
+part_target-returns-then-has_other-clause-within t c = search rules
+
+pub part_target-returns-clause-within : goal.part_target-returns-clause-within
+part_target-returns-clause-within t c = search rules
+
+pub target-returns-in-Some-RangeOpen-clause-read : goal.target-returns-in-Some-RangeOpen-clause-read
+target-returns-in-Some-RangeOpen-clause-read t c = search rules
+
+pub target-returns-in-Some-RangeOpen-clause-within : goal.target-returns-in-Some-RangeOpen-clause-within
+target-returns-in-Some-RangeOpen-clause-within t c = search rules
+
+pub target-returns-in-Some-TagOpen-clause-read : goal.target-returns-in-Some-TagOpen-clause-read
+target-returns-in-Some-TagOpen-clause-read t c = search rules
+
+pub target-returns-in-Some-TagOpen-clause-within : goal.target-returns-in-Some-TagOpen-clause-within
+target-returns-in-Some-TagOpen-clause-within t c = search rules
+
+pub target-returns-clause-read : goal.target-returns-clause-read
+target-returns-clause-read t c = search rules
+
+pub target-returns-clause-within : goal.target-returns-clause-within
+target-returns-clause-within t c = search rules
+
+pub unary-returns-in-Some-Minus-clause-shorter : goal.unary-returns-in-Some-Minus-clause-shorter
+unary-returns-in-Some-Minus-clause-shorter t c = search rules
+
+pub unary-returns-in-Some-Tilde-clause-shorter : goal.unary-returns-in-Some-Tilde-clause-shorter
+unary-returns-in-Some-Tilde-clause-shorter t c = search rules
+
+pub unary-returns-in-Some-At-clause-shorter : goal.unary-returns-in-Some-At-clause-shorter
+unary-returns-in-Some-At-clause-shorter t c = search rules
+
+pub unary-returns-in_default-clause-shorter : goal.unary-returns-in_default-clause-shorter
+unary-returns-in_default-clause-shorter t c = search rules
+
+pub union-returns-in-Err-clause-shorter : goal.union-returns-in-Err-clause-shorter
+union-returns-in-Err-clause-shorter t c = search rules
+
+pub union-returns-in_err-add_side-clause-read : goal.union-returns-in_err-add_side-clause-read
+union-returns-in_err-add_side-clause-read t c = search rules
+
+pub union-returns-in_err-add_side-clause-shorter : goal.union-returns-in_err-add_side-clause-shorter
+union-returns-in_err-add_side-clause-shorter t c = search rules
+
+pub union-returns-in-Err-inter-clause-read : goal.union-returns-in-Err-inter-clause-read
+union-returns-in-Err-inter-clause-read t c = search rules
+
+pub union-returns-in-Err-inter-clause-shorter : goal.union-returns-in-Err-inter-clause-shorter
+union-returns-in-Err-inter-clause-shorter t c = search rules
+
+pub union-returns-in_err-add_side-2-clause-read : goal.union-returns-in_err-add_side-2-clause-read
+union-returns-in_err-add_side-2-clause-read t c = search rules
+
+pub union-returns-in_err-add_side-2-clause-shorter : goal.union-returns-in_err-add_side-2-clause-shorter
+union-returns-in_err-add_side-2-clause-shorter t c = search rules
+
+pub union-returns-clause-read : goal.union-returns-clause-read
+union-returns-clause-read t c = search rules
+
+pub union-returns-clause-shorter : goal.union-returns-clause-shorter
+union-returns-clause-shorter t c = search rules

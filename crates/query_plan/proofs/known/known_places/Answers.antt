@@ -1,4 +1,5 @@
-use Rattle.std.proofs.Common.{rules}
+use Rattle.std.proofs.Common.{rules, arith}
+use Rattle.std.proofs.lemmas.Grind.{common_steps}
 use Rattle.query_plan.proofs.KnownLaws.{knows_more}
 use Rattle.query_plan.proofs.known.known_places.Goals as goal
 
@@ -8,3 +9,6 @@ hints-preserved g c = record {
   all = knows_more (g.T.Lists.held c.args.lists.now) c.args.after _ _ c.args.hints.now c.hints.hint-index c.hint-item.result (search rules) c.hint-item.is c.in_ok-add_hint.ensures.kept
       c.in_ok-add_hint.ensures.here c.hints.invariant.all;
 }
+
+pub returns-clause-all : goal.returns-clause-all
+returns-clause-all g c = grind (arith, common_steps)

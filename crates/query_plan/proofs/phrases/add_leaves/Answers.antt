@@ -1,4 +1,5 @@
-use Rattle.std.proofs.Common.{rules, ◌+◌, [], ◌∷◌, List, ℕ, map, take, sym, ap, ◌∙◌}
+use Rattle.std.proofs.Common.{rules, ◌+◌, [], ◌∷◌, List, ℕ, map, take, sym, ap, ◌∙◌, arith}
+use Rattle.std.proofs.lemmas.Grind.{common_steps}
 use Rattle.std.proofs.lemmas.List.{map-append}
 use Rattle.id_iters.specs.Fitting.{IsOpenAt}
 use Rattle.id_iters.specs.Places.{WordReady}
@@ -32,3 +33,6 @@ words-preserved g c =
           (λ (leaf : Leaf). IsSome (known leaf.list)) _ c.words.steps _ c.words.invariant.free c.word_leaf.ensures.free;
       counts = search rules;
     }
+
+pub returns-clause-names : goal.returns-clause-names
+returns-clause-names g c = grind (arith, common_steps)

@@ -1,4 +1,5 @@
 use Rattle.std.proofs.Common.{sym, length, ◌≢◌, arith}
+use Rattle.std.proofs.lemmas.Grind.{common_steps}
 use Rattle.std.proofs.lemmas.Bool.{eqb-true, eqb-false}
 use Rattle.query_plan.proofs.PlanLaws.{no_words_tell, phrase_tells}
 use Rattle.query_plan.proofs.phrases.plan_phrase.Goals as goal
@@ -16,3 +17,6 @@ returns-clause-set g c =
     phrase_tells c.args.sources.now.def.now held (g.T.Lists.named c.args.sources.now.lists.now) c.in_ok-iter.iter
     c.args.phrase.now.fields.now c.args.phrase.now.words.now c.args.phrase.now.slop
     c.args.phrase.now.in_order _ (omega (arith, some)) (c.of_phrase.ensures.set held) c.in_ok-iter.ensures.words c.in_ok-iter.ensures.fields c.in_ok-iter.ensures.slop c.in_ok-iter.ensures.in_order
+
+pub returns-clause-free : goal.returns-clause-free
+returns-clause-free g c = grind (arith, common_steps)

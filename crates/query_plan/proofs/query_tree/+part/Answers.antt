@@ -1,4 +1,5 @@
-use Rattle.std.proofs.Common.{rules, ◌+◌, take, List, refl, sym, ap, ◌∙◌}
+use Rattle.std.proofs.Common.{rules, ◌+◌, take, List, refl, sym, ap, ◌∙◌, arith}
+use Rattle.std.proofs.lemmas.Grind.{common_steps}
 use Rattle.ft_base.specs.declared.query.Query.{Query}
 use Rattle.ft_base.specs.declared.query.Query.TheVariants as query
 use Rattle.ft_meaning.specs.Holds.{holds}
@@ -87,3 +88,9 @@ plan_each-queries-preserved g t c =
           (λ (p : Planned). AllKnown known (leaves_of p.iter)) _ c.queries.steps _ c.queries.invariant.free c.plan_part.ensures.free;
       counts = search rules;
     }
+
+pub plan_each-returns-clause-set : goal.plan_each-returns-clause-set
+plan_each-returns-clause-set g t c = grind (arith, common_steps)
+
+pub plan_other-returns-clause-free : goal.plan_other-returns-clause-free
+plan_other-returns-clause-free g t c = grind (arith, common_steps)

@@ -1,3 +1,4 @@
+use Rattle.std.proofs.lemmas.Grind.{common_steps}
 use mir.Syntax.{w64}
 use mir.Val.{SFits, of_z, to_z}
 use Rattle.std.proofs.Common.{rules, ◌≡◌, ◌+◌, ◌++◌, [], ◌∷◌, ℤ, sym, ap, ◌∙◌, arith}
@@ -65,3 +66,6 @@ places-preserved-in_default g c =
       free = c.places.invariant.free;
       counts = c.places.invariant.counts;
     }
+
+pub places-init : goal.places-init
+places-init g c = grind (arith, common_steps)

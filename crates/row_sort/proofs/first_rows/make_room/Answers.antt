@@ -1,4 +1,5 @@
 use Rattle.std.proofs.Common.{◌*◌, ◌≤◌, length, ap, sym, subst, ◌∙◌, arith}
+use Rattle.std.proofs.lemmas.Grind.{common_steps}
 use Rattle.row_sort.specs.Held.{first_held, IsSound}
 use Rattle.row_sort.proofs.HeldLaws.{held_again, cut_sound}
 use Rattle.row_sort.proofs.first_rows.make_room.Goals as goal
@@ -13,3 +14,6 @@ returns-clause-sound g c =
     let enough : 2 * c.args.most ≤ length c.args.rows.now.items = omega arith in
     subst (IsSound c.args.by.now c.args.most _) (sym c.in_ok-keep_first.ensures.ok)
     (cut_sound c.args.by.now c.args.most c.args.rows.now.items c.requires.some enough)
+
+pub returns-clause-room : goal.returns-clause-room
+returns-clause-room g c = grind (arith, common_steps)

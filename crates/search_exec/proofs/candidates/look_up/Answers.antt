@@ -5,3 +5,6 @@ use Rattle.search_exec.proofs.candidates.look_up.Goals as goal
 
 pub keys-preserved : goal.keys-preserved
 keys-preserved c = grind (arith, common_steps, filter_map-append)
+
+pub returns : goal.returns
+returns c = grind (arith, common_steps)

@@ -12,3 +12,9 @@ pub returns-clause-fits : goal.returns-clause-fits
 returns-clause-fits c =
     let same : Array c.from_vec.result ≡ rows_reply c.args.rows.now = grind (arith, common_steps) in
     subst (λ (reply : Reply). IsTrue (fits_wire reply)) (sym same) (rows-fit c.args.rows.now)
+
+pub showing-preserved : goal.showing-preserved
+showing-preserved c = grind (arith, common_steps)
+
+pub returns-clause-reply : goal.returns-clause-reply
+returns-clause-reply c = grind (arith, common_steps)

@@ -1,4 +1,4 @@
-use Rattle.std.proofs.Common.{◌<◌, ◌∙◌, ap, sym, subst, refl, IsSome, Some, None}
+use Rattle.std.proofs.Common.{◌<◌, ◌∙◌, ap, sym, subst, refl, IsSome, Some, None, rules}
 use Rattle.std.proofs.lemmas.Result.{on_ok_weaker, on_err_weaker}
 use Rattle.inverted_list.specs.Listing.{last_id, with_entry}
 use Rattle.term_dict.specs.Terms.{entries_of, list_of, list_or_fresh}
@@ -59,3 +59,117 @@ pub returns-clause-kept : goal.returns-clause-kept
 returns-clause-kept c = λ some.
     c.add_tag-2.ensures.kept (subst (λ tags. IsSome (list_of tags c.args.tag.now))
     (tags_found c.args.field c.args.fields.now.entries None c.in_default.ensures.value ∙ sym c.new-tags.ensures) some)
+
+pub get_mut-requires : goal.get_mut-requires
+get_mut-requires c = search rules
+
+pub part_some-fields : goal.part_some-fields
+part_some-fields c = search rules
+
+pub returns-in-Some-clause-tags : goal.returns-in-Some-clause-tags
+returns-in-Some-clause-tags c = search rules
+
+pub returns-in-Some-clause-taken : goal.returns-in-Some-clause-taken
+returns-in-Some-clause-taken c = search rules
+
+pub returns-in-Some-clause-event : goal.returns-in-Some-clause-event
+returns-in-Some-clause-event c = search rules
+
+pub returns-in-Some-clause-rises : goal.returns-in-Some-clause-rises
+returns-in-Some-clause-rises c = search rules
+
+pub returns-in-Some-clause-once : goal.returns-in-Some-clause-once
+returns-in-Some-clause-once c = search rules
+
+pub part_none-fields : goal.part_none-fields
+part_none-fields c = search rules
+
+pub new-tags-requires : goal.new-tags-requires
+new-tags-requires c = search rules
+
+pub add_tag-requires-2 : goal.add_tag-requires-2
+add_tag-requires-2 c = search rules
+
+pub branch-add_tag-requires : goal.branch-add_tag-requires
+branch-add_tag-requires c κs = search rules
+
+pub from_residual-requires : goal.from_residual-requires
+from_residual-requires c κs = search rules
+
+pub drop-tags-inside-requires : goal.drop-tags-inside-requires
+drop-tags-inside-requires c κs = search rules
+
+pub returns-in_err-add_tag-clause-ok : goal.returns-in_err-add_tag-clause-ok
+returns-in_err-add_tag-clause-ok c = search rules
+
+pub returns-in_err-add_tag-clause-err : goal.returns-in_err-add_tag-clause-err
+returns-in_err-add_tag-clause-err c = search rules
+
+pub returns-in_err-add_tag-clause-tags : goal.returns-in_err-add_tag-clause-tags
+returns-in_err-add_tag-clause-tags c = search rules
+
+pub returns-in_err-add_tag-clause-taken : goal.returns-in_err-add_tag-clause-taken
+returns-in_err-add_tag-clause-taken c = search rules
+
+pub returns-in_err-add_tag-clause-event : goal.returns-in_err-add_tag-clause-event
+returns-in_err-add_tag-clause-event c = search rules
+
+pub returns-in_err-add_tag-clause-rises : goal.returns-in_err-add_tag-clause-rises
+returns-in_err-add_tag-clause-rises c = search rules
+
+pub returns-in_err-add_tag-clause-once : goal.returns-in_err-add_tag-clause-once
+returns-in_err-add_tag-clause-once c = search rules
+
+pub same-tags : goal.same-tags
+same-tags c = search rules
+
+pub insert-requires : goal.insert-requires
+insert-requires c = search rules
+
+pub branch-insert-requires : goal.branch-insert-requires
+branch-insert-requires c κs = search rules
+
+pub from_residual-requires-in_err-insert : goal.from_residual-requires-in_err-insert
+from_residual-requires-in_err-insert c κs = search rules
+
+pub returns-in_err-insert-clause-ok : goal.returns-in_err-insert-clause-ok
+returns-in_err-insert-clause-ok c = search rules
+
+pub returns-in_err-insert-clause-err : goal.returns-in_err-insert-clause-err
+returns-in_err-insert-clause-err c = search rules
+
+pub returns-in_err-insert-clause-tags : goal.returns-in_err-insert-clause-tags
+returns-in_err-insert-clause-tags c = search rules
+
+pub returns-in_err-insert-clause-taken : goal.returns-in_err-insert-clause-taken
+returns-in_err-insert-clause-taken c = search rules
+
+pub returns-in_err-insert-clause-event : goal.returns-in_err-insert-clause-event
+returns-in_err-insert-clause-event c = search rules
+
+pub returns-in_err-insert-clause-rises : goal.returns-in_err-insert-clause-rises
+returns-in_err-insert-clause-rises c = search rules
+
+pub returns-in_err-insert-clause-once : goal.returns-in_err-insert-clause-once
+returns-in_err-insert-clause-once c = search rules
+
+pub drop-branch-requires : goal.drop-branch-requires
+drop-branch-requires c κs = search rules
+
+pub returns-clause-err : goal.returns-clause-err
+returns-clause-err c = search rules
+
+pub returns-clause-tags : goal.returns-clause-tags
+returns-clause-tags c = search rules
+
+pub returns-clause-taken : goal.returns-clause-taken
+returns-clause-taken c = search rules
+
+pub returns-clause-event : goal.returns-clause-event
+returns-clause-event c = search rules
+
+pub returns-clause-rises : goal.returns-clause-rises
+returns-clause-rises c = search rules
+
+pub returns-clause-once : goal.returns-clause-once
+returns-clause-once c = search rules

@@ -1,4 +1,5 @@
 use Rattle.std.proofs.Common.{◌≡◌, ◌≤◌, ◌+◌, ◌∷◌, ◌++◌, [], Bool, true, List, ℕ, length, take, drop, ◌-◌, ◌∙◌, ap, append-nil, subst, arith, rules, refl, if◌then◌else◌}
+use Rattle.std.proofs.lemmas.Grind.{common_steps}
 use Rattle.token_text.specs.Slices.{EndsRise, last_end, open_in, tokens_in}
 use Rattle.token_text.specs.Tokens.{before, numbered}
 use Rattle.token_text.proofs.SlicesLaws.{closed-empty, last_end-within, rise-closed, rise-cut, run-is, tokens-closed, tokens-cut}
@@ -70,3 +71,6 @@ pub returns-else-is_token-clause-rise : goal.returns-else-is_token-clause-rise
 returns-else-is_token-clause-rise c =
     let start : c.last_end-start.result ≡ last_end 0 c.args.ends.now.items = c.last_end-start.ensures ∙ ap (last_end 0) c.as_slice.ensures.value in
     rw (c.truncate.ensures.items, start) (rise-cut c.args.bytes.now.items c.args.ends.now.items c.requires.rise)
+
+pub returns-else-is_token-clause-closed : goal.returns-else-is_token-clause-closed
+returns-else-is_token-clause-closed c = grind (arith, common_steps)

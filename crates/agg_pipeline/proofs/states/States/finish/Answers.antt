@@ -1,4 +1,5 @@
-use Rattle.std.proofs.Common.{◌∙◌, ap, sym, List}
+use Rattle.std.proofs.Common.{◌∙◌, ap, sym, List, arith}
+use Rattle.std.proofs.lemmas.Grind.{common_steps}
 use Rattle.std.specs.Vec.Iter.{into_iter_items}
 use Rattle.ft_base.specs.declared.row.Cell.{Cell}
 use Rattle.agg_pipeline.specs.declared.state.State.{State}
@@ -15,3 +16,6 @@ loop-state-preserved c =
     ∙ set-next c.loop-state.cells c.loop-state.reducers.now c.in-Some.state (into_iter_items c.next.new.self)
     ∙ ap (λ (states : List State). set_cells c.loop-state.cells (finished_cells c.loop-state.reducers.now states)) (sym c.in-Some.ensures.steps.0)
     ∙ c.loop-state.invariant
+
+pub returns : goal.returns
+returns c = grind (arith, common_steps)

@@ -1,4 +1,5 @@
 use Rattle.std.proofs.Common.{List, ap, arith, inr, refl, subst, ℕ, ◌∙◌}
+use Rattle.std.proofs.lemmas.Grind.{common_steps}
 use Rattle.cmd_parse.specs.Refusals.{refusal}
 use Rattle.ft_base.specs.Reply.{spelling}
 use Rattle.ft_base.specs.declared.reply.Reply.TheVariants.{Fault}
@@ -22,3 +23,6 @@ returns-clause-answer c =
     refused-at c.args.words c.args.self.now.next c.args.now c.args.fault.now c.args.self.now.state c.end.new.self.state c.set_refusal.new.self.bytes (omega (arith, next, c.if-self-ge-LAST_NUMBER.false)) c.requires.fault
     (c.set_refusal.ensures.bytes ∙ ap (λ (w : List ℕ). spelling (Fault (refusal w c.args.fault.now))) c.word.ensures)
     (ap (λ (e : Stands). e.state) c.end.ensures.ended ∙ (ap state_of c.begin.ensures ∙ ap (λ (e : Stands). at_moment c.args.now e.state) c.self.view_is))
+
+pub set_refusal-requires : goal.set_refusal-requires
+set_refusal-requires c = grind (arith, common_steps)

@@ -1,5 +1,5 @@
 -- A document that is no member changes nothing that is seen; a member enters the lists.
-use Rattle.std.proofs.Common.{ℕ, List, ◌≡◌, ◌∙◌, ◌⊎◌, Some, ap, sym, subst, inl, inr, refl, arith}
+use Rattle.std.proofs.Common.{ℕ, List, ◌≡◌, ◌∙◌, ◌⊎◌, Some, ap, sym, subst, inl, inr, refl, arith, rules}
 use Rattle.doc_table.specs.Table.{Vector}
 use Rattle.ft_meaning.specs.Member.{members}
 use Rattle.ft_index.specs.Has.{Has}
@@ -66,3 +66,84 @@ returns-clause-seen c docs stands =
     let before : Indexes inside docs = subst (λ (i : Index). Indexes i docs) (sym c.self.view_is) stands in
     seen-member inside now ready c.args.doc.now docs refl c.in_ok-enter.ensures.waits refl c.fit_of-fit.ensures (sym c.fit_of-fit.ensures ∙ c.in-Member.is)
     (c.in_ok-enter.ensures.seen (members inside.def docs) before)
+
+pub returns-in_err-enter-clause-live : goal.returns-in_err-enter-clause-live
+returns-in_err-enter-clause-live c = search rules
+
+pub returns-in_err-enter-clause-def : goal.returns-in_err-enter-clause-def
+returns-in_err-enter-clause-def c = search rules
+
+pub returns-in_err-enter-clause-failures : goal.returns-in_err-enter-clause-failures
+returns-in_err-enter-clause-failures c = search rules
+
+pub returns-in_err-enter-clause-ready : goal.returns-in_err-enter-clause-ready
+returns-in_err-enter-clause-ready c = search rules
+
+pub returns-in_err-enter-clause-waits : goal.returns-in_err-enter-clause-waits
+returns-in_err-enter-clause-waits c = search rules
+
+pub returns-in_err-enter-clause-seen : goal.returns-in_err-enter-clause-seen
+returns-in_err-enter-clause-seen c = search rules
+
+pub returns-in_err-enter-clause-last : goal.returns-in_err-enter-clause-last
+returns-in_err-enter-clause-last c = search rules
+
+pub returns-in_err-enter-clause-sound : goal.returns-in_err-enter-clause-sound
+returns-in_err-enter-clause-sound c = search rules
+
+pub returns-in_err-enter-clause-others : goal.returns-in_err-enter-clause-others
+returns-in_err-enter-clause-others c = search rules
+
+pub returns-in_err-enter-clause-none : goal.returns-in_err-enter-clause-none
+returns-in_err-enter-clause-none c = search rules
+
+pub returns-in_err-enter-clause-before : goal.returns-in_err-enter-clause-before
+returns-in_err-enter-clause-before c = search rules
+
+pub returns-in_err-enter-clause-gains : goal.returns-in_err-enter-clause-gains
+returns-in_err-enter-clause-gains c = search rules
+
+pub returns-in_err-enter-clause-event : goal.returns-in_err-enter-clause-event
+returns-in_err-enter-clause-event c = search rules
+
+pub returns-in_err-enter-clause-next : goal.returns-in_err-enter-clause-next
+returns-in_err-enter-clause-next c = search rules
+
+pub returns-clause-live : goal.returns-clause-live
+returns-clause-live c = search rules
+
+pub returns-clause-def : goal.returns-clause-def
+returns-clause-def c = search rules
+
+pub returns-clause-failures : goal.returns-clause-failures
+returns-clause-failures c = search rules
+
+pub returns-clause-ready : goal.returns-clause-ready
+returns-clause-ready c = search rules
+
+pub returns-clause-waits : goal.returns-clause-waits
+returns-clause-waits c = search rules
+
+pub returns-clause-last : goal.returns-clause-last
+returns-clause-last c = search rules
+
+pub returns-clause-sound : goal.returns-clause-sound
+returns-clause-sound c = search rules
+
+pub returns-clause-others : goal.returns-clause-others
+returns-clause-others c = search rules
+
+pub returns-clause-none : goal.returns-clause-none
+returns-clause-none c = search rules
+
+pub returns-clause-before : goal.returns-clause-before
+returns-clause-before c = search rules
+
+pub returns-clause-gains : goal.returns-clause-gains
+returns-clause-gains c = search rules
+
+pub returns-clause-event : goal.returns-clause-event
+returns-clause-event c = search rules
+
+pub returns-clause-next : goal.returns-clause-next
+returns-clause-next c = search rules

@@ -1,4 +1,5 @@
-use Rattle.std.proofs.Common.{◌∙◌, ap}
+use Rattle.std.proofs.Common.{◌∙◌, ap, arith}
+use Rattle.std.proofs.lemmas.Grind.{common_steps}
 use Rattle.std.specs.List.{list_any}
 use Rattle.std.specs.Str.{bytes_eq}
 use Rattle.ft_schema.specs.Fields.{has_alias}
@@ -12,3 +13,9 @@ push-requires c = record {
       ∙ (has-field_aliases c.args.field.alias c.self.inside.fields.items
       ∙ (ap (λ fields. has_alias fields c.args.field.alias) c.self.view_is ∙ c.requires.new));
 }
+
+pub overflow_add-texts : goal.overflow_add-texts
+overflow_add-texts c = grind (arith, common_steps)
+
+pub invariant_of-result : goal.invariant_of-result
+invariant_of-result c = grind (arith, common_steps)

@@ -1,4 +1,5 @@
 use Rattle.std.proofs.Common.{◌≡◌, ◌∙◌, ◌++◌, ◌∷◌, [], ◌<◌, ◌≤◌, ◌-◌, ◌+◌, ℕ, true, false, List, ap, sym, subst, arith, length, take}
+use Rattle.std.proofs.lemmas.Grind.{common_steps}
 use Rattle.ft_base.specs.Rows.{Rows, Below}
 use Rattle.id_rows.specs.declared.row.Row.{Row}
 use Rattle.id_rows.specs.declared.row.Row.TheVariants.{Full}
@@ -34,3 +35,9 @@ returns-clause-ok g c =
     ∙ (full_push g.T.HasId.id_of (take end rows) c.args.row
     ∙ ap (λ (rs : Rows _). rs ++ ((g.T.HasId.id_of c.args.row), c.args.row) ∷ [])
     (full_take g.T.HasId.id_of end rows (subst (λ (rs : List (Row _)). (k : ℕ) → end ≤ k → k < length rs → is_empty_row (row_at_place rs k) ≡ true) c.deref.ensures.value c.full_end-end.ensures.empty) ∙ c.self.view_is))
+
+pub invariant_of-self : goal.invariant_of-self
+invariant_of-self g c = grind (arith, common_steps)
+
+pub returns-in_err-push-clause-err : goal.returns-in_err-push-clause-err
+returns-in_err-push-clause-err g c = grind (arith, common_steps)

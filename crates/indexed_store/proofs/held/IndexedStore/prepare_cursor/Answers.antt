@@ -1,3 +1,4 @@
+use Rattle.std.proofs.lemmas.Grind.{elements}
 use Rattle.std.specs.Prelude.{◌≡◌, ◌+◌, List, None, Some, ℕ, refl}
 use Rattle.std.proofs.Common.{arith, ap, sym, subst, ◌∙◌}
 use Rattle.cursor_book.specs.declared.cursor.Cursor.{Cursor}
@@ -46,3 +47,9 @@ returns-clause-stays c =
       latest = refl;
       next = omega arith;
     })
+
+pub open-requires : goal.open-requires
+open-requires c = grind (arith, elements)
+
+pub invariant_of-self : goal.invariant_of-self
+invariant_of-self c = grind (arith, elements)

@@ -1,3 +1,4 @@
+use Rattle.std.proofs.lemmas.Grind.{common_steps}
 use Rattle.std.specs.Prelude.{◌≡◌, ◌+◌, drop, length}
 use Rattle.std.proofs.Common.{ap, arith, refl}
 use Rattle.std.proofs.lemmas.List.{take_at}
@@ -18,3 +19,9 @@ invariant_of-self c =
       room = c.self.invariant.room;
       ids = c.self.invariant.ids;
     }
+
+pub returns-clause-waits : goal.returns-clause-waits
+returns-clause-waits c = grind (arith, common_steps)
+
+pub returns-clause-stays : goal.returns-clause-stays
+returns-clause-stays c = grind (arith, common_steps)

@@ -1,4 +1,5 @@
 use Rattle.std.proofs.Common.{◌≡◌, ◌<◌, ◌≤◌, ◌-◌, ◌↔◌, ℕ, IsTrue, length, true, false, ap, sym, subst, ◌∙◌, arith}
+use Rattle.std.proofs.lemmas.Grind.{common_steps}
 use Rattle.std.proofs.lemmas.Bool.{false≢true}
 use Rattle.numeric_ranges.specs.Ranges.{Rows, meets}
 use Rattle.numeric_ranges.specs.Rows.{rows_of, reach}
@@ -29,3 +30,6 @@ returns-clause-met c = λ i less.
     let within : i < length (rows_of items) = subst (λ (rows : Rows). i < length rows) (sym c.self.view_is) less in
     subst (λ (rows : Rows). ((c.reach.result - 1 ≤ i) × (i < c.reach-2.result)) ↔ IsTrue (meets rows i c.args.low c.args.high)) c.self.view_is
     (meets_span (rows_of items) i c.args.low c.args.high (c.reach.result - 1) c.reach-2.result order c.self.invariant.partition.lows within (ap (λ (n : ℕ). n - 1) from) to)
+
+pub returns-clause-within : goal.returns-clause-within
+returns-clause-within c = grind (arith, common_steps)

@@ -1,4 +1,5 @@
 use Rattle.std.proofs.Common.{◌≡◌, ◌<◌, ◌≤◌, ℕ, List, length, get_or, ap, ◌∙◌, subst, arith}
+use Rattle.std.proofs.lemmas.Grind.{elements}
 use Rattle.id_iters.specs.Least.{IsLeastAt, NoneFrom}
 use Rattle.search_exec.proofs.CandidatesLaws.{next-named, none-named}
 use Rattle.search_exec.specs.Candidates.{is_id_of}
@@ -21,3 +22,6 @@ returns-clause-least c =
     let all : length named.ids.items ≤ named.behind = omega (arith, c.in_default.ensures.lookup.3, ap length c.deref.ensures.value) in
     subst (λ (ids : List ℕ). NoneFrom (is_id_of ids) c.args.from) c.passing.invariant.ids
     (none-named named.ids.items named.behind c.args.from c.passing.invariant.behind.below all)
+
+pub passing-preserved : goal.passing-preserved
+passing-preserved c = grind (arith, elements)

@@ -1,6 +1,0 @@
-use Rattle.std.proofs.Common.{◌≡◌}
-use Rattle.resp_wire.specs.Decoding.{fed}
-use Rattle.resp_wire.proofs.tests.log.Given as goal
-
-abbrev pub invariant-taking : goal.invariant-taking
-invariant-taking l = fed l.decoder ≡ fed l.fn.decoder
