@@ -14,8 +14,8 @@ import subprocess
 import sys
 
 # What the gate may cost, in what it is made of.
-MOST_EDITS = 24
-MOST_EDITS_EACH = 4
+MOST_EDITS = 16
+MOST_EDITS_EACH = 2
 MOST_TESTS = 60
 
 MOST_LINES = 800

@@ -9,7 +9,7 @@ ghost use Rattle.doc_table.specs.Pages.{has_id, word_at, number_at, Rises, with_
 
 use crate::changes::{clear_id, drop_spent, push_id};
 use crate::page::{Page, bits_from, is_set};
-use crate::places::{place_near, place_of, word_if_there};
+use crate::places::{place_of, word_if_there};
 use ft_base::NoMemory;
 use std::alloc::Global;
 use std::marker::Model;
@@ -60,35 +60,12 @@ impl IdPages {
         is_set(word_if_there(pages, at, number), id % 64)
     }
 
-    /// The same, at once where `near` is the place of the id's page or of the one before. It is set to
-    /// the page's place, for the next id.
-    #[inline]
-    pub fn contains_near(&self, id: u64, near: &mut usize) -> bool
-        ensures { result ≡ has_id self.now id }
-    {
-        let pages = self.pages.as_slice();
-        let number = id / 64;
-        let at = place_near(pages, *near, number);
-        *near = at;
-        is_set(word_if_there(pages, at, number), id % 64)
-    }
-
     /// The least id from `from` on.
     pub fn next_from(&self, from: u64) -> Option<u64>
         ensures { IsNext (has_id self.now) from result }
     {
         let pages = self.pages.as_slice();
         first_from(pages, place_of(pages, from / 64), self.start, from)
-    }
-
-    /// The same, with a place as `contains_near` has it.
-    pub fn next_from_near(&self, from: u64, near: &mut usize) -> Option<u64>
-        ensures { IsNext (has_id self.now) from result }
-    {
-        let pages = self.pages.as_slice();
-        let at = place_near(pages, *near, from / 64);
-        *near = at;
-        first_from(pages, at, self.start, from)
     }
 
     /// Takes an id in, whose page is the last one or comes behind all others.

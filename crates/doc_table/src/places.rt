@@ -34,27 +34,6 @@ pub fn place_of(pages: &[Page], number: u64) -> usize
     place_between(pages, number, count - 1 - behind, ahead)
 }
 
-/// The same, at once where it is `near` or the place behind it.
-#[inline]
-pub fn place_near(pages: &[Page], near: usize, number: u64) -> usize
-    requires { Rises 0 (2 ^ 58) pages.now }
-    ensures within { result ≤ length pages.now }
-    ensures below { (k : ℕ) → k < result → number_at pages.now k < number }
-    ensures above { (k : ℕ) → result ≤ k → k < length pages.now → number ≤ number_at pages.now k }
-{
-    if near < pages.len() {
-        let here = pages[near].number;
-        if here == number {
-            return near;
-        }
-        let next = near + 1;
-        if here < number && next < pages.len() && number <= pages[next].number {
-            return next;
-        }
-    }
-    place_of(pages, number)
-}
-
 /// The word of the page with the number, which stands at the place if there is one.
 #[inline(always)]
 pub fn word_if_there(pages: &[Page], at: usize, number: u64) -> u64

@@ -105,34 +105,11 @@ impl DocTable {
         self.ids.contains(id)
     }
 
-    /// Whether a document is live, for a reader that walks from id to id. `near` is where it found the
-    /// id before, and any value will do: no answer depends on it.
-    #[inline]
-    pub fn is_live_near(&self, id: u64, near: &mut usize) -> bool
-        ensures { result ≡ is_some (lookup (nat_eq id) self.now.live) }
-    {
-        if self.pending == Some(id) {
-            return false;
-        }
-        self.ids.contains_near(id, near)
-    }
-
     /// The least live id from `from` on.
     pub fn next_live(&self, from: u64) -> Option<u64>
         ensures { result ≡ find (λ id. nat_le from id) (map (λ row. row.0) self.now.live) }
     {
         let id = self.ids.next_from(from)?;
-        if self.pending == Some(id) {
-            return None;
-        }
-        Some(id)
-    }
-
-    /// The least live id from `from` on, for a reader that walks as for `is_live_near`.
-    pub fn next_live_near(&self, from: u64, near: &mut usize) -> Option<u64>
-        ensures { result ≡ find (λ id. nat_le from id) (map (λ row. row.0) self.now.live) }
-    {
-        let id = self.ids.next_from_near(from, near)?;
         if self.pending == Some(id) {
             return None;
         }

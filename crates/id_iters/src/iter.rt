@@ -1,5 +1,5 @@
 //! Iterators of document ids: sets of ids that are asked for their least live id from a number on.
-ghost use Rattle.std.specs.Prelude.{◌≡◌, ◌<◌, ◌≤◌, ◌+◌, ◌&&◌, ◌||◌, not, false, ℕ, map, max, IfOk, IfSome, OnOk};
+ghost use Rattle.std.specs.Prelude.{◌≡◌, ◌<◌, ◌≤◌, ◌+◌, ◌^◌, ◌&&◌, ◌||◌, not, false, ℕ, map, max, IfOk, IfSome, OnOk};
 ghost use Rattle.std.specs.List.{All};
 ghost use Rattle.id_iters.specs.Fitting.{leaves_of, leaves_of_ahead};
 ghost use Rattle.id_iters.specs.Held.{Held, AreLists};
@@ -209,14 +209,13 @@ fn seek_some<T: Lists, L: Ledger>(
     let Some(id) = seek_any(parts, lists, next, steps)? else {
         return Ok(None);
     };
-    stretch.move_to(id)?;
-    mark_all(parts, stretch, lists, id, steps)?;
+    fill(parts, stretch, lists, id, steps)?;
     Ok(Some(id))
 }
 
-// Sets the bits of the live ids from `from` on that some part has.
+// Moves the stretch to an id, and sets the bits of the live ids from there on that some part has.
 #[cycle(seek)]
-fn mark_all<T: Lists, L: Ledger>(
+fn fill<T: Lists, L: Ledger>(
     parts: &mut ListOf<Ahead>,
     stretch: &mut Bits,
     lists: &T,
@@ -225,14 +224,13 @@ fn mark_all<T: Lists, L: Ledger>(
 ) -> Result<(), NoMemory>
     requires lists { AreLists (T.held lists.now) }
     requires ready { All (λ part. AheadReady (T.held lists.now) part from) parts.old }
-    requires base { base_of stretch.old ≤ from }
-    requires limit { from < limit_of stretch.old }
-    requires clear { (id : ℕ) → is_in stretch.old id ≡ false }
+    requires small { from < 2 ^ 62 }
     ensures same { OnOk result (map (about_ahead (T.held lists.now)) parts.new
         ≡ map (about_ahead (T.held lists.now)) parts.old) }
     ensures ready { OnOk result (UnionReady (T.held lists.now) parts.new stretch.new from) }
     ensures counts { steps.old ≤ steps.new }
 {
+    stretch.move_to(from)?;
     'parts: for at in 0..parts.len() {
         mark(parts.get_mut(at), stretch, lists, from, steps)?;
     }

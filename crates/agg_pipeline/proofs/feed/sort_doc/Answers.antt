@@ -1,4 +1,4 @@
-use Rattle.std.proofs.Common.{◌≡◌, ◌∙◌, Some, ap, sym, rules}
+use Rattle.std.proofs.Common.{◌≡◌, ◌∙◌, Some, ap, sym}
 use Rattle.std.specs.Prelude.{slice_get}
 use Rattle.indexmap.proofs.MapLemmas.{OnOk-map}
 use Rattle.agg_pipeline.specs.declared.step.Step.TheVariants.{Sort}
@@ -13,12 +13,3 @@ returns-in-Some-Sort-default-Some c =
     OnOk-map c.offer_doc.result _ _
     (λ told of_rows. sort-held c.args.def.now c.args.later.now step.keys step.max _ c.args.held.now c.offer_doc.new.held is ((rw c.as_slice.ensures at told) of_rows))
     c.offer_doc.ensures
-
-pub returns-in_default : goal.returns-in_default
-returns-in_default c = search rules
-
-pub returns-in_default-2 : goal.returns-in_default-2
-returns-in_default-2 c = search rules
-
-pub returns-in_default-3 : goal.returns-in_default-3
-returns-in_default-3 c = search rules

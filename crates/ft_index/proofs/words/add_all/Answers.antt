@@ -52,15 +52,3 @@ pub loop-word-init : goal.loop-word-init
 loop-word-init c =
     let takes = takes-none c.args.markers.now (word_marker c.args.terms.now) in
     search (rules, takes)
-
-pub returns-in_err-add-clause-ok : goal.returns-in_err-add-clause-ok
-returns-in_err-add-clause-ok c = search rules
-
-pub returns-in_err-add-clause-up_to : goal.returns-in_err-add-clause-up_to
-returns-in_err-add-clause-up_to c = search rules
-
-pub returns-clause-up_to : goal.returns-clause-up_to
-returns-clause-up_to c = search rules
-
-pub returns-clause-takes : goal.returns-clause-takes
-returns-clause-takes c = search rules

@@ -1,4 +1,4 @@
-use Rattle.std.proofs.Common.{arith, rules}
+use Rattle.std.proofs.Common.{arith}
 use Rattle.id_iters.proofs.AheadLaws.{goes_forward, none_there, reads_ahead}
 use Rattle.id_iters.proofs.blocks.read_block.Goals as goal
 
@@ -15,39 +15,3 @@ pub returns-clause-forward : goal.returns-clause-forward
 returns-clause-forward g c = λ there.
     goes_forward (g.H.HitTest.wants c.args.test.now) c.args.list.now.entries c.args.from (omega (arith, c.requires.ahead)) c.in-Some.block.now c.fill.new.self c.next_block.new.place.last
     c.next_block.ensures.rises c.in-Some.ensures.found c.next_block.ensures.last
-
-pub returns-in_default-clause-some : goal.returns-in_default-clause-some
-returns-in_default-clause-some g c = search rules
-
-pub returns-in_default-clause-forward : goal.returns-in_default-clause-forward
-returns-in_default-clause-forward g c = search rules
-
-pub returns-in_default-clause-sound : goal.returns-in_default-clause-sound
-returns-in_default-clause-sound g c = search rules
-
-pub returns-in_default-clause-counts : goal.returns-in_default-clause-counts
-returns-in_default-clause-counts g c = search rules
-
-pub returns-in_err-fill-clause-none : goal.returns-in_err-fill-clause-none
-returns-in_err-fill-clause-none g c = search rules
-
-pub returns-in_err-fill-clause-some : goal.returns-in_err-fill-clause-some
-returns-in_err-fill-clause-some g c = search rules
-
-pub returns-in_err-fill-clause-forward : goal.returns-in_err-fill-clause-forward
-returns-in_err-fill-clause-forward g c = search rules
-
-pub returns-in_err-fill-clause-sound : goal.returns-in_err-fill-clause-sound
-returns-in_err-fill-clause-sound g c = search rules
-
-pub returns-in_err-fill-clause-counts : goal.returns-in_err-fill-clause-counts
-returns-in_err-fill-clause-counts g c = search rules
-
-pub returns-clause-none : goal.returns-clause-none
-returns-clause-none g c = search rules
-
-pub returns-clause-sound : goal.returns-clause-sound
-returns-clause-sound g c = search rules
-
-pub returns-clause-counts : goal.returns-clause-counts
-returns-clause-counts g c = search rules

@@ -166,24 +166,24 @@ seek_all-returns-clause-least g t c =
     let held = g.T.Lists.held c.args.lists.now in
     all_agree (about held) (λ (a : About). a.has) held.live (Ready held) (λ (i : Iter) id. Ready held i (id + 1)) c.args.parts.now c.parts.parts c.args.from c.parts.id c.parts.lead c.parts.at c.parts.invariant.agreed (omega (arith, c.parts-test.false, c.len.ensures))
 
-pub mark_all-mark-requires : goal.mark_all-mark-requires
-mark_all-mark-requires g t c κs within =
+pub fill-mark-requires : goal.fill-mark-requires
+fill-mark-requires g t c κs within =
     let held = g.T.Lists.held c.args.lists.now in
     let m = c.parts.invariant.marked in
     let in' : c.parts.at < length c.parts.parts = omega (arith, c.parts-test.true, c.parts.invariant.long) in
     let ready : AheadReady held c.get_mut.result.now c.args.from = subst (λ (a : Ahead). AheadReady held a c.args.from) (sym c.get_mut.ensures.value) (m.rest c.parts.at c.get_mut.result.now (omega arith) in') in
-    let base : base_of c.parts.stretch ≤ c.args.from = omega (arith, m.base, c.requires.base) in
-    let limit : c.args.from < limit_of c.parts.stretch = omega (arith, m.limit, c.requires.limit) in
+    let base : base_of c.parts.stretch ≤ c.args.from = m.base in
+    let limit : c.args.from < limit_of c.parts.stretch = m.limit in
     let deep = depth_in (about_ahead held) c.parts.parts c.args.parts.now c.parts.at c.get_mut.result.now in' c.get_mut.ensures.value m.same in
     search (rules, ready, base, limit, deep)
 
-pub mark_all-parts-preserved : goal.mark_all-parts-preserved
-mark_all-parts-preserved g t c =
+pub fill-parts-preserved : goal.fill-parts-preserved
+fill-parts-preserved g t c =
     let held = g.T.Lists.held c.args.lists.now in
     let in' : c.parts.at < length c.parts.parts = omega (arith, c.parts-test.true, c.parts.invariant.long) in
     record {
       long = length-set c.parts.parts c.parts.at c.mark.new.part ∙ c.parts.invariant.long;
-      marked = marked_more held c.args.parts.now c.parts.parts c.args.stretch.now c.parts.stretch c.mark.new.stretch c.args.from c.parts.at c.get_mut.result.now c.mark.new.part c.parts.invariant.marked in' c.get_mut.ensures.value
+      marked = marked_more held c.args.parts.now c.parts.parts c.parts.stretch c.mark.new.stretch c.args.from c.parts.at c.get_mut.result.now c.mark.new.part c.parts.invariant.marked in' c.get_mut.ensures.value
           c.in_ok-mark.ensures.same c.in_ok-mark.ensures.ready c.in_ok-mark.ensures.base c.in_ok-mark.ensures.limit c.in_ok-mark.ensures.has;
       counts = omega (arith, c.parts.invariant.counts, c.mark.ensures.counts);
     }
@@ -197,8 +197,8 @@ mark-ids-preserved g t c = grind (arith, common_steps)
 pub mark-returns-clause-has : goal.mark-returns-clause-has
 mark-returns-clause-has g t c = grind (arith, common_steps)
 
-pub mark_all-returns-clause-ready : goal.mark_all-returns-clause-ready
-mark_all-returns-clause-ready g t c = grind (arith, common_steps)
+pub fill-returns-clause-ready : goal.fill-returns-clause-ready
+fill-returns-clause-ready g t c = grind (arith, common_steps)
 
 pub seek_all-parts-smaller-then-id-next : goal.seek_all-parts-smaller-then-id-next
 seek_all-parts-smaller-then-id-next g t c = grind (arith, common_steps)

@@ -24,8 +24,8 @@ decreases-seek_any g l = 6 * deepest (map (about_ahead (g.T.Lists.held l.lists.n
 abbrev pub decreases-seek_some : goal.decreases-seek_some
 decreases-seek_some g l = 6 * deepest (map (about_ahead (g.T.Lists.held l.lists.now)) l.parts.now) + 4
 
-abbrev pub decreases-mark_all : goal.decreases-mark_all
-decreases-mark_all g l = 6 * deepest (map (about_ahead (g.T.Lists.held l.lists.now)) l.parts.now) + 3
+abbrev pub decreases-fill : goal.decreases-fill
+decreases-fill g l = 6 * deepest (map (about_ahead (g.T.Lists.held l.lists.now)) l.parts.now) + 3
 
 abbrev pub decreases-mark : goal.decreases-mark
 decreases-mark g l = 6 * (about_ahead (g.T.Lists.held l.lists.now) l.part.now).depth + 2
@@ -65,10 +65,10 @@ invariant-seek_other-live g l =
 abbrev pub decreases-seek_other-live : goal.decreases-seek_other-live
 decreases-seek_other-live g l = 2 ^ 64 - l.next
 
-abbrev pub invariant-mark_all-parts : goal.invariant-mark_all-parts
-invariant-mark_all-parts g l = record {
+abbrev pub invariant-fill-parts : goal.invariant-fill-parts
+invariant-fill-parts g l = record {
   long : length l.parts ≡ l.at-end;
-  marked : Marked (g.T.Lists.held l.lists) l.fn.parts l.parts l.fn.stretch l.stretch l.from l.at;
+  marked : Marked (g.T.Lists.held l.lists) l.fn.parts l.parts l.stretch l.from l.at;
   counts : l.fn.steps ≤ l.steps;
 }
 

@@ -1,4 +1,4 @@
-use Rattle.std.proofs.Common.{arith, ◌+◌, ◌-◌, rules}
+use Rattle.std.proofs.Common.{arith, ◌+◌, ◌-◌}
 use Rattle.id_rows.proofs.PlaceLaws.{above_behind, below_before}
 use Rattle.id_rows.proofs.near.leap.Goals as goal
 
@@ -9,9 +9,3 @@ halve-requires-clause-from g c =
 pub halve-requires-clause-to : goal.halve-requires-clause-to
 halve-requires-clause-to g c =
     above_behind g.T.HasId.id_of c.args.rows.now c.args.id (c.leaps.known + (c.leaps.known - c.args.near)) c.requires.rises (omega (arith, c.id_at.ensures, c.if-id-id_at.true))
-
-pub returns-then-id-id_at : goal.returns-then-id-id_at
-returns-then-id-id_at g c = search rules
-
-pub returns : goal.returns
-returns g c = search rules

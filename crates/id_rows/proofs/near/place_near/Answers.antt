@@ -1,4 +1,4 @@
-use Rattle.std.proofs.Common.{arith, rules}
+use Rattle.std.proofs.Common.{arith}
 use Rattle.id_rows.proofs.PlaceLaws.{place_it}
 use Rattle.id_rows.proofs.near.place_near.Goals as goal
 
@@ -9,12 +9,3 @@ returns-then-id_at-id g c =
 pub returns-then-here-id-2 : goal.returns-then-here-id-2
 returns-then-here-id-2 g c =
     place_it g.T.HasId.id_of c.args.rows.now c.args.id c.args.near c.requires (omega (arith, c.if-near-rows.false)) (omega (arith, c.id_at-here.ensures, c.if-here-id-2.true))
-
-pub returns-then-near-rows : goal.returns-then-near-rows
-returns-then-near-rows g c = search rules
-
-pub returns-then-here-id : goal.returns-then-here-id
-returns-then-here-id g c = search rules
-
-pub returns : goal.returns
-returns g c = search rules

@@ -1,4 +1,3 @@
-use Rattle.std.proofs.Common.{rules}
 use Rattle.cmd_parse.specs.Aggregating.{aggregate_of}
 use Rattle.index_commands.proofs.ExactLaws.{reads-made}
 use Rattle.index_commands.proofs.aggregation.answer_parsed.Goals as goal
@@ -7,12 +6,3 @@ pub returns-clause-reads : goal.returns-clause-reads
 returns-clause-reads c =
     reads-made (aggregate_of c.args.aggregate.now) c.args.query c.args.index.now.def c.set_made.new.self.bytes c.rows_in-made.result c.args.store.now c.rows_in-made.new.store
     c.rows_in-made.ensures.reply c.rows_in-made.ensures.store.rises c.set_made.ensures.told
-
-pub returns-clause-found : goal.returns-clause-found
-returns-clause-found c = search rules
-
-pub returns-clause-store : goal.returns-clause-store
-returns-clause-store c = search rules
-
-pub returns-clause-room : goal.returns-clause-room
-returns-clause-room c = search rules

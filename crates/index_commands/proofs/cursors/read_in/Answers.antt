@@ -1,4 +1,4 @@
-use Rattle.std.proofs.Common.{◌∙◌, ap, sym, arith, rules}
+use Rattle.std.proofs.Common.{◌∙◌, ap, sym, arith}
 use Rattle.cursor_book.specs.Cursors.{cursor_of}
 use Rattle.ft_base.specs.declared.definition.IndexDef.{IndexDef}
 use Rattle.index_commands.proofs.CursorLaws.{found-place, reads-next, reads-none, reads-unknown}
@@ -34,30 +34,3 @@ returns-in-None-clause-does c number state space same cursors =
     let none = ap (cursor_of index.def.serial c.args.id) cursors
     ∙ (ap (λ (d : IndexDef). cursor_of d.serial c.args.id c.args.cursors.now) (sym c.def.ensures.def) ∙ sym c.in-None.ensures) in
     reads-none c.args.name.now c.args.id c.args.count number state _ (defined index) there none c.set_fault-in-None.ensures.bytes
-
-pub returns-in_default-clause-quiet : goal.returns-in_default-clause-quiet
-returns-in_default-clause-quiet c = search rules
-
-pub returns-in_default-clause-store : goal.returns-in_default-clause-store
-returns-in_default-clause-store c = search rules
-
-pub returns-in_default-clause-room : goal.returns-in_default-clause-room
-returns-in_default-clause-room c = search rules
-
-pub returns-in-Some-find-clause-quiet : goal.returns-in-Some-find-clause-quiet
-returns-in-Some-find-clause-quiet c = search rules
-
-pub returns-in-Some-find-clause-store : goal.returns-in-Some-find-clause-store
-returns-in-Some-find-clause-store c = search rules
-
-pub returns-in-Some-find-clause-room : goal.returns-in-Some-find-clause-room
-returns-in-Some-find-clause-room c = search rules
-
-pub returns-in-None-clause-quiet : goal.returns-in-None-clause-quiet
-returns-in-None-clause-quiet c = search rules
-
-pub returns-in-None-clause-store : goal.returns-in-None-clause-store
-returns-in-None-clause-store c = search rules
-
-pub returns-in-None-clause-room : goal.returns-in-None-clause-room
-returns-in-None-clause-room c = search rules

@@ -45,15 +45,3 @@ returns-in-Ok-clause-prepares c =
 
 pub returns-in-Err-clause-prepares : goal.returns-in-Err-clause-prepares
 returns-in-Err-clause-prepares c = prepares-wanting _ _ _ _ tt c.in-Err.ensures.stays c.in-Err.ensures.indexes c.set_no_memory.ensures.bytes
-
-pub returns-then-is_some-clause-room : goal.returns-then-is_some-clause-room
-returns-then-is_some-clause-room c = search rules
-
-pub returns-then-index_count-ge-MOST_INDEXES-clause-room : goal.returns-then-index_count-ge-MOST_INDEXES-clause-room
-returns-then-index_count-ge-MOST_INDEXES-clause-room c = search rules
-
-pub returns-in-Ok-clause-room : goal.returns-in-Ok-clause-room
-returns-in-Ok-clause-room c = search rules
-
-pub returns-in-Err-clause-room : goal.returns-in-Err-clause-room
-returns-in-Err-clause-room c = search rules

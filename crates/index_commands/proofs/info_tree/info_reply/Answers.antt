@@ -1,4 +1,4 @@
-use Rattle.std.proofs.Common.{refl, ap, ◌∙◌, rules}
+use Rattle.std.proofs.Common.{refl, ap, ◌∙◌}
 use Rattle.ft_base.specs.declared.reply.Reply.TheVariants.{Array}
 use Rattle.index_commands.proofs.info_tree.info_reply.Goals as goal
 
@@ -12,33 +12,3 @@ returns-clause-reply c =
       c.in_ok-push_count.ensures,
       c.in_ok-replies.ensures.replies,
     ) refl)
-
-pub returns-in_err-replies-clause-reply : goal.returns-in_err-replies-clause-reply
-returns-in_err-replies-clause-reply c = search rules
-
-pub returns-in_err-replies-clause-fits : goal.returns-in_err-replies-clause-fits
-returns-in_err-replies-clause-fits c = search rules
-
-pub returns-in_err-push_count-clause-reply : goal.returns-in_err-push_count-clause-reply
-returns-in_err-push_count-clause-reply c = search rules
-
-pub returns-in_err-push_count-clause-fits : goal.returns-in_err-push_count-clause-fits
-returns-in_err-push_count-clause-fits c = search rules
-
-pub returns-in_err-push_count-2-clause-reply : goal.returns-in_err-push_count-2-clause-reply
-returns-in_err-push_count-2-clause-reply c = search rules
-
-pub returns-in_err-push_count-2-clause-fits : goal.returns-in_err-push_count-2-clause-fits
-returns-in_err-push_count-2-clause-fits c = search rules
-
-pub returns-in_err-push_count-3-clause-reply : goal.returns-in_err-push_count-3-clause-reply
-returns-in_err-push_count-3-clause-reply c = search rules
-
-pub returns-in_err-push_count-3-clause-fits : goal.returns-in_err-push_count-3-clause-fits
-returns-in_err-push_count-3-clause-fits c = search rules
-
-pub returns-in_err-push_count-4-clause-reply : goal.returns-in_err-push_count-4-clause-reply
-returns-in_err-push_count-4-clause-reply c = search rules
-
-pub returns-in_err-push_count-4-clause-fits : goal.returns-in_err-push_count-4-clause-fits
-returns-in_err-push_count-4-clause-fits c = search rules

@@ -1,5 +1,5 @@
 use Rattle.std.specs.Prelude.{Some, None, refl}
-use Rattle.std.proofs.Common.{◌∙◌, ap, sym, arith, subst, ℕ, rules}
+use Rattle.std.proofs.Common.{◌∙◌, ap, sym, arith, subst, ℕ}
 use Rattle.cmd_parse.specs.Aggregating.{aggregate_of}
 use Rattle.index_commands.proofs.CursorLaws.{prepares-quiet}
 use Rattle.index_commands.proofs.OpeningLaws.{opens-prepares}
@@ -43,15 +43,3 @@ returns-in-None-clause-prepares c =
       next = omega (arith, ap (λ (h : Holding). h.next) is);
     }) (ap (λ (h : Holding). h.indexes) is)
     (subst (λ (n : ℕ). DoesFirst what c.args.cursor n (state_of held) None c.read_first-first.new.reply.bytes) (ap (λ (h : Holding). h.next) is) does)
-
-pub returns-in-Some-clause-quiet : goal.returns-in-Some-clause-quiet
-returns-in-Some-clause-quiet c = search rules
-
-pub returns-in-Some-clause-room : goal.returns-in-Some-clause-room
-returns-in-Some-clause-room c = search rules
-
-pub returns-in-None-clause-quiet : goal.returns-in-None-clause-quiet
-returns-in-None-clause-quiet c = search rules
-
-pub returns-in-None-clause-room : goal.returns-in-None-clause-room
-returns-in-None-clause-room c = search rules

@@ -1,4 +1,4 @@
-use Rattle.std.proofs.Common.{◌∙◌, ap, sym, rules}
+use Rattle.std.proofs.Common.{◌∙◌, ap, sym}
 use Rattle.indexed_store.specs.DefinitionsOf.{definitions_of}
 use Rattle.indexed_store.specs.Holding.{Holding, state_of}
 use Rattle.index_commands.proofs.SearchLaws.{readable-held}
@@ -11,12 +11,3 @@ answer_in-requires-clause-step c =
 pub returns-clause-does : goal.returns-clause-does
 returns-clause-does c =
     c.answer_in.ensures.does c.args.held.now.next (state_of c.args.held.now) (sym (ap (λ (h : Holding). h.space) c.held.view_is)) (ap definitions_of (sym (ap (λ (h : Holding). h.indexes) c.held.view_is) ∙ sym c.as_slice.ensures.value))
-
-pub returns-clause-stays : goal.returns-clause-stays
-returns-clause-stays c = search rules
-
-pub returns-clause-reads : goal.returns-clause-reads
-returns-clause-reads c = search rules
-
-pub returns-clause-room : goal.returns-clause-room
-returns-clause-room c = search rules

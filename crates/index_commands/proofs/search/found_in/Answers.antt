@@ -1,4 +1,4 @@
-use Rattle.std.proofs.Common.{List, ap, sym, subst, rules}
+use Rattle.std.proofs.Common.{List, ap, sym, subst}
 use Rattle.cmd_parse.specs.Seen.{search_of}
 use Rattle.ft_base.specs.declared.definition.Field.{Field}
 use Rattle.ft_base.specs.declared.definition.IndexDef.{IndexDef}
@@ -25,12 +25,3 @@ pub returns-clause-shows : goal.returns-clause-shows
 returns-clause-shows g c =
     shown-by (search_of c.args.search.now) _ _ _ _ c.args.store.now.reads c.search_reply-found.new.store.reads c.search_reply-found.result c.def.ensures.def c.in_ok-iter.ensures.found
     c.search_reply-found.ensures.reply c.search_reply-found.ensures.fits c.search_reply-found.ensures.reads
-
-pub returns-in_err-iter-clause-shows : goal.returns-in_err-iter-clause-shows
-returns-in_err-iter-clause-shows g c = search rules
-
-pub returns-in_err-iter-clause-store : goal.returns-in_err-iter-clause-store
-returns-in_err-iter-clause-store g c = search rules
-
-pub returns-clause-store : goal.returns-clause-store
-returns-clause-store g c = search rules

@@ -1,4 +1,4 @@
-use Rattle.std.proofs.Common.{ap, arith, rules}
+use Rattle.std.proofs.Common.{ap, arith}
 use Rattle.std.specs.Prelude.{List, length}
 use Rattle.ft_base.specs.Docs.{Doc}
 use Rattle.indexed_store.proofs.CountingLaws.{counted, without-none, without-whole}
@@ -29,27 +29,3 @@ returns-clause-none c none =
       counted c.args.store.now.space c.args.keys.now c.note_ids.new.ids.items c.sort_unstable.new.self.items c.dedup.new.self.items c.len.ensures.rises c.len.ensures.distinct c.in_ok-note_ids.ensures.ok c.sort_unstable.ensures.permutation
           c.sort_unstable.ensures.sorted c.dedup.ensures.filtered,
     ))
-
-pub returns-then-len-eq0-clause-many : goal.returns-then-len-eq0-clause-many
-returns-then-len-eq0-clause-many c = search rules
-
-pub returns-then-len-eq0-clause-ids : goal.returns-then-len-eq0-clause-ids
-returns-then-len-eq0-clause-ids c = search rules
-
-pub returns-in_err-note_ids-clause-count : goal.returns-in_err-note_ids-clause-count
-returns-in_err-note_ids-clause-count c = search rules
-
-pub returns-in_err-note_ids-clause-none : goal.returns-in_err-note_ids-clause-none
-returns-in_err-note_ids-clause-none c = search rules
-
-pub returns-in_err-note_ids-clause-many : goal.returns-in_err-note_ids-clause-many
-returns-in_err-note_ids-clause-many c = search rules
-
-pub returns-in_err-note_ids-clause-ids : goal.returns-in_err-note_ids-clause-ids
-returns-in_err-note_ids-clause-ids c = search rules
-
-pub returns-clause-many : goal.returns-clause-many
-returns-clause-many c = search rules
-
-pub returns-clause-ids : goal.returns-clause-ids
-returns-clause-ids c = search rules

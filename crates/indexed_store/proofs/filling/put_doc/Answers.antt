@@ -1,5 +1,5 @@
 use Rattle.std.specs.Prelude.{◌≡◌}
-use Rattle.std.proofs.Common.{◌∙◌, ap, sym, subst, inl, inr, rules}
+use Rattle.std.proofs.Common.{◌∙◌, ap, sym, subst, inl, inr}
 use Rattle.ft_index.specs.Index.{Index, IsIndex}
 use Rattle.ft_index.specs.Lists.{AllLists}
 use Rattle.ft_index.specs.Markers.{HasMarker}
@@ -17,42 +17,3 @@ pub returns-clause-given : goal.returns-clause-given
 returns-clause-given c marker has =
     let same : c.commit.new.self.lists ≡ c.prepare.new.self.lists = ap (λ (index : Index). index.lists) c.commit.ensures ∙ lists-committed c.prepare.new.self.waits c.prepare.new.self in
     elim (c.prepare.ensures.gains marker (subst (λ (lists : AllLists). HasMarker lists marker) same has)) [ inl old ↦ c.requires.given marker old | inr given ↦ given.event ]
-
-pub returns-in_err-ready-clause-stands : goal.returns-in_err-ready-clause-stands
-returns-in_err-ready-clause-stands c = search rules
-
-pub returns-in_err-ready-clause-failures : goal.returns-in_err-ready-clause-failures
-returns-in_err-ready-clause-failures c = search rules
-
-pub returns-in_err-ready-clause-last : goal.returns-in_err-ready-clause-last
-returns-in_err-ready-clause-last c = search rules
-
-pub returns-in_err-ready-clause-def : goal.returns-in_err-ready-clause-def
-returns-in_err-ready-clause-def c = search rules
-
-pub returns-in_err-ready-clause-sound : goal.returns-in_err-ready-clause-sound
-returns-in_err-ready-clause-sound c = search rules
-
-pub returns-in_err-ready-clause-before : goal.returns-in_err-ready-clause-before
-returns-in_err-ready-clause-before c = search rules
-
-pub returns-in_err-ready-clause-event : goal.returns-in_err-ready-clause-event
-returns-in_err-ready-clause-event c = search rules
-
-pub returns-clause-stands : goal.returns-clause-stands
-returns-clause-stands c = search rules
-
-pub returns-clause-failures : goal.returns-clause-failures
-returns-clause-failures c = search rules
-
-pub returns-clause-last : goal.returns-clause-last
-returns-clause-last c = search rules
-
-pub returns-clause-def : goal.returns-clause-def
-returns-clause-def c = search rules
-
-pub returns-clause-before : goal.returns-clause-before
-returns-clause-before c = search rules
-
-pub returns-clause-event : goal.returns-clause-event
-returns-clause-event c = search rules

@@ -34,15 +34,3 @@ returns-clause-value c = λ all moved.
     to_z-of_z w64 c.first_above.result h ∙ sym (cut_second all least middle c.first_above.result (nth_is 0 all xs (pos 0) moved c.requires.sorted c.requires.some)
     (median_is all xs moved c.requires.sorted c.requires.some) (cast_lt least middle false f g c.if-smallest-median.false)
     (sym (c.first_above.ensures.value all moved ∙ ap (λ (s : ℤ). nth_value (count_by (λ w. int_le w s) all) all) (to_z-of_z w64 least f))))
-
-pub returns-then-smallest-median-clause-member : goal.returns-then-smallest-median-clause-member
-returns-then-smallest-median-clause-member c = search rules
-
-pub returns-then-smallest-median-clause-above : goal.returns-then-smallest-median-clause-above
-returns-then-smallest-median-clause-above c = search rules
-
-pub returns-clause-member : goal.returns-clause-member
-returns-clause-member c = search rules
-
-pub returns-clause-above : goal.returns-clause-above
-returns-clause-above c = search rules

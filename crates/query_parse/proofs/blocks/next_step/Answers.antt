@@ -1,4 +1,4 @@
-use Rattle.std.proofs.Common.{◌≡◌, true, false, sym, ◌∙◌, rules}
+use Rattle.std.proofs.Common.{◌≡◌, true, false, sym, ◌∙◌}
 use Rattle.query_grammar.specs.Grammar.{has_name}
 use Rattle.query_grammar.specs.Reading.{names_of}
 use Rattle.query_parse.specs.NameKeys.{holds}
@@ -17,27 +17,3 @@ returns-else-has_name-clause-read c = λ def others before named.
     let again : has_name (names_of def c.args.params.now before) c.in-Param.name ≡ false = sym (named c.in-Param.name) ∙ seen in
     let read = rw (c.behind-else-has_name.ensures.value, c.as_slice-else-has_name.ensures) at (c.named.ensures.read def others before) in
     read ∙ name-new def c.args.params.now others before c.args.lexemes.now c.first-item.result c.in-Param.name c.in-len1-up.len_at_least c.first-item.is c.in-Param.is again
-
-pub returns-in_default-clause-read : goal.returns-in_default-clause-read
-returns-in_default-clause-read c = search rules
-
-pub returns-in_default-clause-shorter : goal.returns-in_default-clause-shorter
-returns-in_default-clause-shorter c = search rules
-
-pub returns-in-Sign-AttrClose-clause-read : goal.returns-in-Sign-AttrClose-clause-read
-returns-in-Sign-AttrClose-clause-read c = search rules
-
-pub returns-in-Sign-AttrClose-clause-shorter : goal.returns-in-Sign-AttrClose-clause-shorter
-returns-in-Sign-AttrClose-clause-shorter c = search rules
-
-pub returns-then-has_name-clause-shorter : goal.returns-then-has_name-clause-shorter
-returns-then-has_name-clause-shorter c = search rules
-
-pub returns-else-has_name-clause-shorter : goal.returns-else-has_name-clause-shorter
-returns-else-has_name-clause-shorter c = search rules
-
-pub returns-in_default-kind-clause-read : goal.returns-in_default-kind-clause-read
-returns-in_default-kind-clause-read c = search rules
-
-pub returns-in_default-kind-clause-shorter : goal.returns-in_default-kind-clause-shorter
-returns-in_default-kind-clause-shorter c = search rules

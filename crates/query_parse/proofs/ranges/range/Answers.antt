@@ -1,4 +1,4 @@
-use Rattle.std.proofs.Common.{Some, ap, sym, ◌∙◌, rules}
+use Rattle.std.proofs.Common.{Some, ap, sym, ◌∙◌}
 use Rattle.query_parse.proofs.Ranging.{range-read}
 use Rattle.query_parse.proofs.ranges.range.Goals as goal
 
@@ -7,15 +7,3 @@ returns-in-Some-RangeClose-clause-read c =
     let def = c.args.parser.now.def.now in
     let params = c.args.parser.now.params in
     rw c.behind.ensures.value (range-read def params c.args.field _ _ _ _ _ _ (c.in_ok-low.ensures.read def) (c.in_ok-high.ensures.read def) (sym c.next_sign.ensures ∙ (c.in-Some-RangeClose.is ∙ ap Some c.in-Some-RangeClose.field-0-is)) (c.range_by-range.ensures def))
-
-pub returns-in_err-low-clause-within : goal.returns-in_err-low-clause-within
-returns-in_err-low-clause-within c = search rules
-
-pub returns-in_err-high-clause-within : goal.returns-in_err-high-clause-within
-returns-in_err-high-clause-within c = search rules
-
-pub returns-in-Some-RangeClose-clause-within : goal.returns-in-Some-RangeClose-clause-within
-returns-in-Some-RangeClose-clause-within c = search rules
-
-pub returns-in_default-clause-within : goal.returns-in_default-clause-within
-returns-in_default-clause-within c = search rules

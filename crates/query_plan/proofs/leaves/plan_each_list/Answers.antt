@@ -42,30 +42,3 @@ lists-preserved g c =
           (λ (p : Planned). AllKnown known (leaves_of p.iter)) _ c.lists.steps _ c.lists.invariant.free c.plan_list.ensures.free;
       counts = search rules;
     }
-
-pub returns-in_err-add_planned-clause-set : goal.returns-in_err-add_planned-clause-set
-returns-in_err-add_planned-clause-set g c = search rules
-
-pub returns-in_err-add_planned-clause-ready : goal.returns-in_err-add_planned-clause-ready
-returns-in_err-add_planned-clause-ready g c = search rules
-
-pub returns-in_err-add_planned-clause-placed : goal.returns-in_err-add_planned-clause-placed
-returns-in_err-add_planned-clause-placed g c = search rules
-
-pub returns-in_err-add_planned-clause-free : goal.returns-in_err-add_planned-clause-free
-returns-in_err-add_planned-clause-free g c = search rules
-
-pub returns-in_err-add_planned-clause-counts : goal.returns-in_err-add_planned-clause-counts
-returns-in_err-add_planned-clause-counts g c = search rules
-
-pub returns-clause-ready : goal.returns-clause-ready
-returns-clause-ready g c = search rules
-
-pub returns-clause-placed : goal.returns-clause-placed
-returns-clause-placed g c = search rules
-
-pub returns-clause-free : goal.returns-clause-free
-returns-clause-free g c = search rules
-
-pub returns-clause-counts : goal.returns-clause-counts
-returns-clause-counts g c = search rules

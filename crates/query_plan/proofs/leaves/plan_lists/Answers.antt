@@ -1,4 +1,3 @@
-use Rattle.std.proofs.Common.{rules}
 use Rattle.id_iters.specs.Leaves.{list_has}
 use Rattle.id_iters.specs.declared.list_name.ListName.{ListName}
 use Rattle.query_plan.specs.Known.{place_of}
@@ -17,39 +16,3 @@ returns-clause-placed g c =
 
 pub returns-clause-free : goal.returns-clause-free
 returns-clause-free g c = λ known. c.in_ok-plan_each_list.ensures.free (c.in_ok-some_of.ensures.known (place_of c.args.sources.now.known.now) (known, tt))
-
-pub returns-in_err-plan_each_list-clause-set : goal.returns-in_err-plan_each_list-clause-set
-returns-in_err-plan_each_list-clause-set g c = search rules
-
-pub returns-in_err-plan_each_list-clause-ready : goal.returns-in_err-plan_each_list-clause-ready
-returns-in_err-plan_each_list-clause-ready g c = search rules
-
-pub returns-in_err-plan_each_list-clause-placed : goal.returns-in_err-plan_each_list-clause-placed
-returns-in_err-plan_each_list-clause-placed g c = search rules
-
-pub returns-in_err-plan_each_list-clause-free : goal.returns-in_err-plan_each_list-clause-free
-returns-in_err-plan_each_list-clause-free g c = search rules
-
-pub returns-in_err-plan_each_list-clause-counts : goal.returns-in_err-plan_each_list-clause-counts
-returns-in_err-plan_each_list-clause-counts g c = search rules
-
-pub returns-in_err-some_of-clause-set : goal.returns-in_err-some_of-clause-set
-returns-in_err-some_of-clause-set g c = search rules
-
-pub returns-in_err-some_of-clause-ready : goal.returns-in_err-some_of-clause-ready
-returns-in_err-some_of-clause-ready g c = search rules
-
-pub returns-in_err-some_of-clause-placed : goal.returns-in_err-some_of-clause-placed
-returns-in_err-some_of-clause-placed g c = search rules
-
-pub returns-in_err-some_of-clause-free : goal.returns-in_err-some_of-clause-free
-returns-in_err-some_of-clause-free g c = search rules
-
-pub returns-in_err-some_of-clause-counts : goal.returns-in_err-some_of-clause-counts
-returns-in_err-some_of-clause-counts g c = search rules
-
-pub returns-clause-ready : goal.returns-clause-ready
-returns-clause-ready g c = search rules
-
-pub returns-clause-counts : goal.returns-clause-counts
-returns-clause-counts g c = search rules

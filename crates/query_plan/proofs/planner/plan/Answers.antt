@@ -1,4 +1,4 @@
-use Rattle.std.proofs.Common.{List, subst, rules}
+use Rattle.std.proofs.Common.{List, subst}
 use Rattle.id_iters.specs.declared.hint.Hint.{Hint}
 use Rattle.query_plan.specs.Known.{KnowsAll, place_of}
 use Rattle.query_plan.specs.Plans.{ids_of}
@@ -28,39 +28,3 @@ returns-clause-free g c = λ fitting.
     c.in_ok-planned.ensures.free
     (all_known (g.T.Lists.held c.args.lists.now) c.args.after c.args.hints.now.0 (place_of c.in_ok-known.known)
     (subst (λ (hints : List Hint). KnowsAll (g.T.Lists.held c.args.lists.now) c.args.after (place_of c.in_ok-known.known) hints) c.as_slice.ensures c.in_ok-known.ensures.all) _ fitting)
-
-pub returns-in_err-known-clause-set : goal.returns-in_err-known-clause-set
-returns-in_err-known-clause-set g c = search rules
-
-pub returns-in_err-known-clause-ready : goal.returns-in_err-known-clause-ready
-returns-in_err-known-clause-ready g c = search rules
-
-pub returns-in_err-known-clause-placed : goal.returns-in_err-known-clause-placed
-returns-in_err-known-clause-placed g c = search rules
-
-pub returns-in_err-known-clause-free : goal.returns-in_err-known-clause-free
-returns-in_err-known-clause-free g c = search rules
-
-pub returns-in_err-known-clause-counts : goal.returns-in_err-known-clause-counts
-returns-in_err-known-clause-counts g c = search rules
-
-pub returns-in_err-planned-clause-set : goal.returns-in_err-planned-clause-set
-returns-in_err-planned-clause-set g c = search rules
-
-pub returns-in_err-planned-clause-ready : goal.returns-in_err-planned-clause-ready
-returns-in_err-planned-clause-ready g c = search rules
-
-pub returns-in_err-planned-clause-placed : goal.returns-in_err-planned-clause-placed
-returns-in_err-planned-clause-placed g c = search rules
-
-pub returns-in_err-planned-clause-free : goal.returns-in_err-planned-clause-free
-returns-in_err-planned-clause-free g c = search rules
-
-pub returns-in_err-planned-clause-counts : goal.returns-in_err-planned-clause-counts
-returns-in_err-planned-clause-counts g c = search rules
-
-pub returns-clause-ready : goal.returns-clause-ready
-returns-clause-ready g c = search rules
-
-pub returns-clause-counts : goal.returns-clause-counts
-returns-clause-counts g c = search rules

@@ -1,4 +1,3 @@
-use Rattle.std.proofs.Common.{rules}
 use mir.Syntax.{w64}
 use mir.Val.{of_z, to_z}
 use Rattle.std.proofs.lemmas.Int.{to_z-of_z}
@@ -23,39 +22,3 @@ returns-clause-placed g c =
 
 pub returns-clause-free : goal.returns-clause-free
 returns-clause-free g c = λ known. c.in_ok-plan_each_range.ensures.free (c.in_ok-some_of.ensures.known (place_of c.args.sources.now.known.now) (known, tt))
-
-pub returns-in_err-plan_each_range-clause-set : goal.returns-in_err-plan_each_range-clause-set
-returns-in_err-plan_each_range-clause-set g c = search rules
-
-pub returns-in_err-plan_each_range-clause-ready : goal.returns-in_err-plan_each_range-clause-ready
-returns-in_err-plan_each_range-clause-ready g c = search rules
-
-pub returns-in_err-plan_each_range-clause-placed : goal.returns-in_err-plan_each_range-clause-placed
-returns-in_err-plan_each_range-clause-placed g c = search rules
-
-pub returns-in_err-plan_each_range-clause-free : goal.returns-in_err-plan_each_range-clause-free
-returns-in_err-plan_each_range-clause-free g c = search rules
-
-pub returns-in_err-plan_each_range-clause-counts : goal.returns-in_err-plan_each_range-clause-counts
-returns-in_err-plan_each_range-clause-counts g c = search rules
-
-pub returns-in_err-some_of-clause-set : goal.returns-in_err-some_of-clause-set
-returns-in_err-some_of-clause-set g c = search rules
-
-pub returns-in_err-some_of-clause-ready : goal.returns-in_err-some_of-clause-ready
-returns-in_err-some_of-clause-ready g c = search rules
-
-pub returns-in_err-some_of-clause-placed : goal.returns-in_err-some_of-clause-placed
-returns-in_err-some_of-clause-placed g c = search rules
-
-pub returns-in_err-some_of-clause-free : goal.returns-in_err-some_of-clause-free
-returns-in_err-some_of-clause-free g c = search rules
-
-pub returns-in_err-some_of-clause-counts : goal.returns-in_err-some_of-clause-counts
-returns-in_err-some_of-clause-counts g c = search rules
-
-pub returns-clause-ready : goal.returns-clause-ready
-returns-clause-ready g c = search rules
-
-pub returns-clause-counts : goal.returns-clause-counts
-returns-clause-counts g c = search rules

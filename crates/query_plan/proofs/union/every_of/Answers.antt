@@ -26,27 +26,3 @@ returns-clause-known c = λ known all.
     let parts : c.in_ok-parts.parts.items ≡ map (λ (planned : Planned). planned.iter) c.sort_by_key.new.self.items = search rules in
     every_known c.args.plans.items c.sort_by_key.new.self.items c.in_ok-sort_by_key.ensures.permutation c.from_vec.result (c.from_vec.ensures ∙ parts)
     c.of_every.result c.of_every.ensures.leaves known all
-
-pub returns-in_err-sort_by_key-clause-set : goal.returns-in_err-sort_by_key-clause-set
-returns-in_err-sort_by_key-clause-set c = search rules
-
-pub returns-in_err-sort_by_key-clause-ready : goal.returns-in_err-sort_by_key-clause-ready
-returns-in_err-sort_by_key-clause-ready c = search rules
-
-pub returns-in_err-sort_by_key-clause-placed : goal.returns-in_err-sort_by_key-clause-placed
-returns-in_err-sort_by_key-clause-placed c = search rules
-
-pub returns-in_err-sort_by_key-clause-known : goal.returns-in_err-sort_by_key-clause-known
-returns-in_err-sort_by_key-clause-known c = search rules
-
-pub returns-in_err-parts-clause-set : goal.returns-in_err-parts-clause-set
-returns-in_err-parts-clause-set c = search rules
-
-pub returns-in_err-parts-clause-ready : goal.returns-in_err-parts-clause-ready
-returns-in_err-parts-clause-ready c = search rules
-
-pub returns-in_err-parts-clause-placed : goal.returns-in_err-parts-clause-placed
-returns-in_err-parts-clause-placed c = search rules
-
-pub returns-in_err-parts-clause-known : goal.returns-in_err-parts-clause-known
-returns-in_err-parts-clause-known c = search rules

@@ -1,4 +1,4 @@
-use Rattle.std.proofs.Common.{length, length-append, ap, arith, rules}
+use Rattle.std.proofs.Common.{length, length-append, ap, arith}
 use Rattle.query_plan.proofs.UnionLaws.{gathers_more}
 use Rattle.query_plan.proofs.union.gather.Goals as goal
 
@@ -11,21 +11,3 @@ parts-preserved c =
       fewer = omega arith;
       some = omega arith;
     }
-
-pub returns-in_default-clause-gathers : goal.returns-in_default-clause-gathers
-returns-in_default-clause-gathers c = search rules
-
-pub returns-in_default-clause-fewer : goal.returns-in_default-clause-fewer
-returns-in_default-clause-fewer c = search rules
-
-pub returns-in_err-push-clause-gathers : goal.returns-in_err-push-clause-gathers
-returns-in_err-push-clause-gathers c = search rules
-
-pub returns-in_err-push-clause-fewer : goal.returns-in_err-push-clause-fewer
-returns-in_err-push-clause-fewer c = search rules
-
-pub returns-clause-gathers : goal.returns-clause-gathers
-returns-clause-gathers c = search rules
-
-pub returns-clause-fewer : goal.returns-clause-fewer
-returns-clause-fewer c = search rules

@@ -1,4 +1,4 @@
-use Rattle.std.proofs.Common.{length, length-append, ap, arith, rules}
+use Rattle.std.proofs.Common.{length, length-append, ap, arith}
 use Rattle.query_plan.proofs.UnionLaws.{group_more, joins_again}
 use Rattle.query_plan.proofs.union.grouped.Goals as goal
 
@@ -11,21 +11,3 @@ groups-preserved c =
           (group_more _ _ _ _ _ c.in-Some.last c.in_ok-with_others.field-0 c.in-Some.ensures.items c.in_ok-with_others.ensures.joins c.in_ok-push.ensures.items);
       fewer = omega (arith, c.in_ok-with_others.ensures.fewer, c.groups.invariant.fewer);
     }
-
-pub returns-in_err-with_others-clause-joins : goal.returns-in_err-with_others-clause-joins
-returns-in_err-with_others-clause-joins c = search rules
-
-pub returns-in_err-with_others-clause-fewer : goal.returns-in_err-with_others-clause-fewer
-returns-in_err-with_others-clause-fewer c = search rules
-
-pub returns-in_err-push-clause-joins : goal.returns-in_err-push-clause-joins
-returns-in_err-push-clause-joins c = search rules
-
-pub returns-in_err-push-clause-fewer : goal.returns-in_err-push-clause-fewer
-returns-in_err-push-clause-fewer c = search rules
-
-pub returns-clause-joins : goal.returns-clause-joins
-returns-clause-joins c = search rules
-
-pub returns-clause-fewer : goal.returns-clause-fewer
-returns-clause-fewer c = search rules

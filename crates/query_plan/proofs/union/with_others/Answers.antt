@@ -1,4 +1,4 @@
-use Rattle.std.proofs.Common.{◌∙◌, ◌++◌, ◌∷◌, [], List, ap, rules}
+use Rattle.std.proofs.Common.{◌∙◌, ◌++◌, ◌∷◌, [], List, ap}
 use Rattle.id_iters.specs.declared.iter.Ahead.{Ahead}
 use Rattle.query_plan.proofs.UnionLaws.{gathers_joined}
 use Rattle.query_plan.proofs.union.with_others.Goals as goal
@@ -7,24 +7,3 @@ pub returns-clause-joins : goal.returns-clause-joins
 returns-clause-joins c =
     gathers_joined _ _ c.in_ok-parts.parts c.gather.new.parts c.args.last _ c.new-2.result (c.in_ok-parts.ensures ∙ ap (λ (xs : List Ahead). xs ++ c.new-2.result ∷ []) c.new.ensures)
     c.in_ok-size.ensures.gathers c.new-2.ensures.set c.new-2.ensures.ready c.new-2.ensures.leaves c.of_some.ensures.set c.of_some.ensures.ready c.of_some.ensures.leaves
-
-pub returns-then-len-eq0-clause-joins : goal.returns-then-len-eq0-clause-joins
-returns-then-len-eq0-clause-joins c = search rules
-
-pub returns-then-len-eq0-clause-fewer : goal.returns-then-len-eq0-clause-fewer
-returns-then-len-eq0-clause-fewer c = search rules
-
-pub returns-in_err-parts-clause-joins : goal.returns-in_err-parts-clause-joins
-returns-in_err-parts-clause-joins c = search rules
-
-pub returns-in_err-parts-clause-fewer : goal.returns-in_err-parts-clause-fewer
-returns-in_err-parts-clause-fewer c = search rules
-
-pub returns-in_err-size-clause-joins : goal.returns-in_err-size-clause-joins
-returns-in_err-size-clause-joins c = search rules
-
-pub returns-in_err-size-clause-fewer : goal.returns-in_err-size-clause-fewer
-returns-in_err-size-clause-fewer c = search rules
-
-pub returns-clause-fewer : goal.returns-clause-fewer
-returns-clause-fewer c = search rules

@@ -1,4 +1,4 @@
-use Rattle.std.proofs.Common.{◌≡◌, ◌<◌, ◌+◌, ◌^◌, ℕ, List, refl, ap, ◌∙◌, subst, arith, rules}
+use Rattle.std.proofs.Common.{◌≡◌, ◌<◌, ◌+◌, ◌^◌, ℕ, List, refl, ap, ◌∙◌, subst, arith}
 use Rattle.std.specs.Prelude.{Option, None, Some, IfSome}
 use Rattle.ft_base.specs.Docs.{Doc}
 use Rattle.hash_store.specs.Store.{Store, reads_after}
@@ -69,42 +69,3 @@ returns-clause-reads g c =
     let first = c.args.iter.now in
     (asked-ended (IsFed c.args.feed.now c.args.store.now.reads c.asking.feed c.asking.store.reads) (in_set held first) c.args.store.now.space c.asking.from
     (iter-same held first c.asking.iter c.asking.from c.in_ok-id.field-0 None c.asking.invariant.same c.in_default.is c.in_ok-id.ensures.least) c.asking.invariant.asked).count
-
-pub returns-in_err-id-clause-noted : goal.returns-in_err-id-clause-noted
-returns-in_err-id-clause-noted g c = search rules
-
-pub returns-in_err-id-clause-reads : goal.returns-in_err-id-clause-reads
-returns-in_err-id-clause-reads g c = search rules
-
-pub returns-in_err-id-clause-rises : goal.returns-in_err-id-clause-rises
-returns-in_err-id-clause-rises g c = search rules
-
-pub returns-in_err-id-clause-same : goal.returns-in_err-id-clause-same
-returns-in_err-id-clause-same g c = search rules
-
-pub returns-in_err-id-clause-counts : goal.returns-in_err-id-clause-counts
-returns-in_err-id-clause-counts g c = search rules
-
-pub returns-in_err-note_id-clause-noted : goal.returns-in_err-note_id-clause-noted
-returns-in_err-note_id-clause-noted g c = search rules
-
-pub returns-in_err-note_id-clause-reads : goal.returns-in_err-note_id-clause-reads
-returns-in_err-note_id-clause-reads g c = search rules
-
-pub returns-in_err-note_id-clause-rises : goal.returns-in_err-note_id-clause-rises
-returns-in_err-note_id-clause-rises g c = search rules
-
-pub returns-in_err-note_id-clause-same : goal.returns-in_err-note_id-clause-same
-returns-in_err-note_id-clause-same g c = search rules
-
-pub returns-in_err-note_id-clause-counts : goal.returns-in_err-note_id-clause-counts
-returns-in_err-note_id-clause-counts g c = search rules
-
-pub returns-clause-rises : goal.returns-clause-rises
-returns-clause-rises g c = search rules
-
-pub returns-clause-same : goal.returns-clause-same
-returns-clause-same g c = search rules
-
-pub returns-clause-counts : goal.returns-clause-counts
-returns-clause-counts g c = search rules

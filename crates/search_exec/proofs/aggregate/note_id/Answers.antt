@@ -7,12 +7,3 @@ pub returns-clause-noted : goal.returns-clause-noted
 returns-clause-noted c doc found def load steps docs holds =
     let same : c.unwrap-doc.result.now ≡ doc = search (rules, found) in
     subst (λ (doc : Doc). Holds def load steps (docs ++ doc ∷ []) c.note.new.self) same (c.in_ok-note.ensures def load steps docs holds)
-
-pub returns-in_err-note-clause-noted : goal.returns-in_err-note-clause-noted
-returns-in_err-note-clause-noted c = search rules
-
-pub returns-in_err-note-clause-reads : goal.returns-in_err-note-clause-reads
-returns-in_err-note-clause-reads c = search rules
-
-pub returns-clause-reads : goal.returns-clause-reads
-returns-clause-reads c = search rules

@@ -1,4 +1,4 @@
-use Rattle.std.proofs.Common.{◌+◌, ℕ, refl, ap, ◌∙◌, subst, arith, rules}
+use Rattle.std.proofs.Common.{◌+◌, ℕ, refl, ap, ◌∙◌, subst, arith}
 use Rattle.std.specs.Prelude.{Option, None, IfSome}
 use Rattle.row_sort.specs.First.{First}
 use Rattle.search_exec.proofs.AskLaws.{asked-ended, asked-none}
@@ -59,27 +59,3 @@ returns-clause-ids g c docs rise known =
     let first = c.args.candidates.now in
     asked-ended (AreRanked number c.args.first.now.by c.args.first.now.most c.asking.total c.asking.first.rows) (in_candidates held first) docs c.asking.from
     (answer-same held first c.asking.candidates c.asking.from c.in_ok-id.field-0 None c.asking.invariant.same c.in_default.is c.in_ok-id.ensures.least) (c.asking.invariant.asked docs rise known)
-
-pub returns-in_err-id-clause-ids : goal.returns-in_err-id-clause-ids
-returns-in_err-id-clause-ids g c = search rules
-
-pub returns-in_err-id-clause-few : goal.returns-in_err-id-clause-few
-returns-in_err-id-clause-few g c = search rules
-
-pub returns-in_err-id-clause-counts : goal.returns-in_err-id-clause-counts
-returns-in_err-id-clause-counts g c = search rules
-
-pub returns-in_err-offer_id-clause-ids : goal.returns-in_err-offer_id-clause-ids
-returns-in_err-offer_id-clause-ids g c = search rules
-
-pub returns-in_err-offer_id-clause-few : goal.returns-in_err-offer_id-clause-few
-returns-in_err-offer_id-clause-few g c = search rules
-
-pub returns-in_err-offer_id-clause-counts : goal.returns-in_err-offer_id-clause-counts
-returns-in_err-offer_id-clause-counts g c = search rules
-
-pub returns-clause-few : goal.returns-clause-few
-returns-clause-few g c = search rules
-
-pub returns-clause-counts : goal.returns-clause-counts
-returns-clause-counts g c = search rules

@@ -1,4 +1,4 @@
-use Rattle.std.proofs.Common.{ap, rules}
+use Rattle.std.proofs.Common.{ap}
 use Rattle.std.specs.Prelude.{pos}
 use Rattle.ft_base.specs.declared.reply.Reply.TheVariants.{Number}
 use Rattle.hash_store.specs.Store.{Store}
@@ -18,33 +18,3 @@ showing-preserved c =
       bits = was.bits;
       reads = reads-next shape rows row store c.showing.store c.show_id.new.store was.reads next.reads;
     }
-
-pub returns-in_err-replies-clause-reply : goal.returns-in_err-replies-clause-reply
-returns-in_err-replies-clause-reply c = search rules
-
-pub returns-in_err-replies-clause-reads : goal.returns-in_err-replies-clause-reads
-returns-in_err-replies-clause-reads c = search rules
-
-pub returns-in_err-replies-clause-rises : goal.returns-in_err-replies-clause-rises
-returns-in_err-replies-clause-rises c = search rules
-
-pub returns-in_err-replies-clause-same : goal.returns-in_err-replies-clause-same
-returns-in_err-replies-clause-same c = search rules
-
-pub returns-in_err-show_id-clause-reply : goal.returns-in_err-show_id-clause-reply
-returns-in_err-show_id-clause-reply c = search rules
-
-pub returns-in_err-show_id-clause-reads : goal.returns-in_err-show_id-clause-reads
-returns-in_err-show_id-clause-reads c = search rules
-
-pub returns-in_err-show_id-clause-rises : goal.returns-in_err-show_id-clause-rises
-returns-in_err-show_id-clause-rises c = search rules
-
-pub returns-in_err-show_id-clause-same : goal.returns-in_err-show_id-clause-same
-returns-in_err-show_id-clause-same c = search rules
-
-pub returns-clause-rises : goal.returns-clause-rises
-returns-clause-rises c = search rules
-
-pub returns-clause-same : goal.returns-clause-same
-returns-clause-same c = search rules

@@ -1,4 +1,4 @@
-use Rattle.std.proofs.Common.{◌≡◌, ◌++◌, ◌∷◌, List, sym, ap, ◌∙◌, subst, rules}
+use Rattle.std.proofs.Common.{◌≡◌, ◌++◌, ◌∷◌, List, sym, ap, ◌∙◌, subst}
 use Rattle.std.specs.Prelude.{OnOk, pos}
 use Rattle.std.proofs.lemmas.Iterator.Adapters.{fact_from_extend, YieldsList-from_vec}
 use Rattle.std.proofs.lemmas.List.{map-id}
@@ -18,9 +18,3 @@ showing-preserved c =
     added
     ∙ (ap (λ replies. replies ++ more) c.showing.invariant
     ∙ ap (λ (replies : List Reply). Number (pos c.args.total) ∷ replies) (sym (items-more c.showing.yielded c.in-Some.row)))
-
-pub returns-in_err-replies : goal.returns-in_err-replies
-returns-in_err-replies c = search rules
-
-pub returns-in_err-extend : goal.returns-in_err-extend
-returns-in_err-extend c = search rules

@@ -1,4 +1,4 @@
-use Rattle.std.proofs.Common.{◌≡◌, ◌+◌, ◌∷◌, [], ◌++◌, ℕ, List, refl, ap, ◌∙◌, subst, arith, rules}
+use Rattle.std.proofs.Common.{◌≡◌, ◌+◌, ◌∷◌, [], ◌++◌, ℕ, List, refl, ap, ◌∙◌, subst, arith}
 use Rattle.std.specs.Prelude.{Option, None, Some, IfSome, take}
 use Rattle.ft_base.specs.Docs.{Doc}
 use Rattle.ft_base.specs.declared.reply.Reply.{Reply}
@@ -92,57 +92,3 @@ returns-clause-reads g c =
     ∙ ap (reads_after c.args.store.now.reads)
     (asked-ended (AreOffered c.args.shape.now c.args.key c.args.first.now.most c.asking.total c.asking.first.rows) (in_candidates held first) c.args.store.now.space c.asking.from
     (answer-same held first c.asking.candidates c.asking.from c.in_ok-id.field-0 None c.asking.invariant.same c.in_default.is c.in_ok-id.ensures.least) c.asking.invariant.asked).count
-
-pub returns-in_err-id-clause-rows : goal.returns-in_err-id-clause-rows
-returns-in_err-id-clause-rows g c = search rules
-
-pub returns-in_err-id-clause-total : goal.returns-in_err-id-clause-total
-returns-in_err-id-clause-total g c = search rules
-
-pub returns-in_err-id-clause-few : goal.returns-in_err-id-clause-few
-returns-in_err-id-clause-few g c = search rules
-
-pub returns-in_err-id-clause-reads : goal.returns-in_err-id-clause-reads
-returns-in_err-id-clause-reads g c = search rules
-
-pub returns-in_err-id-clause-rises : goal.returns-in_err-id-clause-rises
-returns-in_err-id-clause-rises g c = search rules
-
-pub returns-in_err-id-clause-same : goal.returns-in_err-id-clause-same
-returns-in_err-id-clause-same g c = search rules
-
-pub returns-in_err-id-clause-counts : goal.returns-in_err-id-clause-counts
-returns-in_err-id-clause-counts g c = search rules
-
-pub returns-in_err-offer_id-clause-rows : goal.returns-in_err-offer_id-clause-rows
-returns-in_err-offer_id-clause-rows g c = search rules
-
-pub returns-in_err-offer_id-clause-total : goal.returns-in_err-offer_id-clause-total
-returns-in_err-offer_id-clause-total g c = search rules
-
-pub returns-in_err-offer_id-clause-few : goal.returns-in_err-offer_id-clause-few
-returns-in_err-offer_id-clause-few g c = search rules
-
-pub returns-in_err-offer_id-clause-reads : goal.returns-in_err-offer_id-clause-reads
-returns-in_err-offer_id-clause-reads g c = search rules
-
-pub returns-in_err-offer_id-clause-rises : goal.returns-in_err-offer_id-clause-rises
-returns-in_err-offer_id-clause-rises g c = search rules
-
-pub returns-in_err-offer_id-clause-same : goal.returns-in_err-offer_id-clause-same
-returns-in_err-offer_id-clause-same g c = search rules
-
-pub returns-in_err-offer_id-clause-counts : goal.returns-in_err-offer_id-clause-counts
-returns-in_err-offer_id-clause-counts g c = search rules
-
-pub returns-clause-few : goal.returns-clause-few
-returns-clause-few g c = search rules
-
-pub returns-clause-rises : goal.returns-clause-rises
-returns-clause-rises g c = search rules
-
-pub returns-clause-same : goal.returns-clause-same
-returns-clause-same g c = search rules
-
-pub returns-clause-counts : goal.returns-clause-counts
-returns-clause-counts g c = search rules

@@ -1,4 +1,4 @@
-use Rattle.std.proofs.Common.{◌≡◌, ◌+◌, ℕ, List, ◌∙◌, subst, arith, rules}
+use Rattle.std.proofs.Common.{◌≡◌, ◌+◌, ℕ, List, ◌∙◌, subst, arith}
 use Rattle.std.specs.Prelude.{Option, None, Some, IfSome}
 use Rattle.ft_base.specs.Docs.{Doc}
 use Rattle.search_exec.proofs.AskLaws.{asked-ended, asked-next, found-still, read-on}
@@ -47,51 +47,3 @@ returns-clause-reads g c =
     let shows : Shows c.args.shape.now docs c.asking.page = asked-ended (AreShown c.args.shape.now c.asking.page) (in_candidates held first) c.args.store.now.space c.asking.from
     (answer-same held first c.asking.candidates c.asking.from c.in_ok-id.field-0 None c.asking.invariant.same c.in_default.is c.in_ok-id.ensures.least) c.asking.invariant.asked in
     reads-told c.args.shape.now c.args.store.now.reads c.asking.store.reads docs c.asking.page c.asking.invariant.reads shows
-
-pub returns-in_err-id-clause-shown : goal.returns-in_err-id-clause-shown
-returns-in_err-id-clause-shown g c = search rules
-
-pub returns-in_err-id-clause-few : goal.returns-in_err-id-clause-few
-returns-in_err-id-clause-few g c = search rules
-
-pub returns-in_err-id-clause-reads : goal.returns-in_err-id-clause-reads
-returns-in_err-id-clause-reads g c = search rules
-
-pub returns-in_err-id-clause-rises : goal.returns-in_err-id-clause-rises
-returns-in_err-id-clause-rises g c = search rules
-
-pub returns-in_err-id-clause-same : goal.returns-in_err-id-clause-same
-returns-in_err-id-clause-same g c = search rules
-
-pub returns-in_err-id-clause-counts : goal.returns-in_err-id-clause-counts
-returns-in_err-id-clause-counts g c = search rules
-
-pub returns-in_err-note_id-clause-shown : goal.returns-in_err-note_id-clause-shown
-returns-in_err-note_id-clause-shown g c = search rules
-
-pub returns-in_err-note_id-clause-few : goal.returns-in_err-note_id-clause-few
-returns-in_err-note_id-clause-few g c = search rules
-
-pub returns-in_err-note_id-clause-reads : goal.returns-in_err-note_id-clause-reads
-returns-in_err-note_id-clause-reads g c = search rules
-
-pub returns-in_err-note_id-clause-rises : goal.returns-in_err-note_id-clause-rises
-returns-in_err-note_id-clause-rises g c = search rules
-
-pub returns-in_err-note_id-clause-same : goal.returns-in_err-note_id-clause-same
-returns-in_err-note_id-clause-same g c = search rules
-
-pub returns-in_err-note_id-clause-counts : goal.returns-in_err-note_id-clause-counts
-returns-in_err-note_id-clause-counts g c = search rules
-
-pub returns-clause-few : goal.returns-clause-few
-returns-clause-few g c = search rules
-
-pub returns-clause-rises : goal.returns-clause-rises
-returns-clause-rises g c = search rules
-
-pub returns-clause-same : goal.returns-clause-same
-returns-clause-same g c = search rules
-
-pub returns-clause-counts : goal.returns-clause-counts
-returns-clause-counts g c = search rules

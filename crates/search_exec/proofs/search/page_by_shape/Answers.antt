@@ -1,4 +1,4 @@
-use Rattle.std.proofs.Common.{◌≡◌, ℕ, List, length, ap, sym, subst, arith, rules}
+use Rattle.std.proofs.Common.{◌≡◌, ℕ, List, length, ap, sym, subst, arith}
 use Rattle.std.specs.Prelude.{IfOk, OnOk, Option}
 use Rattle.ft_base.specs.Docs.{Doc}
 use Rattle.ft_base.specs.declared.reply.Reply.{Reply}
@@ -33,27 +33,3 @@ returns-in_default-clause-reads g c =
       | in_default-via-in_default w ↦ ap (λ (sort : Option SortKey). reads_by shape sort count) (sym w.in_default.is)
     ] in
     subst (λ (more : ℕ). OnOk c.page_by_ids.result (c.page_by_ids.new.store.reads ≡ reads_after c.args.store.now.reads more)) same c.page_by_ids.ensures.reads
-
-pub returns-in-Some-clause-reply : goal.returns-in-Some-clause-reply
-returns-in-Some-clause-reply g c = search rules
-
-pub returns-in-Some-clause-reads : goal.returns-in-Some-clause-reads
-returns-in-Some-clause-reads g c = search rules
-
-pub returns-in-Some-clause-rises : goal.returns-in-Some-clause-rises
-returns-in-Some-clause-rises g c = search rules
-
-pub returns-in-Some-clause-same : goal.returns-in-Some-clause-same
-returns-in-Some-clause-same g c = search rules
-
-pub returns-in-Some-clause-counts : goal.returns-in-Some-clause-counts
-returns-in-Some-clause-counts g c = search rules
-
-pub returns-in_default-clause-rises : goal.returns-in_default-clause-rises
-returns-in_default-clause-rises g c = search rules
-
-pub returns-in_default-clause-same : goal.returns-in_default-clause-same
-returns-in_default-clause-same g c = search rules
-
-pub returns-in_default-clause-counts : goal.returns-in_default-clause-counts
-returns-in_default-clause-counts g c = search rules

@@ -1,4 +1,4 @@
-use Rattle.std.proofs.Common.{◌≡◌, ◌+◌, ℕ, refl, ap, ◌∙◌, subst, arith, rules}
+use Rattle.std.proofs.Common.{◌≡◌, ◌+◌, ℕ, refl, ap, ◌∙◌, subst, arith}
 use Rattle.std.specs.Prelude.{Option, None, Some, IfSome}
 use Rattle.std.proofs.lemmas.Bool.Decides.{nat_tests}
 use Rattle.ft_machine.specs.Parts.{stream_row}
@@ -82,39 +82,3 @@ returns-after-taking g c =
       same = was.store;
       counts = was.counts;
     }
-
-pub returns-in_err-id-clause-rows : goal.returns-in_err-id-clause-rows
-returns-in_err-id-clause-rows g c = search rules
-
-pub returns-in_err-id-clause-after : goal.returns-in_err-id-clause-after
-returns-in_err-id-clause-after g c = search rules
-
-pub returns-in_err-id-clause-reads : goal.returns-in_err-id-clause-reads
-returns-in_err-id-clause-reads g c = search rules
-
-pub returns-in_err-id-clause-rises : goal.returns-in_err-id-clause-rises
-returns-in_err-id-clause-rises g c = search rules
-
-pub returns-in_err-id-clause-same : goal.returns-in_err-id-clause-same
-returns-in_err-id-clause-same g c = search rules
-
-pub returns-in_err-id-clause-counts : goal.returns-in_err-id-clause-counts
-returns-in_err-id-clause-counts g c = search rules
-
-pub returns-in_err-take_doc-clause-rows : goal.returns-in_err-take_doc-clause-rows
-returns-in_err-take_doc-clause-rows g c = search rules
-
-pub returns-in_err-take_doc-clause-after : goal.returns-in_err-take_doc-clause-after
-returns-in_err-take_doc-clause-after g c = search rules
-
-pub returns-in_err-take_doc-clause-reads : goal.returns-in_err-take_doc-clause-reads
-returns-in_err-take_doc-clause-reads g c = search rules
-
-pub returns-in_err-take_doc-clause-rises : goal.returns-in_err-take_doc-clause-rises
-returns-in_err-take_doc-clause-rises g c = search rules
-
-pub returns-in_err-take_doc-clause-same : goal.returns-in_err-take_doc-clause-same
-returns-in_err-take_doc-clause-same g c = search rules
-
-pub returns-in_err-take_doc-clause-counts : goal.returns-in_err-take_doc-clause-counts
-returns-in_err-take_doc-clause-counts g c = search rules

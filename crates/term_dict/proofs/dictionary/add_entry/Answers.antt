@@ -1,4 +1,4 @@
-use Rattle.std.proofs.Common.{◌∙◌, ap, sym, subst, refl, arith, is_some, IsSome, Some, None, rules}
+use Rattle.std.proofs.Common.{◌∙◌, ap, sym, subst, refl, arith, is_some, IsSome, Some, None}
 use Rattle.std.proofs.lemmas.Bool.{false≢true}
 use Rattle.std.proofs.lemmas.Map.Steps.{set_value_same}
 use Rattle.std.proofs.lemmas.Result.{on_ok_weaker, on_err_weaker}
@@ -51,27 +51,3 @@ returns-clause-ok g c =
 
 pub returns-clause-taken : goal.returns-clause-taken
 returns-clause-taken g c = rw (found c.args.word.now c.args.lists.now.entries None c.in_default.ensures.value) c.add_word.ensures.taken
-
-pub returns-in-Some-clause-kept : goal.returns-in-Some-clause-kept
-returns-in-Some-clause-kept g c = search rules
-
-pub returns-in-Some-clause-event : goal.returns-in-Some-clause-event
-returns-in-Some-clause-event g c = search rules
-
-pub returns-in-Some-clause-rises : goal.returns-in-Some-clause-rises
-returns-in-Some-clause-rises g c = search rules
-
-pub returns-in-Some-clause-once : goal.returns-in-Some-clause-once
-returns-in-Some-clause-once g c = search rules
-
-pub returns-clause-err : goal.returns-clause-err
-returns-clause-err g c = search rules
-
-pub returns-clause-event : goal.returns-clause-event
-returns-clause-event g c = search rules
-
-pub returns-clause-rises : goal.returns-clause-rises
-returns-clause-rises g c = search rules
-
-pub returns-clause-once : goal.returns-clause-once
-returns-clause-once g c = search rules

@@ -1,4 +1,4 @@
-use Rattle.std.proofs.Common.{subst, refl, IsSome, Some, rules}
+use Rattle.std.proofs.Common.{subst, refl, IsSome, Some}
 use Rattle.term_dict.specs.Terms.{list_of}
 use Rattle.term_dict.proofs.TagLaws.{tags_found, puts_rows, sets_tag}
 use Rattle.term_dict.proofs.tags.put_into.Goals as goal
@@ -16,30 +16,3 @@ returns-in-Some-clause-sets c =
     sets_tag c.args.field c.args.tag.now (λ _. Some c.args.list) c.put_list.new.self c.in-Some.tags.now rows (c.get_mut.follows.lender c.put_list.new.self).entries
     (puts_rows c.args.field c.put_list.new.self rows (c.get_mut.follows.lender c.put_list.new.self).entries updates.1 updates.2)
     (tags_found c.args.field rows (Some c.in-Some.tags.now) c.in-Some.ensures.value) c.put_list.ensures
-
-pub get_mut-requires : goal.get_mut-requires
-get_mut-requires c = search rules
-
-pub part_some-fields : goal.part_some-fields
-part_some-fields c = search rules
-
-pub len-requires : goal.len-requires
-len-requires c = search rules
-
-pub back_relent_following-fields : goal.back_relent_following-fields
-back_relent_following-fields c = search rules
-
-pub part_none-fields : goal.part_none-fields
-part_none-fields c = search rules
-
-pub drop-list-requires : goal.drop-list-requires
-drop-list-requires c κs = search rules
-
-pub returns-in-Some-clause-tags : goal.returns-in-Some-clause-tags
-returns-in-Some-clause-tags c = search rules
-
-pub returns-in_default-clause-sets : goal.returns-in_default-clause-sets
-returns-in_default-clause-sets c = search rules
-
-pub returns-in_default-clause-tags : goal.returns-in_default-clause-tags
-returns-in_default-clause-tags c = search rules

@@ -1,4 +1,4 @@
-use Rattle.std.proofs.Common.{◌≡◌, ◌∙◌, ◌++◌, None, ap, sym, rules}
+use Rattle.std.proofs.Common.{◌≡◌, ◌∙◌, ◌++◌, None, ap, sym}
 use Rattle.std.specs.Map.{lookup}
 use Rattle.indexmap.proofs.MapLemmas.{OnOk-map}
 use Rattle.expr_eval.specs.Lending.{row_of}
@@ -26,6 +26,3 @@ returns-in-None c =
     ∙ (sym (first_noted c.args.def.now c.args.by.now c.args.reduce.now (row_of c.args.row) c.as_slice.result.now key_is c.self.inside.table.entries none)
     ∙ ap (λ (t : Table). note_row c.args.def.now c.args.by.now c.args.reduce.now t (row_of c.args.row)) c.self.view_is))
     c.insert_first.ensures
-
-pub returns-in_err-spell_tuple : goal.returns-in_err-spell_tuple
-returns-in_err-spell_tuple c = search rules

@@ -43,27 +43,3 @@ returns-in-Range-clause-ready g c =
     (range_same held leaf c.in-Range.field c.in-Range.low c.interval-interval.result.low c.interval-interval.result.high (option_copied c.range.result) c.in-Range.is found
     c.interval-interval.ensures.low c.interval-interval.ensures.high)
     (range_fits held leaf c.in-Range.field c.in-Range.low (option_copied c.range.result) c.read_in-in-Range.new.place c.in-Range.is found c.read_in-in-Range.ensures.sound) c.read_in-in-Range.ensures.ahead
-
-pub returns-in-Word-clause-least : goal.returns-in-Word-clause-least
-returns-in-Word-clause-least g c = search rules
-
-pub returns-in-Word-clause-same : goal.returns-in-Word-clause-same
-returns-in-Word-clause-same g c = search rules
-
-pub returns-in-Word-clause-counts : goal.returns-in-Word-clause-counts
-returns-in-Word-clause-counts g c = search rules
-
-pub returns-in-Tag-clause-least : goal.returns-in-Tag-clause-least
-returns-in-Tag-clause-least g c = search rules
-
-pub returns-in-Tag-clause-same : goal.returns-in-Tag-clause-same
-returns-in-Tag-clause-same g c = search rules
-
-pub returns-in-Tag-clause-counts : goal.returns-in-Tag-clause-counts
-returns-in-Tag-clause-counts g c = search rules
-
-pub returns-in-Range-clause-same : goal.returns-in-Range-clause-same
-returns-in-Range-clause-same g c = search rules
-
-pub returns-in-Range-clause-counts : goal.returns-in-Range-clause-counts
-returns-in-Range-clause-counts g c = search rules

@@ -1,5 +1,5 @@
 use Rattle.std.specs.Prelude.{◌≤◌, ◌<◌, ◌+◌, Option}
-use Rattle.std.proofs.Common.{arith, ap, sym, subst, rules}
+use Rattle.std.proofs.Common.{arith, ap, sym, subst}
 use Rattle.ft_machine.specs.Machine.{State}
 use Rattle.ft_machine.specs.Step.{last_number}
 use Rattle.indexed_store.specs.Holding.{Holding, IsBook, seen}
@@ -26,30 +26,3 @@ invariant_of-self-in_default c =
       room = c.make.ensures.capacity;
       ids = c.self.invariant.ids;
     }
-
-pub returns-in-Nothing-clause-state : goal.returns-in-Nothing-clause-state
-returns-in-Nothing-clause-state c = search rules
-
-pub returns-in-Nothing-clause-next : goal.returns-in-Nothing-clause-next
-returns-in-Nothing-clause-next c = search rules
-
-pub returns-in-Nothing-clause-quiet : goal.returns-in-Nothing-clause-quiet
-returns-in-Nothing-clause-quiet c = search rules
-
-pub returns-in-Nothing-clause-same : goal.returns-in-Nothing-clause-same
-returns-in-Nothing-clause-same c = search rules
-
-pub returns-in-OpenCursor-clause-state : goal.returns-in-OpenCursor-clause-state
-returns-in-OpenCursor-clause-state c = search rules
-
-pub returns-in-OpenCursor-clause-next : goal.returns-in-OpenCursor-clause-next
-returns-in-OpenCursor-clause-next c = search rules
-
-pub returns-in-OpenCursor-clause-quiet : goal.returns-in-OpenCursor-clause-quiet
-returns-in-OpenCursor-clause-quiet c = search rules
-
-pub returns-in-OpenCursor-clause-same : goal.returns-in-OpenCursor-clause-same
-returns-in-OpenCursor-clause-same c = search rules
-
-pub returns-in_default : goal.returns-in_default
-returns-in_default c = search rules

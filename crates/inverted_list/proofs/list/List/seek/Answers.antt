@@ -1,4 +1,4 @@
-use Rattle.std.proofs.Common.{arith, ◌∙◌, sym, rules}
+use Rattle.std.proofs.Common.{arith, ◌∙◌, sym}
 use Rattle.inverted_list.proofs.FoundLaws.{among, behind_found, least_in_block, least_nowhere, least_there, fewer_steps}
 use Rattle.inverted_list.proofs.list.List.seek.Goals as goal
 
@@ -58,30 +58,3 @@ returns-clause-anew g c =
     let there = among c.args.from c.args.self.now.entries c.in-Some.block.now c.in-Some.ensures.rises (sym c.in-Some.ensures.found) in
     let few = there.parted.few in
     fewer_steps _ _ _ (omega (arith, c.walk-id.ensures.cost, few)) c.number_from-number.ensures.anew
-
-pub returns-in_default-clause-marker : goal.returns-in_default-clause-marker
-returns-in_default-clause-marker g c = search rules
-
-pub returns-in_default-clause-sound : goal.returns-in_default-clause-sound
-returns-in_default-clause-sound g c = search rules
-
-pub returns-in_default-clause-last : goal.returns-in_default-clause-last
-returns-in_default-clause-last g c = search rules
-
-pub returns-in_default-clause-entry : goal.returns-in_default-clause-entry
-returns-in_default-clause-entry g c = search rules
-
-pub returns-in_default-clause-counts : goal.returns-in_default-clause-counts
-returns-in_default-clause-counts g c = search rules
-
-pub returns-clause-marker : goal.returns-clause-marker
-returns-clause-marker g c = search rules
-
-pub returns-clause-sound : goal.returns-clause-sound
-returns-clause-sound g c = search rules
-
-pub returns-clause-last : goal.returns-clause-last
-returns-clause-last g c = search rules
-
-pub returns-clause-counts : goal.returns-clause-counts
-returns-clause-counts g c = search rules
