@@ -2,9 +2,10 @@
 """Runs the gate and tells what it cost: processor minutes of each crate's proof, tests and wrong bodies, and of the whole.
 
     tools/gate_minutes.py [--anew] [LOG]     at the top of the repository; what `rt ci` prints goes to LOG (/tmp/gate.log);
-                                             with --anew from nothing, else over what earlier gates kept
+                                             with --anew from nothing, else over what earlier gates kept; a kit
+                                             whose `rt ci` knows no --anew keeps nothing
 
-For so many processors alone: `taskset -c 0,1 tools/gate_minutes.py`. Run nothing else beside it. A process is looked at
+For so many processors alone: `RT_JOBS=2 taskset -c 0,1 tools/gate_minutes.py`. Run nothing else beside it. A process is looked at
 twice a second, so the crates together lack a little of the whole, which is the system's own count.
 
 Processor minutes depend on the machine, and on a virtual one on its neighbours. So a loop of a fixed length is timed every half

@@ -100,7 +100,7 @@ fn rank_all(
 {
     let mut made = Vec::with_capacity(alloc, rows.len())?;
     for row in rows {
-        made.push(rank(alloc, def, keys, row)?)?;
+        made.push_reserved(rank(alloc, def, keys, row)?);
     }
     Ok(made)
 }

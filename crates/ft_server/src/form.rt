@@ -48,10 +48,12 @@ fn form_of(words: &[String]) -> Option<Form>
     match words {
         [word] if word.as_str() == "script" => Some(Form::Script),
         [word, port, workers] if word.as_str() == "serve" => {
-            Some(Form::Serve {
-                port: number_in(port.as_str(), LAST_PORT)?,
-                workers: number_in(workers.as_str(), MOST_WORKERS)?,
-            })
+            let port = number_in(port.as_str(), LAST_PORT);
+            let workers = number_in(workers.as_str(), MOST_WORKERS);
+            match (port, workers) {
+                (Some(port), Some(workers)) => Some(Form::Serve { port, workers }),
+                _ => None,
+            }
         }
         _ => None,
     }

@@ -1,12 +1,12 @@
 //! The documents by their ids, of which the last may wait.
-ghost use Rattle.std.specs.Prelude.{◌≡◌, Some, nat_eq};
+ghost use Rattle.std.specs.Prelude.{◌≡◌, ◌∷◌, ◌++◌, [], Some, nat_eq, IfOk, OnOk, OnErr};
 ghost use Rattle.std.specs.Option.{option_copied, option_eq};
 ghost use Rattle.std.specs.Map.{lookup, remove_entry};
-ghost use Rattle.ft_base.specs.Rows.{live_rows, WaitsLast};
+ghost use Rattle.ft_base.specs.Rows.{Below, live_rows, WaitsLast};
 ghost use Rattle.hash_store.specs.Rows.{id_from};
 
 use crate::by_key::ByKey;
-use ft_base::Doc;
+use ft_base::{Doc, NoMemory};
 use id_rows::IdRows;
 
 // Whether the document of the id waits.
@@ -28,6 +28,18 @@ pub fn live_doc<'a>(docs: &'a IdRows<Doc>, pending: &Option<ByKey>, id: u64) -> 
         return None; // It isn't written yet.
     }
     docs.get(id)
+}
+
+/// Takes a document in, behind all others, and shares it.
+pub fn push_shared(docs: &mut IdRows<Doc>, doc: Doc) -> Result<ByKey, NoMemory>
+    requires { Below doc.id docs.old }
+    ensures ok { OnOk result (docs.new ≡ docs.old ++ (doc.id, doc) ∷ []) }
+    ensures shared { IfOk result (λ waiting. waiting ≡ doc) }
+    ensures err { OnErr result (docs.new ≡ docs.old) }
+{
+    let waiting = ByKey::of(doc.share()?);
+    docs.push(doc)?;
+    Ok(waiting)
 }
 
 /// Takes the row of the id out, where there is one.

@@ -8,7 +8,7 @@ ghost use Rattle.hash_store.specs.Erasing.{erase_id};
 ghost use Rattle.hash_store.specs.Rows.{IsStore, store_of};
 ghost use Rattle.hash_store.specs.Store.{Store, IdsRise, KeysDiffer, after_read, after_reads};
 
-use crate::by_id::{drop_row, drop_waiting, live_doc};
+use crate::by_id::{drop_row, drop_waiting, live_doc, push_shared};
 use crate::by_key::ByKey;
 use crate::walk::{AllRead, DocWalk};
 use ft_base::{Doc, NoMemory};
@@ -149,9 +149,8 @@ impl HashStore {
         ensures err { OnErr result (self.new ≡ self.old) }
     {
         let id = doc.id();
-        let waiting = ByKey::of(doc.share()?);
         self.keys.reserve(1)?;
-        self.docs.push(doc)?;
+        let waiting = push_shared(&mut self.docs, doc)?;
         // What was abandoned goes only now, so that out of memory all stays as it was.
         drop_waiting(&mut self.docs, &self.pending);
         self.pending = Some(waiting);

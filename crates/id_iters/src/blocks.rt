@@ -69,8 +69,10 @@ fn read_list<P: Payload, H: HitTest<P>, T: Lists, L: Ledger>(
 {
     'read: while place.last < u64::MAX {
         let start = later(from, place.last + 1);
-        if !read_block(list, test, place, ahead, start, steps)? {
-            return Ok(None);
+        match read_block(list, test, place, ahead, start, steps) {
+            Ok(true) => {}
+            Ok(false) => return Ok(None),
+            Err(fault) => return Err(fault),
         }
         if let Some(id) = ahead.next_live(lists, start) {
             return Ok(Some(id));

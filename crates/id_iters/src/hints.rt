@@ -45,20 +45,20 @@ fn add_hints<T: Lists, L: Ledger>(
 {
     match iter {
         Iter::Leaf(leaf) => add_leaf(leaf, lists, after, hints, steps),
-        Iter::And(parts) => add_parts(parts.as_slice(), lists, after, hints, steps),
-        Iter::Or { parts, .. } => add_union(parts.as_slice(), lists, after, hints, steps),
+        Iter::And(parts) => add_parts(parts, lists, after, hints, steps),
+        Iter::Or { parts, .. } => add_union(parts, lists, after, hints, steps),
         Iter::Not(part) => add_ahead(part, lists, after, hints, steps),
         Iter::Optional(part) => add_hints(part, lists, after, hints, steps),
-        Iter::Phrase(phrase) => add_words(phrase.words.as_slice(), lists, after, hints, steps),
-        Iter::All => Ok(()),
-        Iter::Empty => Ok(()),
+        Iter::Phrase(phrase) => add_words(&phrase.words, lists, after, hints, steps),
+        // The others have no lists.
+        _ => Ok(()),
     }
 }
 
 // Those of the parts of an intersection.
 #[cycle(add_hints)]
 fn add_parts<T: Lists, L: Ledger>(
-    parts: &[Iter],
+    parts: &ListOf<Iter>,
     lists: &T,
     after: u64,
     hints: &mut Vec<Hint>,
@@ -68,7 +68,7 @@ fn add_parts<T: Lists, L: Ledger>(
         (Hinted (T.held lists.now) after (flat_map leaves_of parts.now) hints.old.items hints.new.items) }
     ensures counts { steps.old ≤ steps.new }
 {
-    'parts: for part in parts {
+    'parts: for part in parts.as_slice() {
         add_hints(part, lists, after, hints, steps)?;
     }
     Ok(())
@@ -77,7 +77,7 @@ fn add_parts<T: Lists, L: Ledger>(
 // Those of the parts of a union.
 #[cycle(add_hints)]
 fn add_union<T: Lists, L: Ledger>(
-    parts: &[Ahead],
+    parts: &ListOf<Ahead>,
     lists: &T,
     after: u64,
     hints: &mut Vec<Hint>,
@@ -87,7 +87,7 @@ fn add_union<T: Lists, L: Ledger>(
         (Hinted (T.held lists.now) after (flat_map leaves_of_ahead parts.now) hints.old.items hints.new.items) }
     ensures counts { steps.old ≤ steps.new }
 {
-    'parts: for part in parts {
+    'parts: for part in parts.as_slice() {
         add_ahead(part, lists, after, hints, steps)?;
     }
     Ok(())
@@ -110,7 +110,7 @@ fn add_ahead<T: Lists, L: Ledger>(
 
 // Those of the words of a phrase.
 fn add_words<T: Lists, L: Ledger>(
-    words: &[Leaf],
+    words: &ListOf<Leaf>,
     lists: &T,
     after: u64,
     hints: &mut Vec<Hint>,
@@ -119,7 +119,7 @@ fn add_words<T: Lists, L: Ledger>(
     ensures hinted { OnOk result (Hinted (T.held lists.now) after words.now hints.old.items hints.new.items) }
     ensures counts { steps.old ≤ steps.new }
 {
-    'words: for word in words {
+    'words: for word in words.as_slice() {
         add_leaf(word, lists, after, hints, steps)?;
     }
     Ok(())

@@ -5,6 +5,7 @@ ghost use Rattle.id_iters.specs.Held.{Held, AreLists};
 ghost use Rattle.id_iters.specs.Least.{IsLeast, NoneBetween};
 ghost use Rattle.id_iters.specs.Leaves.{has_word, leaf_has, word_entries};
 ghost use Rattle.id_iters.specs.Places.{FitsList, LeafReady, StandAt, WordReady};
+ghost use Rattle.id_iters.specs.declared.list_name.ListName.TheVariants as names;
 
 use crate::blocks::read_in;
 use crate::hit_test::{EveryHit, Interval};
@@ -140,18 +141,43 @@ impl Leaf {
                 steps,
             ),
             ListName::Range { field, low } => {
-                let interval = self.interval();
-                read_in(
-                    lists.range(*field, *low),
-                    &interval,
-                    &mut self.place,
-                    &mut self.ahead,
-                    lists,
-                    from,
-                    steps,
-                )
+                let (field, low) = (*field, *low);
+                self.read_range(lists, field, low, from, steps)
             }
         }
+    }
+
+    // The same in the list of this range.
+    fn read_range<T: Lists, L: Ledger>(
+        &mut self,
+        lists: &T,
+        field: u16,
+        low: i64,
+        from: u64,
+        steps: &mut Steps<L>,
+    ) -> Result<Option<u64>, NoMemory>
+        requires range { self.old.list ≡ names.Range field low }
+        requires lists { AreLists (T.held lists.now) }
+        requires sound { FitsList (T.held lists.now) self.old.list self.old.place }
+        requires used { NoneBetween (λ id. (T.held lists.now).live id
+            && leaf_has (T.held lists.now) self.old id) from (self.old.place.last + 1) }
+        ensures least { IfOk result (λ r. IsLeast
+            (λ id. (T.held lists.now).live id && leaf_has (T.held lists.now) self.old id) from r) }
+        ensures same { self.new ≡ record self.old { place = self.new.place; ahead = self.new.ahead } }
+        ensures ready { IfOk result (λ r. IfSome r (λ id.
+            LeafReady (T.held lists.now) self.new (id + 1))) }
+        ensures counts { steps.old ≤ steps.new }
+    {
+        let interval = self.interval();
+        read_in(
+            lists.range(field, low),
+            &interval,
+            &mut self.place,
+            &mut self.ahead,
+            lists,
+            from,
+            steps,
+        )
     }
 
     // The numbers that count.

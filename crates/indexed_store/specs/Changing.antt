@@ -67,6 +67,16 @@ is_write (CloseCursor place) = false
 is_write CloseCursors = false
 is_write Flush = true
 
+-- Nothing changes but documents. That a cursor opens changes none of what there is: it is what waits.
+abbrev pub IsOfDocuments : Change → Type 0
+IsOfDocuments Nothing = Unit {0}
+IsOfDocuments (Write put) = Unit {0}
+IsOfDocuments (Move put from) = Unit {0}
+IsOfDocuments (EraseKey key) = Unit {0}
+IsOfDocuments (EraseKeys keys) = Unit {0}
+IsOfDocuments OpenCursor = Unit {0}
+IsOfDocuments _ = ⊥
+
 -- a key that is not that of the document that waits
 abbrev pub IsOther : List ℕ → Option Doc → Type 0
 IsOther from None = ⊥

@@ -1,13 +1,15 @@
-//! An index is dropped. It takes no memory.
+//! An index is dropped, and its cursors with it. It takes no memory.
 ghost use Rattle.std.specs.Prelude.{◌≡◌, ◌≤◌, ℕ, fold, map, length, vec_capacity};
 ghost use Rattle.hash_store.specs.Erasing.{erase_id};
 ghost use Rattle.hash_store.specs.Store.{Store};
 ghost use Rattle.ft_machine.specs.Definitions.{index_of, without_index, without_members};
+ghost use Rattle.indexed_store.specs.Changing.{without_cursors_of};
 ghost use Rattle.indexed_store.specs.DefinitionsOf.{definitions_of};
 ghost use Rattle.indexed_store.specs.Standing.{InStep};
 
-use crate::index_list::take_index;
+use crate::index_list::{index_named, take_index};
 use crate::removals::remove_id;
+use cursor_book::CursorBook;
 use ft_index::FtIndex;
 use hash_store::HashStore;
 
@@ -21,6 +23,30 @@ pub fn drop_index(indexes: &mut Vec<FtIndex>, name: &[u8])
     ensures capacity { vec_capacity indexes.old ≤ vec_capacity indexes.new }
 {
     let _ = take_index(indexes, name);
+}
+
+/// The index of a name is gone, and its cursors. The documents stay.
+pub fn drop_with_cursors(indexes: &mut Vec<FtIndex>, cursors: &mut CursorBook, name: &[u8])
+    ensures definitions { definitions_of indexes.new.items
+        ≡ without_index (definitions_of indexes.old.items) name.now }
+    ensures cursors { cursors.new
+        ≡ without_cursors_of (index_of (definitions_of indexes.old.items) name.now) cursors.old }
+    ensures kept { (store : Store) (next : ℕ)
+        → InStep store indexes.old.items next → InStep store indexes.new.items next }
+    ensures fewer { length indexes.new.items ≤ length indexes.old.items }
+    ensures capacity { vec_capacity indexes.old ≤ vec_capacity indexes.new }
+{
+    drop_cursors(indexes.as_slice(), cursors, name);
+    drop_index(indexes, name);
+}
+
+/// The cursors of the index of a name are gone.
+pub fn drop_cursors(indexes: &[FtIndex], cursors: &mut CursorBook, name: &[u8])
+    ensures { cursors.new ≡ without_cursors_of (index_of (definitions_of indexes.now) name.now) cursors.old }
+{
+    if let Some(index) = index_named(indexes, name) {
+        cursors.drop_index(index.def().serial);
+    }
 }
 
 /// Takes the index of a name out, and the documents that are its members.

@@ -2,6 +2,7 @@
 //! key's old one's place everywhere at once, which wants no memory.
 ghost use Rattle.std.specs.Prelude.{◌≡◌, ◌<◌, ◌+◌, ◌-◌, List, Some, length, IfOk, OnOk};
 ghost use Rattle.ft_base.specs.Docs.{Doc};
+ghost use Rattle.ft_base.specs.Space.{erase};
 ghost use Rattle.indexed_store.specs.Writing.{Waits, written};
 ghost use Rattle.indexed_store.specs.Standing.{AreWritten, InStep};
 ghost use Rattle.ft_machine.specs.Definitions.{all_tried};
@@ -9,6 +10,7 @@ ghost use Rattle.indexed_store.specs.DefinitionsOf.{definitions_of};
 ghost use Rattle.ft_meaning.specs.Meaning.{ValuesFit};
 
 use crate::indexes::{commit_all, prepare_all};
+use crate::removals::remove;
 use ft_base::{Doc, HashRec, NoMemory};
 use ft_index::FtIndex;
 use hash_store::{HashStore, ReadyPut};
@@ -55,6 +57,25 @@ pub fn settle(store: &mut HashStore, indexes: &mut [FtIndex], number: u64, put: 
 {
     let replaced = store.commit_put(put);
     commit_all(indexes, replaced);
+}
+
+/// The same, and then the document of another key is gone.
+pub fn settle_moved(
+    store: &mut HashStore,
+    indexes: &mut [FtIndex],
+    number: u64,
+    put: ReadyPut,
+    from: &[u8],
+)
+    requires documents { AreWritten store.old.space number }
+    requires kept { InStep store.old indexes.old (number + 1) }
+    requires waits { Waits put number store.old.space indexes.old store.old.ready }
+    ensures space { store.new.space ≡ erase (written store.old.ready store.old.space) from.now }
+    ensures kept { InStep store.new indexes.new (number + 1) }
+    ensures definitions { definitions_of indexes.new ≡ all_tried store.old.ready (definitions_of indexes.old) }
+{
+    settle(store, indexes, number, put);
+    remove(store, indexes, from);
 }
 
 /// Lets a key's new hash wait, under a new id.

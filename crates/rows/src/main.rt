@@ -46,6 +46,11 @@ fn main(rt: HostRuntime) -> io::Result<()> {
     let text = io::read_to_string(rt.alloc(), rt.reader())?;
     let hashing = RandomState::new(&rt)?;
     let tally = run_all(&rt, rt.alloc(), hashing, text.as_str())?;
+    print(&rt, &tally)
+}
+
+// Prints what is told of the rows that differ, and the counts.
+fn print(rt: &HostRuntime, tally: &Tally) -> io::Result<()> {
     let told = std::str::from_utf8(tally.told.as_slice()).unwrap_or("?");
     println!(rt;
         "{told}{} sessions, {} rows, {} differ",

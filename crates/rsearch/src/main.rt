@@ -1,60 +1,45 @@
 //! The program: `rsearch script` answers the requests of standard input on standard output, and
 //! `rsearch serve PORT WORKERS` answers connections at a port of 127.0.0.1 by so many threads.
 //!
-//! `main` only makes the real things, the streams, connections, clocks and threads of the system, and
-//! calls `run` of `ft_server` or `serve` of `worker_pool`, which carry the promise of the whole.
+//! `main` only makes the ports of the system, of `system_ports`, and calls `run` of `ft_server` or `serve` of
+//! `worker_pool`, which carry the promise of the whole.
 #![tactic(auto)]
 
-mod making;
-mod sleep_pace;
-mod std_link;
-mod tcp;
-#[cfg(test)]
-mod tests;
-mod threads;
-
-ghost use Rattle.std.specs.Prelude.{◌≡◌, ◌<◌, false, length, IfSome};
+ghost use Rattle.std.specs.Prelude.{◌≡◌, ◌<◌, false, length, IfOk, IfSome};
 ghost use Rattle.std.specs.List.{All};
 ghost use Rattle.std.specs.Process.{exit_status};
 ghost use Rattle.ft_server.specs.Status.{status_of};
 
-use fs_ports::{Door, Spawner};
+use fs_ports::Spawner;
 use ft_server::{Exit, Form, read_words, run};
-use making::{make_clocks, make_doors, make_pace};
-use sleep_pace::SleepPace;
 use std::alloc::Global;
 use std::env;
 use std::hash::RandomState;
 use std::io::ErrorKind;
 use std::marker::PhantomData;
+use std::net::{Net, TcpListener, TcpStream};
 use std::process::ExitCode;
 use std::sync::Wait;
 use std::thread::Threads;
-use std_link::{StdLink, SystemClock};
-use tcp::{TcpDoor, TcpLink};
-use threads::{ThreadSpawner, start_thread};
+use system_ports::{
+    NoDoors, StdLink, SystemClock, TcpDoor, TcpLink, ThreadSpawner, make_clocks, make_doors,
+    make_pace, start_thread,
+};
 use worker_pool::{Work, serve};
 
+// Functions that wait, start threads or reach connections are handed the system twice: `rt` for its bounds alone, `system` for what
+// it prints, reads and allocates.
 fn main(rt: HostRuntime) -> ExitCode {
-    let words = match words_of_the_line(&rt) {
-        Ok(words) => words,
-        Err(exit) => return end(&rt, exit),
+    let (words, hashing) = match begin(&rt) {
+        Ok(begun) => begun,
+        Err(code) => return code,
     };
     let line = words.as_slice();
-    let Ok(hashing) = RandomState::new(&rt) else {
-        return without_hashing(&rt);
+    let doors = match open_doors(&rt, &rt, line) {
+        Ok(Some(doors)) => doors,
+        Ok(None) => return answer_input(rt, &rt, hashing, line),
+        Err(code) => return code,
     };
-    let alloc = rt.alloc();
-    let Some((port, workers)) = place_of(alloc, line) else {
-        let mut clock = SystemClock { rt };
-        let mut link = StdLink::new(rt.stdin(), rt.stdout());
-        return end(&rt, run(&rt, alloc, hashing, line, &mut link, &mut clock));
-    };
-    let doors = match make_doors(&rt, alloc, port, workers) {
-        Ok(doors) => doors,
-        Err(exit) => return without_doors(&rt, exit),
-    };
-    let _ = eprintln!(rt; "rsearch: listening on 127.0.0.1:{port}, {workers} workers");
     // The closure has to name the door's type of links, which only its contract speaks of.
     let named: PhantomData<TcpLink> = PhantomData;
     let mut spawner = ThreadSpawner {
@@ -65,9 +50,53 @@ fn main(rt: HostRuntime) -> ExitCode {
         faults: 0,
         of: PhantomData,
     };
+    serve_doors(rt, &rt, hashing, line, doors, &mut spawner)
+}
+
+/// The words of the command line, and the hashing of keys, or how the process ends where there are none.
+fn begin(rt: &HostRuntime) -> Result<(Vec<String>, RandomState), ExitCode> {
+    let words = words_of_the_line(rt).map_err(|exit| end(rt, exit))?;
+    match RandomState::new(rt) {
+        Ok(hashing) => Ok((words, hashing)),
+        Err(_) => Err(without_hashing(rt)),
+    }
+}
+
+/// The doors that the words ask for, behind a line that says so; none where they ask for something else, and how the process
+/// ends where the doors cannot be had.
+fn open_doors<R: Net<Listener = TcpListener, Stream = TcpStream>>(
+    rt: &R,
+    system: &HostRuntime,
+    line: &[String],
+) -> Result<Option<Vec<TcpDoor>>, ExitCode>
+    ensures some { IfOk result (λ asked. IfSome asked (λ doors. 0 < length doors.items)) }
+    ensures idle { IfOk result (λ asked. IfSome asked (λ doors. All (λ door. door.out ≡ false) doors.items)) }
+{
+    let Some((port, workers)) = place_of(system.alloc(), line) else {
+        return Ok(None);
+    };
+    match make_doors(rt, system.alloc(), port, workers) {
+        Ok(doors) => {
+            let _ = eprintln!(system; "rsearch: listening on 127.0.0.1:{port}, {workers} workers");
+            Ok(Some(doors))
+        }
+        Err(why) => Err(without_doors(system, why)),
+    }
+}
+
+/// Answers what comes in at the input, to its end.
+fn answer_input<R: Wait + std::rt::Clock + Copy + Drop>(
+    rt: R,
+    system: &HostRuntime,
+    hashing: RandomState,
+    line: &[String],
+) -> ExitCode {
+    let mut clock = SystemClock { rt };
+    let mut link = StdLink::new(system.stdin(), system.stdout());
+    let alloc = system.alloc();
     end(
-        &rt,
-        serve_doors(rt, alloc, hashing, line, doors, &mut spawner),
+        system,
+        run(&rt, alloc, hashing, line, &mut link, &mut clock),
     )
 }
 
@@ -77,23 +106,48 @@ fn serve_doors<
     S: Spawner<Work<TcpDoor, SystemClock<R>>>,
 >(
     rt: R,
+    system: &HostRuntime,
+    hashing: RandomState,
+    line: &[String],
+    doors: Vec<TcpDoor>,
+    spawner: &mut S,
+) -> ExitCode
+    requires some { 0 < length doors.items }
+    requires idle { All (λ door. door.out ≡ false) doors.items }
+    requires able { S.able spawner.old }
+{
+    let alloc = system.alloc();
+    match make_clocks(&rt, alloc, doors.len()) {
+        Ok(clocks) => {
+            let exit = serve_by(rt, alloc, hashing, line, doors, spawner, clocks);
+            end(system, exit)
+        }
+        Err(_) => end(system, Exit::NoMemory),
+    }
+}
+
+/// The same with a clock for each door.
+fn serve_by<
+    R: Threads + Wait + std::rt::Clock + Sync + Copy + Send + Drop + 'static,
+    S: Spawner<Work<TcpDoor, SystemClock<R>>>,
+>(
+    rt: R,
     alloc: Global,
     hashing: RandomState,
     line: &[String],
     doors: Vec<TcpDoor>,
     spawner: &mut S,
+    clocks: Vec<SystemClock<R>>,
 ) -> Exit
+    requires equal { length doors.items ≡ length clocks.items }
     requires some { 0 < length doors.items }
-    requires idle { All (λ door. (⟦<TcpDoor as Door>⟧.at door).out ≡ false) doors.items }
+    requires idle { All (λ door. door.out ≡ false) doors.items }
     requires able { S.able spawner.old }
 {
-    let Ok(clocks) = make_clocks(&rt, alloc, doors.len()) else {
-        return Exit::NoMemory;
-    };
-    let Ok(pace) = make_pace(&rt, alloc) else {
-        return Exit::NoMemory;
-    };
-    serve(&rt, alloc, hashing, line, doors, spawner, clocks, pace).0
+    match make_pace(&rt, alloc) {
+        Ok(pace) => serve(&rt, alloc, hashing, line, doors, spawner, clocks, pace).0,
+        Err(_) => Exit::NoMemory,
+    }
 }
 
 /// The words behind the program's name, or how the program ends where they cannot be had.
@@ -137,13 +191,17 @@ fn without_hashing(rt: &HostRuntime) -> ExitCode
 }
 
 /// Says that the port cannot be listened at, where that is why there are no doors.
-fn without_doors(rt: &HostRuntime, exit: Exit) -> ExitCode
-    ensures { exit_status result ≡ status_of exit }
+fn without_doors(rt: &HostRuntime, why: NoDoors) -> ExitCode
+    ensures door { why ≡ NoDoors.CannotListen → exit_status result ≡ status_of Exit.DoorFault }
+    ensures memory { why ≡ NoDoors.NoMemory → exit_status result ≡ status_of Exit.NoMemory }
 {
-    if exit == Exit::DoorFault {
-        let _ = eprintln!(rt; "rsearch: cannot listen");
+    match why {
+        NoDoors::CannotListen => {
+            let _ = eprintln!(rt; "rsearch: cannot listen");
+            end(rt, Exit::DoorFault)
+        }
+        NoDoors::NoMemory => end(rt, Exit::NoMemory),
     }
-    end(rt, exit)
 }
 
 /// The status of the process, behind the usage line where the words are of no form.

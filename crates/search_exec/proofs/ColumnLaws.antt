@@ -1,5 +1,5 @@
 -- The documents of the first ids, in the order of numbers that stand for what a key sees, are those of the window.
-use Rattle.std.proofs.Common.{◌≡◌, ◌+◌, ℕ, suc, zero, Bool, true, false, List, [], ◌∷◌, ◌++◌, length, map, take, drop, min, Ordering, is_lt, refl, sym, ap, ◌∙◌, inl, inr, arith, length-append}
+use Rattle.std.proofs.Common.{◌≡◌, ◌+◌, ℕ, suc, zero, Bool, true, false, List, [], ◌∷◌, ◌++◌, length, map, take, drop, min, Ordering, is_lt, refl, sym, ap, ◌∙◌, inl, inr, arith, append_assoc, length-append}
 use Rattle.std.specs.Prelude.{◌-◌, Err, IfOk, IsOk, Ok, OnOk, Result, ℤ, Option, None, Some, nat_eq, option_map, option_to_list, pos, if◌then◌else◌}
 use Rattle.std.specs.List.{AllByRecursion, cons_option, drop-map, flat_map, take-map}
 use Rattle.std.specs.List.Sorted.{IsStrictlyIncreasing, IsStrictlySortedBy}
@@ -180,15 +180,16 @@ docs_at-more rows row docs =
     one (Some doc) = refl
 
 -- the replies once the document of one more id is shown
-pub shown-next : (shape : Shape) (rows : List (Ranked ℕ)) (row : Ranked ℕ) (space now : List Doc) (old new : List Reply) (first : Reply) → now ≡ space
-    → old ≡ first ∷ flat_map (row_by shape) (docs_at rows space) → new ≡ old ++ flat_map (row_by shape) (option_to_list (doc_at row.item now))
-    → new ≡ first ∷ flat_map (row_by shape) (docs_at (rows ++ row ∷ []) space)
+pub shown-next : (shape : Shape) (rows : List (Ranked ℕ)) (row : Ranked ℕ) (space now : List Doc) (old new first : List Reply) → now ≡ space
+    → old ≡ first ++ flat_map (row_by shape) (docs_at rows space) → new ≡ old ++ flat_map (row_by shape) (option_to_list (doc_at row.item now))
+    → new ≡ first ++ flat_map (row_by shape) (docs_at (rows ++ row ∷ []) space)
 shown-next shape rows row space now old new first same was next =
     let more = option_to_list (doc_at row.item space) in
     next
     ∙ ((λ i. was i ++ flat_map (row_by shape) (option_to_list (doc_at row.item (same i))))
-    ∙ ap (λ (replies : List Reply). first ∷ replies)
-    (sym (flat_map-append (row_by shape) (docs_at rows space) more) ∙ ap (flat_map (row_by shape)) (sym (docs_at-more rows row space))))
+    ∙ (append_assoc first (flat_map (row_by shape) (docs_at rows space)) (flat_map (row_by shape) more)
+    ∙ ap (λ (replies : List Reply). first ++ replies)
+    (sym (flat_map-append (row_by shape) (docs_at rows space) more) ∙ ap (flat_map (row_by shape)) (sym (docs_at-more rows row space)))))
 
 reads-both : (none : Bool) (start first more : ℕ)
     → reads_after (reads_after start (if none then 0 else first)) (if none then 0 else more) ≡ reads_after start (if none then 0 else first + more)

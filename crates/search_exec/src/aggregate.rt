@@ -100,11 +100,15 @@ fn note_all<T: Lists, L: Ledger>(
 {
     tell(store);
     let mut from = 1;
-    'asking: while let Some(id) = iter.seek(lists, from, counter)? {
+    'asking: loop {
+        let id = match iter.seek(lists, from, counter) {
+            Ok(Some(id)) => id,
+            Ok(None) => return Ok(()),
+            Err(fault) => return Err(fault),
+        };
         note_id(feed, store, id)?;
         from = id + 1;
     }
-    Ok(())
 }
 
 /// Notes the document of an id, which is read once.

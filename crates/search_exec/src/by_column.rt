@@ -1,12 +1,12 @@
 //! A search that is sorted by numbers that the index keeps: no document is read for its order, and of all ids only the first
 //! are held, up to the end of the window. Then those of the window are shown.
-ghost use Rattle.std.specs.Prelude.{◌≡◌, ◌<◌, ◌≤◌, ◌+◌, ◌^◌, ◌++◌, [], Some, IfOk, IsOk, OnOk, length, option_to_list, flat_map};
+ghost use Rattle.std.specs.Prelude.{◌≡◌, ◌<◌, ◌≤◌, ◌+◌, ◌^◌, ◌++◌, [], Some, IfOk, IsOk, OnOk, length, drop, option_to_list, flat_map};
 ghost use Rattle.hash_store.specs.Store.{reads_after};
 ghost use Rattle.id_iters.specs.Held.{AreLists};
 ghost use Rattle.search_exec.specs.Candidates.{in_candidates, AreWalkable, MayAsk, docs_counted};
 ghost use Rattle.search_exec.specs.Ids.{doc_at};
 ghost use Rattle.search_exec.specs.Pages.{reads_of, reads_shown};
-ghost use Rattle.search_exec.specs.Ranks.{AreAllRanked, offered, page_at, ranked_id, reads_at};
+ghost use Rattle.search_exec.specs.Ranks.{AreAllRanked, docs_at, offered, page_at, ranked_id, reads_at};
 ghost use Rattle.search_exec.specs.Shapes.{AreSeen, order_by, page_by, row_by};
 
 use crate::candidates::Candidates;
@@ -142,10 +142,30 @@ fn show_rows(
     ensures same { store.new ≡ record store.old { reads = store.new.reads } }
 {
     let mut replies = counted(alloc, total, 1)?;
-    'showing: for row in rows.into_iter().skip(shape.offset) {
-        show_id(alloc, store, shape, row.item, &mut replies)?;
-    }
+    show_ids(alloc, store, shape, rows, &mut replies)?;
     Ok(Reply::Array(ListOf::from_vec(replies)))
+}
+
+// Shows the documents of the ids that are ranked from the window's start on.
+fn show_ids(
+    alloc: Global,
+    store: &mut HashStore,
+    shape: &Shape<'_>,
+    rows: Vec<Ranked<u64>>,
+    replies: &mut Vec<Reply>,
+) -> Result<(), NoMemory>
+    requires bits { store.old.reads < 2 ^ 64 }
+    ensures rows { OnOk result (replies.new.items ≡ replies.old.items
+        ++ flat_map (row_by shape.now) (docs_at (drop shape.now.offset rows.items) store.old.space)) }
+    ensures reads { OnOk result (store.new.reads
+        ≡ reads_after store.old.reads (reads_at shape.now rows.items store.old.space)) }
+    ensures rises { store.old.reads ≤ store.new.reads }
+    ensures same { store.new ≡ record store.old { reads = store.new.reads } }
+{
+    'showing: for row in rows.into_iter().skip(shape.offset) {
+        show_id(alloc, store, shape, row.item, replies)?;
+    }
+    Ok(())
 }
 
 // Shows the document of an id, where there is one. With its fields it is read once, and by its key alone it isn't read.

@@ -80,12 +80,18 @@ fn offer_all<T: Lists, L: Ledger>(
     tell(store);
     let mut total = 0;
     let mut from = 1;
-    'asking: while let Some(id) = candidates.seek(lists, from, steps)? {
-        offer_id(first, alloc, store, id, shape, key)?;
+    'asking: loop {
+        let id = match candidates.seek(lists, from, steps) {
+            Ok(Some(id)) => id,
+            Ok(None) => return Ok(total),
+            Err(fault) => return Err(fault),
+        };
+        if let Err(fault) = offer_id(first, alloc, store, id, shape, key) {
+            return Err(fault);
+        }
         total += 1;
         from = id + 1;
     }
-    Ok(total)
 }
 
 // Offers the row of an id's document, which is read once.

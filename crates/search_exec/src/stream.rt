@@ -110,8 +110,10 @@ fn take_docs<T: Lists, L: Ledger>(
     tell(store);
     let mut last = after;
     'taking: while rows.len() < count {
-        let Some(id) = next_id(lists, iter, last, counter)? else {
-            break;
+        let id = match next_id(lists, iter, last, counter) {
+            Ok(Some(id)) => id,
+            Ok(None) => break,
+            Err(fault) => return Err(fault),
         };
         take_doc(def, store, steps, id, rows)?;
         last = id;

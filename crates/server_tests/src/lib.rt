@@ -1,5 +1,4 @@
-//! Tests of what no row of data can show: links that fail, commands that are abandoned, and sessions against a plain
-//! machine.
+//! Tests of what no row of data can show: links that fail, commands that are abandoned, threads, and the ports of the system.
 //!
 //! They are against mistakes that the check would pass: a definition that says something else than a client or a reader
 //! of the server's documents expects, a call that always runs out of memory, a condition that no caller can meet.
@@ -9,15 +8,11 @@
 #[cfg(test)]
 mod answers;
 #[cfg(test)]
-mod compared;
-#[cfg(test)]
 mod cuts;
 #[cfg(test)]
 mod events;
 #[cfg(test)]
 mod failed_calls;
-#[cfg(test)]
-mod found;
 #[cfg(test)]
 mod gates;
 #[cfg(test)]
@@ -25,15 +20,9 @@ mod histories;
 #[cfg(test)]
 mod links;
 #[cfg(test)]
-mod options;
-#[cfg(test)]
 mod passes;
 #[cfg(test)]
-mod plain;
-#[cfg(test)]
 mod ports;
-#[cfg(test)]
-mod queries;
 #[cfg(test)]
 mod rows;
 #[cfg(test)]
@@ -41,7 +30,7 @@ mod session;
 #[cfg(test)]
 mod stored;
 #[cfg(test)]
-mod turns;
+mod system;
 #[cfg(test)]
 mod wide;
 #[cfg(test)]

@@ -1,12 +1,23 @@
 //! Commands of many words: an HSET of 65,536, a hash of 1,000 fields, a key and a value of all bytes, and a DEL of more
 //! keys than are counted without memory.
 use crate::links::{Faults, is_run};
-use crate::turns::{put, put_line};
 use ft_base::put_int;
 use ft_server::Exit;
 use std::alloc::Global;
 use std::random::RandomSource;
 use std::sync::Wait;
+
+// Appends a text. One for which memory runs out is left out, as the replies then show.
+fn put(out: &mut Vec<u8>, text: &[u8]) {
+    let _ = out.extend_from_slice(text);
+}
+
+// Appends a line of a text and a number.
+fn put_line(out: &mut Vec<u8>, text: &[u8], number: usize) {
+    put(out, text);
+    let _ = put_int(out, i64::try_from(number).unwrap_or(0));
+    put(out, b"\r\n");
+}
 
 fn put_word(out: &mut Vec<u8>, word: &[u8]) {
     put_line(out, b"$", word.len());

@@ -1,4 +1,5 @@
 -- A worker serves one link more, and ends.
+use Rattle.std.specs.Prelude.{Bool, ⊤}
 use Rattle.std.proofs.Common.{◌≡◌, ◌≤◌, true, false, List, [], ◌∷◌, ◌++◌, None, Some, Ok, Err, refl, sym, ap, ◌∙◌, subst, append_assoc, append-nil, arith}
 use Rattle.std.proofs.lemmas.Bool.{true≢false, false≢true}
 use Rattle.std.specs.declared.option.Option.{Option}
@@ -9,7 +10,7 @@ use Rattle.fs_ports.specs.Doors.{AtDoor, Accepts, Comes, NoneComes, handed_back,
 use Rattle.fs_ports.specs.declared.clock.Clock as Clock
 use Rattle.fs_ports.specs.declared.link.Link as Link
 use Rattle.ft_server.specs.Passes.{IsOf}
-use Rattle.worker_pool.specs.Visits.{Visit, accepted, returned, Took, Returned, Connects, Visited, WorkerDone}
+use Rattle.worker_pool.specs.Visits.{GivesNone, Visit, accepted, returned, Took, Returned, Connects, Visited, WorkerDone}
 
 module _ {L : Type 0} where
   took_none : (coming : Option (List L)) → Took coming coming []
@@ -81,3 +82,8 @@ module _ {L C D : Type 0} (port : Link.Ghosts L) (watch : Clock.Ghosts C) (gate 
     failed_by = λ h. absurd (false≢true h);
     ended = λ _. (ap (λ (d : AtDoor L). d.ended) accepts.0, subst NoneComes (sym (ap (λ (d : AtDoor L). d.coming) accepts.0)) accepts.1);
   }
+
+  pub gives_none : (failed : Bool) (pass₁ : Known Entry) (door₁ door₂ : D) (clock₁ : C) → Visited port watch gate at pass door clock pass₁ door₁ clock₁ → (at door).faults ≤ (at door₁).faults
+      → GivesNone (at door₁) (at door₂) failed → WorkerDone port watch gate at pass door clock pass₁ door₂ clock₁ failed
+  gives_none true pass₁ door₁ door₂ clock₁ v later none = fails {E = ⊤} pass₁ door₁ door₂ clock₁ tt v later none.0 none.1
+  gives_none false pass₁ door₁ door₂ clock₁ v later none = ends ⊤ pass₁ door₁ door₂ clock₁ v none

@@ -44,6 +44,11 @@ module _ {L : Type 0} where
   Returned (Some before) None links = ⊥
   Returned (Some before) (Some after) links = after ≡ before ++ links
 
+  -- A door gave no link: the accept failed and was counted, or no further one is to come, and only that has changed.
+  abbrev pub GivesNone : AtDoor L → AtDoor L → Bool → Type 0
+  GivesNone before after true = (after ≡ record before { faults = after.faults }) × Rose before.faults after.faults
+  GivesNone before after false = (after ≡ record before { faults = after.faults; ended = true }) × NoneComes before.coming
+
 module _ {L C : Type 0} (port : Link.Ghosts L) (watch : Clock.Ghosts C) where
   -- Each link may be read where all that came whole over it was answered, by a caller of any server.
   abbrev pub AllMayBeRead : Type 0

@@ -1,5 +1,5 @@
 //! All room is taken, and all jobs are made, before the first of them is started.
-ghost use Rattle.std.specs.Prelude.{◌≡◌, ◌≤◌, [], length, vec_capacity, IfOk};
+ghost use Rattle.std.specs.Prelude.{◌≡◌, ◌≤◌, [], length, vec_capacity, IfOk, OnOk};
 ghost use Rattle.std.specs.Arc.{arc_value};
 ghost use Rattle.std.specs.List.{zip};
 ghost use Rattle.std.specs.Vec.Iter.{into_iter_items};
@@ -91,12 +91,34 @@ fn make_workers<D: Drop, C: Drop>(
     ensures count { IfOk result (λ workers. length workers.items ≡ length doors.items) }
 {
     let mut workers = Vec::with_capacity(alloc, doors.len())?;
+    add_workers(alloc, server, pass, doors, clocks, &mut workers)?;
+    Ok(workers)
+}
+
+/// Adds a worker for each door, for whom there is room.
+fn add_workers<D: Drop, C: Drop>(
+    alloc: Global,
+    server: &Arc<Server, Global>,
+    pass: &mut Pass,
+    doors: Vec<D>,
+    clocks: Vec<C>,
+    workers: &mut Vec<Work<D, C>>,
+) -> Result<(), NoMemory>
+    requires equal { length doors.items ≡ length clocks.items }
+    requires of { IsOf (arc_value server.now) pass.old }
+    requires seen { pass.old.seen ≡ [] }
+    requires none { workers.old.items ≡ [] }
+    requires room { length doors.items ≤ vec_capacity workers.old }
+    ensures workers { OnOk result (AreWorkers (arc_value server.now)
+        (zip doors.items clocks.items) workers.new.items) }
+    ensures count { OnOk result (length workers.new.items ≡ length doors.items) }
+{
     let mut clocks = clocks.into_iter();
     let mut doors = doors.into_iter();
     'making: while let Some(worker) = next_worker(alloc, server, pass, &mut doors, &mut clocks)? {
         workers.push_reserved(worker);
     }
-    Ok(workers)
+    Ok(())
 }
 
 /// A worker with the next door and the next clock, where there are any.

@@ -1,8 +1,8 @@
 //! A worker: it serves the links of a door one after another, as one caller.
-ghost use Rattle.std.specs.Prelude.{◌≡◌, true, false};
-ghost use Rattle.fs_ports.specs.Doors.{handed_back};
+ghost use Rattle.std.specs.Prelude.{◌≡◌, ◌≤◌, Ok, Some, true, false, IfOk, IfErr};
+ghost use Rattle.fs_ports.specs.Doors.{Accepts, handed_back};
 ghost use Rattle.ft_server.specs.Passes.{IsOf};
-ghost use Rattle.worker_pool.specs.Visits.{AllMayBeRead, Connects, Visit, WorkerDone};
+ghost use Rattle.worker_pool.specs.Visits.{AllMayBeRead, Connects, GivesNone, Visit, WorkerDone};
 ghost use Rattle.worker_pool.specs.Works.{IsWorkerDone};
 
 use crate::work::Worked;
@@ -52,13 +52,26 @@ fn serve_links<D: Door, C: Clock, R: Wait>(
 {
     let mut pass = pass;
     for _ in rt.forever() {
-        match door.accept() {
-            Err(Failed) => return (pass, true),
-            Ok(None) => return (pass, false),
-            Ok(Some(link)) => pass = serve_link(rt, alloc, server, pass, door, clock, link),
+        match next_link(door) {
+            Ok(link) => pass = serve_link(rt, alloc, server, pass, door, clock, link),
+            Err(failed) => return (pass, failed),
         }
     }
     unreachable!()
+}
+
+/// The next link of a door, or whether the door failed where it gives none.
+fn next_link<D: Door>(door: &mut D) -> Result<D::Link, bool>
+    requires idle { (D.at door.old).out ≡ false }
+    ensures link { IfOk result (λ link. Accepts {E = Failed} (D.at door.old) (D.at door.new) (Ok (Some link))) }
+    ensures none { IfErr result (λ failed. GivesNone (D.at door.old) (D.at door.new) failed) }
+    ensures later { (D.at door.old).faults ≤ (D.at door.new).faults }
+{
+    match door.accept() {
+        Ok(Some(link)) => Ok(link),
+        Ok(None) => Err(false),
+        Err(Failed) => Err(true),
+    }
 }
 
 /// Serves one connection, and hands its link back to its door.

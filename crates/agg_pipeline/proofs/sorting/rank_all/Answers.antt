@@ -3,7 +3,7 @@ use Rattle.std.proofs.lemmas.Grind.{common_steps}
 use Rattle.agg_pipeline.proofs.sorting.rank_all.Goals as goal
 
 pub loop-row-preserved : goal.loop-row-preserved
-loop-row-preserved c = grind (arith, common_steps)
+loop-row-preserved c = record { whole = grind (arith, common_steps); room = grind (arith, common_steps) }
 
 pub returns : goal.returns
 returns c = grind (arith, common_steps)

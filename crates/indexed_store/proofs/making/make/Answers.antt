@@ -4,54 +4,17 @@ use Rattle.ft_base.specs.Docs.{Doc}
 use Rattle.ft_index.specs.Index.{Index}
 use Rattle.ft_machine.specs.Definitions.{Defined, index_of, without_index, without_members}
 use Rattle.indexed_store.specs.DefinitionsOf.{definitions_of}
-use Rattle.std.specs.Prelude.{◌≡◌, ◌+◌, ◌++◌, ◌∷◌, [], None, length}
+use Rattle.std.specs.Prelude.{◌≡◌, ◌+◌, ◌++◌, ◌∷◌, [], None}
 use Rattle.std.specs.List.{All}
-use Rattle.hash_store.specs.Store.{Store}
 use Rattle.ft_machine.specs.Step.{next_number}
 use Rattle.cursor_book.specs.declared.cursor.Cursor.{Cursor}
 use Rattle.indexed_store.specs.Changing.{changed, without_cursors_of}
 use Rattle.indexed_store.specs.Standing.{AreApart, IndexStands, markers_at}
 use Rattle.indexed_store.specs.States.{state_with}
 use Rattle.indexed_store.specs.declared.change.Change.{Change}
-use Rattle.indexed_store.specs.declared.change.Change.TheVariants.{Alter, Move, Write}
+use Rattle.indexed_store.specs.declared.change.Change.TheVariants.{Alter}
 use Rattle.indexed_store.proofs.ChangingLaws.{altered-apart, altered-stands, created-step, flushed-step, lent-step, made-before, whole-step}
 use Rattle.indexed_store.proofs.making.make.Goals as goal
-
-pub settle-requires-clause-kept : goal.settle-requires-clause-kept
-settle-requires-clause-kept c =
-    lent-step c.args.store.now c.as_mut_slice.result.now c.args.indexes.now.items (next_number c.args.number) (c.args.number + 1) c.as_mut_slice.ensures.value
-    (made-before c.args.change (Write c.in-Write.put) c.args.number c.in-Write.is refl c.requires.before) c.requires.kept
-
-pub settle-requires-in-Move-clause-kept : goal.settle-requires-in-Move-clause-kept
-settle-requires-in-Move-clause-kept c =
-    lent-step c.args.store.now c.as_mut_slice-in-Move.result.now c.args.indexes.now.items (next_number c.args.number) (c.args.number + 1) c.as_mut_slice-in-Move.ensures.value
-    (made-before c.args.change (Move c.in-Move.put c.in-Move.from) c.args.number c.in-Move.is refl c.requires.before) c.requires.kept
-
-pub returns-in-Write-clause-kept : goal.returns-in-Write-clause-kept
-returns-in-Write-clause-kept c =
-    whole-step c.settle.new.store c.args.indexes.now.len c.args.indexes.now.items c.settle.new.indexes (next_number c.args.number) (c.args.number + 1) (omega (arith, c.settle.auto.indexes, c.as_mut_slice.ensures.len))
-    (made-before c.args.change (Write c.in-Write.put) c.args.number c.in-Write.is refl c.requires.before) c.settle.ensures.kept
-
-pub returns-in-Move-clause-kept : goal.returns-in-Move-clause-kept
-returns-in-Move-clause-kept c =
-    let at = made-before c.args.change (Move c.in-Move.put c.in-Move.from) c.args.number c.in-Move.is refl c.requires.before in
-    let whole : length c.settle-in-Move.new.indexes ≡ c.args.indexes.now.len = omega (arith, c.settle-in-Move.auto.indexes, c.as_mut_slice-in-Move.ensures.len) in
-    let step = whole-step c.settle-in-Move.new.store c.args.indexes.now.len c.args.indexes.now.items c.settle-in-Move.new.indexes (c.args.number + 1) (c.args.number + 1) whole refl c.settle-in-Move.ensures.kept in
-    let lent = lent-step c.settle-in-Move.new.store c.as_mut_slice-in-Move-2.result.now _ (c.args.number + 1) (c.args.number + 1) c.as_mut_slice-in-Move-2.ensures.value refl step in
-    whole-step c.remove.new.store c.args.indexes.now.len _ c.remove.new.indexes (next_number c.args.number) (c.args.number + 1) (omega (arith, c.remove.auto.indexes, c.as_mut_slice-in-Move-2.ensures.len)) at
-    (c.remove.ensures.kept (c.args.number + 1) lent)
-
-pub returns-in-EraseKey-clause-kept : goal.returns-in-EraseKey-clause-kept
-returns-in-EraseKey-clause-kept c =
-    let lent = lent-step c.args.store.now c.as_mut_slice-in-EraseKey.result.now c.args.indexes.now.items (next_number c.args.number) (next_number c.args.number) c.as_mut_slice-in-EraseKey.ensures.value refl c.requires.kept in
-    whole-step c.remove-in-EraseKey.new.store c.args.indexes.now.len c.args.indexes.now.items c.remove-in-EraseKey.new.indexes (next_number c.args.number) (next_number c.args.number)
-    (omega (arith, c.remove-in-EraseKey.auto.indexes, c.as_mut_slice-in-EraseKey.ensures.len)) refl (c.remove-in-EraseKey.ensures.kept (next_number c.args.number) lent)
-
-pub returns-in-EraseKeys-clause-kept : goal.returns-in-EraseKeys-clause-kept
-returns-in-EraseKeys-clause-kept c =
-    let lent = lent-step c.args.store.now c.as_mut_slice-in-EraseKeys.result.now c.args.indexes.now.items (next_number c.args.number) (next_number c.args.number) c.as_mut_slice-in-EraseKeys.ensures.value refl c.requires.kept in
-    whole-step c.remove_all.new.store c.args.indexes.now.len c.args.indexes.now.items c.remove_all.new.indexes (next_number c.args.number) (next_number c.args.number)
-    (omega (arith, c.remove_all.auto.indexes, c.as_mut_slice-in-EraseKeys.ensures.len)) refl (c.remove_all.ensures.kept (next_number c.args.number) lent)
 
 pub returns-in-Create-clause-kept : goal.returns-in-Create-clause-kept
 returns-in-Create-clause-kept c =
@@ -61,17 +24,17 @@ returns-in-Create-clause-kept c =
 pub returns-in-Alter-clause-kept : goal.returns-in-Alter-clause-kept
 returns-in-Alter-clause-kept c =
     let at = made-before c.args.change (Alter c.in-Alter.index) c.args.number c.in-Alter.is refl c.requires.before in
-    let lent = lent-step c.args.store.now c.as_mut_slice-in-Alter.result.now c.args.indexes.now.items (next_number c.args.number) (c.args.number + 1) c.as_mut_slice-in-Alter.ensures.value at c.requires.kept in
-    let apart = altered-apart c.args.change c.in-Alter.index c.args.number c.args.store.now.space c.args.store.now.ready c.args.indexes.now.items c.as_mut_slice-in-Alter.result.now c.in-Alter.is c.as_mut_slice-in-Alter.ensures.value c.requires.ready in
+    let lent = lent-step c.args.store.now c.as_mut_slice.result.now c.args.indexes.now.items (next_number c.args.number) (c.args.number + 1) c.as_mut_slice.ensures.value at c.requires.kept in
+    let apart = altered-apart c.args.change c.in-Alter.index c.args.number c.args.store.now.space c.args.store.now.ready c.args.indexes.now.items c.as_mut_slice.result.now c.in-Alter.is c.as_mut_slice.ensures.value c.requires.ready in
     let is = sym c.into_inner-in-Alter.ensures in
     let stands = altered-stands c.args.change c.in-Alter.index c.args.number c.args.store.now.space c.args.store.now.ready c.args.indexes.now.items c.in-Alter.is c.requires.ready in
-    whole-step c.args.store.now c.args.indexes.now.len c.args.indexes.now.items c.replace_index.new.indexes (next_number c.args.number) (c.args.number + 1) (omega (arith, c.replace_index.auto.indexes, c.as_mut_slice-in-Alter.ensures.len)) at
+    whole-step c.args.store.now c.args.indexes.now.len c.args.indexes.now.items c.replace_index.new.indexes (next_number c.args.number) (c.args.number + 1) (omega (arith, c.replace_index.auto.indexes, c.as_mut_slice.ensures.len)) at
     (c.replace_index.ensures.kept c.args.store.now (c.args.number + 1)
     (subst (λ (i : Index). IndexStands c.args.store.now.space (c.args.number + 1) (markers_at (c.args.number + 1)) i) is stands)
-    (subst (λ (i : Index). All (AreApart i) c.as_mut_slice-in-Alter.result.now) is apart) lent)
+    (subst (λ (i : Index). All (AreApart i) c.as_mut_slice.result.now) is apart) lent)
 
 pub returns-in-Drop-clause-kept : goal.returns-in-Drop-clause-kept
-returns-in-Drop-clause-kept c = c.drop_index.ensures.kept c.args.store.now (next_number c.args.number) c.requires.kept
+returns-in-Drop-clause-kept c = c.drop_with_cursors.ensures.kept c.args.store.now (next_number c.args.number) c.requires.kept
 
 pub returns-in-DropMembers-clause-kept : goal.returns-in-DropMembers-clause-kept
 returns-in-DropMembers-clause-kept c = c.drop_members.ensures.kept (next_number c.args.number) c.requires.kept
@@ -80,42 +43,17 @@ pub returns-in-DropMembers-clause-state : goal.returns-in-DropMembers-clause-sta
 returns-in-DropMembers-clause-state c =
     let old = state_with c.args.store.now c.args.indexes.now.items c.args.cursors.now c.args.latest in
     let index = index_of old.definitions c.in-DropMembers.name.now in
-    let cursors : c.drop_cursors-in-DropMembers.new.cursors ≡ without_cursors_of index old.cursors =
-    c.drop_cursors-in-DropMembers.ensures ∙ ap (λ (is : List Index). without_cursors_of (index_of (definitions_of is) c.in-DropMembers.name.now) old.cursors) c.as_slice-in-DropMembers.ensures.value in
-    ap (λ (docs : List Doc). record { space = docs; definitions = definitions_of c.drop_members.new.indexes.items; cursors = c.drop_cursors-in-DropMembers.new.cursors; latest = c.args.latest })
+    let cursors : c.drop_cursors.new.cursors ≡ without_cursors_of index old.cursors =
+    c.drop_cursors.ensures ∙ ap (λ (is : List Index). without_cursors_of (index_of (definitions_of is) c.in-DropMembers.name.now) old.cursors) c.as_slice.ensures.value in
+    ap (λ (docs : List Doc). record { space = docs; definitions = definitions_of c.drop_members.new.indexes.items; cursors = c.drop_cursors.new.cursors; latest = c.args.latest })
     (c.drop_members.ensures.space (next_number c.args.number) c.requires.kept)
-    ∙ (ap (λ (ds : List Defined). record { space = without_members index old.space; definitions = ds; cursors = c.drop_cursors-in-DropMembers.new.cursors; latest = c.args.latest }) c.drop_members.ensures.definitions
+    ∙ (ap (λ (ds : List Defined). record { space = without_members index old.space; definitions = ds; cursors = c.drop_cursors.new.cursors; latest = c.args.latest }) c.drop_members.ensures.definitions
     ∙ (ap (λ (cursors : List Cursor). record { space = without_members index old.space; definitions = without_index old.definitions c.in-DropMembers.name.now; cursors = cursors; latest = c.args.latest }) cursors
     ∙ ap (λ (change : Change). changed change c.args.store.now.ready None old) (sym c.in-DropMembers.is)))
 
 pub returns-in-Flush-clause-kept : goal.returns-in-Flush-clause-kept
 returns-in-Flush-clause-kept c =
-    flushed-step c.args.store.now c.clear.new.self c.args.indexes.now.items c.clear-in-Flush.new.self.items (next_number c.args.number) (ap (λ (s : Store). s.space) c.clear.ensures) (ap (λ (s : Store). s.last) c.clear.ensures) c.clear-in-Flush.ensures.items
-    c.requires.kept
-
-pub returns-in-Write-clause-state : goal.returns-in-Write-clause-state
-returns-in-Write-clause-state c = grind (arith, common_steps)
-
-pub returns-in-Write-clause-few : goal.returns-in-Write-clause-few
-returns-in-Write-clause-few c = grind (arith, common_steps)
-
-pub returns-in-Move-clause-state : goal.returns-in-Move-clause-state
-returns-in-Move-clause-state c = grind (arith, common_steps)
-
-pub returns-in-Move-clause-few : goal.returns-in-Move-clause-few
-returns-in-Move-clause-few c = grind (arith, common_steps)
-
-pub returns-in-EraseKey-clause-state : goal.returns-in-EraseKey-clause-state
-returns-in-EraseKey-clause-state c = grind (arith, common_steps)
-
-pub returns-in-EraseKey-clause-few : goal.returns-in-EraseKey-clause-few
-returns-in-EraseKey-clause-few c = grind (arith, common_steps)
-
-pub returns-in-EraseKeys-clause-state : goal.returns-in-EraseKeys-clause-state
-returns-in-EraseKeys-clause-state c = grind (arith, common_steps)
-
-pub returns-in-EraseKeys-clause-few : goal.returns-in-EraseKeys-clause-few
-returns-in-EraseKeys-clause-few c = grind (arith, common_steps)
+    flushed-step c.args.store.now c.flush.new.store c.args.indexes.now.items c.flush.new.indexes.items (next_number c.args.number) c.flush.ensures.space c.flush.ensures.last c.flush.ensures.indexes c.requires.kept
 
 pub returns-in-Create-clause-state : goal.returns-in-Create-clause-state
 returns-in-Create-clause-state c = grind (arith, common_steps)

@@ -36,36 +36,36 @@ asking-preserved g c =
     let first = c.args.feed.now in
     let start = c.args.store.now.reads in
     let docs = c.args.store.now.space in
-    let id = c.in-Some.id in
+    let id = c.in-Ok-Some.id in
     let was = c.asking.invariant in
     let next = c.in_ok-note_id.ensures in
     let once : c.note_id.new.store.reads ≡ reads_after c.asking.store.reads 1 = ap (λ (store : Store). store.reads) next.reads in
-    let least : IsLeastAt has c.asking.from id = iter-same held c.args.iter.now c.asking.iter c.asking.from c.in_ok-id.field-0 (Some id) was.same c.in-Some.is c.in_ok-id.ensures.least in
+    let least : IsLeastAt has c.asking.from id = iter-same held c.args.iter.now c.asking.iter c.asking.from c.in-Ok-Some.field-0 (Some id) was.same c.in-Ok-Some.field-0-is c.in-Ok-Some.ensures.least in
     let noted = λ (shown : List Doc) (doc : Doc) (found : doc_at id docs ≡ Some doc).
     fed-next first start c.asking.feed c.note_id.new.feed c.asking.store.reads c.note_id.new.store.reads shown doc (next.noted doc (found-still c.args.store.now c.asking.store _ id doc was.store found)) once in
     record {
       asked = asked-next (IsFed first start c.asking.feed c.asking.store.reads) (IsFed first start c.note_id.new.feed c.note_id.new.store.reads) has docs c.asking.from id was.rise least
           (c.requires.walkable.known.stored id least.passes) noted was.asked;
-      same = c.in_ok-id.ensures.same ∙ was.same;
-      ready_from = subst (λ (answer : Option ℕ). IfSome answer (λ id. Ready held c.seek.new.self (id + 1))) c.in-Some.is c.in_ok-id.ensures.ready;
+      same = c.in-Ok-Some.ensures.same ∙ was.same;
+      ready_from = subst (λ (answer : Option ℕ). IfSome answer (λ id. Ready held c.seek.new.self (id + 1))) c.in-Ok-Some.field-0-is c.in-Ok-Some.ensures.ready;
       most = omega (arith, c.requires.walkable.asked.lists.below id (live-first held c.args.iter.now id least.passes));
       rise = was.rise;
       bits = was.bits;
       rises = omega (arith, once, was.rises, was.bits);
       store = read-on c.args.store.now c.asking.store c.note_id.new.store _ was.store next.reads;
-      counts = omega (arith, c.in_ok-id.ensures.counts, was.counts);
+      counts = omega (arith, c.seek.ensures.counts, was.counts);
     }
 
-pub returns-clause-noted : goal.returns-clause-noted
-returns-clause-noted g c =
+pub returns-in-Ok-None-clause-noted : goal.returns-in-Ok-None-clause-noted
+returns-in-Ok-None-clause-noted g c =
     let held = g.T.Lists.held c.args.lists.now in
     let first = c.args.iter.now in
     (asked-ended (IsFed c.args.feed.now c.args.store.now.reads c.asking.feed c.asking.store.reads) (in_set held first) c.args.store.now.space c.asking.from
-    (iter-same held first c.asking.iter c.asking.from c.in_ok-id.field-0 None c.asking.invariant.same c.in_default.is c.in_ok-id.ensures.least) c.asking.invariant.asked).holds
+    (iter-same held first c.asking.iter c.asking.from c.in-Ok-None.field-0 None c.asking.invariant.same c.in-Ok-None.field-0-is c.in-Ok-None.ensures.least) c.asking.invariant.asked).holds
 
-pub returns-clause-reads : goal.returns-clause-reads
-returns-clause-reads g c =
+pub returns-in-Ok-None-clause-reads : goal.returns-in-Ok-None-clause-reads
+returns-in-Ok-None-clause-reads g c =
     let held = g.T.Lists.held c.args.lists.now in
     let first = c.args.iter.now in
     (asked-ended (IsFed c.args.feed.now c.args.store.now.reads c.asking.feed c.asking.store.reads) (in_set held first) c.args.store.now.space c.asking.from
-    (iter-same held first c.asking.iter c.asking.from c.in_ok-id.field-0 None c.asking.invariant.same c.in_default.is c.in_ok-id.ensures.least) c.asking.invariant.asked).count
+    (iter-same held first c.asking.iter c.asking.from c.in-Ok-None.field-0 None c.asking.invariant.same c.in-Ok-None.field-0-is c.in-Ok-None.ensures.least) c.asking.invariant.asked).count

@@ -44,10 +44,10 @@ asking-preserved g c =
     let key = c.args.key in
     let docs = c.args.store.now.space in
     let most = c.args.first.now.most in
-    let id = c.in-Some.id in
+    let id = c.in-Ok-Some.id in
     let was = c.asking.invariant in
-    let next = c.in_ok-offer_id.ensures in
-    let least = least-next held first c.asking.candidates c.asking.from id c.in_ok-id.field-0 was.same c.in-Some.is c.in_ok-id.ensures.least in
+    let next = c.in_default.ensures in
+    let least = least-next held first c.asking.candidates c.asking.from id c.in-Ok-Some.field-0 was.same c.in-Ok-Some.field-0-is c.in-Ok-Some.ensures.least in
     let taken : (doc : Doc) → doc_at id docs ≡ Some doc
     → c.offer_id.new.first.rows ≡ take c.args.first.now.most (sorted (row_order (key.by ∷ [])) (c.asking.first.rows ++ ranked shape key doc ∷ [])) =
     λ doc found.
@@ -58,8 +58,8 @@ asking-preserved g c =
       asked = asked-next (AreOffered shape key most c.asking.total c.asking.first.rows) (AreOffered shape key most (c.asking.total + 1) c.offer_id.new.first.rows) has docs c.asking.from id was.rise least
           (c.requires.walkable.known.stored id least.passes)
           (λ (so_far : List Doc) (doc : Doc) (found : doc_at id docs ≡ Some doc). offered-next shape key most c.asking.total c.asking.first.rows c.offer_id.new.first.rows so_far doc (taken doc found)) was.asked;
-      same = c.in_ok-id.ensures.same ∙ was.same;
-      may_ask = subst (λ (answer : Option ℕ). IfSome answer (λ id. MayAsk held c.seek.new.self (id + 1))) c.in-Some.is c.in_ok-id.ensures.ready;
+      same = c.in-Ok-Some.ensures.same ∙ was.same;
+      may_ask = subst (λ (answer : Option ℕ). IfSome answer (λ id. MayAsk held c.seek.new.self (id + 1))) c.in-Ok-Some.field-0-is c.in-Ok-Some.ensures.ready;
       most = ap (λ (first : First (List Reply)). first.most) next.rest ∙ was.most;
       by = ap (λ (first : First (List Reply)). first.by) next.rest ∙ was.by;
       few = omega (arith, least.reached, was.few);
@@ -67,28 +67,28 @@ asking-preserved g c =
       rise = was.rise;
       bits = was.bits;
       reads = read-more c.args.store.now c.asking.store c.offer_id.new.store c.asking.total 1 was.reads next.reads;
-      counts = omega (arith, c.in_ok-id.ensures.counts, was.counts);
+      counts = omega (arith, c.seek.ensures.counts, was.counts);
     }
 
-pub returns-clause-rows : goal.returns-clause-rows
-returns-clause-rows g c =
+pub returns-in-Ok-None-clause-rows : goal.returns-in-Ok-None-clause-rows
+returns-in-Ok-None-clause-rows g c =
     let held = g.T.Lists.held c.args.lists.now in
     let first = c.args.candidates.now in
     (asked-ended (AreOffered c.args.shape.now c.args.key c.args.first.now.most c.asking.total c.asking.first.rows) (in_candidates held first) c.args.store.now.space c.asking.from
-    (answer-same held first c.asking.candidates c.asking.from c.in_ok-id.field-0 None c.asking.invariant.same c.in_default.is c.in_ok-id.ensures.least) c.asking.invariant.asked).ranked_first
+    (answer-same held first c.asking.candidates c.asking.from c.in-Ok-None.field-0 None c.asking.invariant.same c.in-Ok-None.field-0-is c.in-Ok-None.ensures.least) c.asking.invariant.asked).ranked_first
 
-pub returns-clause-total : goal.returns-clause-total
-returns-clause-total g c =
+pub returns-in-Ok-None-clause-total : goal.returns-in-Ok-None-clause-total
+returns-in-Ok-None-clause-total g c =
     let held = g.T.Lists.held c.args.lists.now in
     let first = c.args.candidates.now in
     (asked-ended (AreOffered c.args.shape.now c.args.key c.args.first.now.most c.asking.total c.asking.first.rows) (in_candidates held first) c.args.store.now.space c.asking.from
-    (answer-same held first c.asking.candidates c.asking.from c.in_ok-id.field-0 None c.asking.invariant.same c.in_default.is c.in_ok-id.ensures.least) c.asking.invariant.asked).count
+    (answer-same held first c.asking.candidates c.asking.from c.in-Ok-None.field-0 None c.asking.invariant.same c.in-Ok-None.field-0-is c.in-Ok-None.ensures.least) c.asking.invariant.asked).count
 
-pub returns-clause-reads : goal.returns-clause-reads
-returns-clause-reads g c =
+pub returns-in-Ok-None-clause-reads : goal.returns-in-Ok-None-clause-reads
+returns-in-Ok-None-clause-reads g c =
     let held = g.T.Lists.held c.args.lists.now in
     let first = c.args.candidates.now in
     ap (λ (store : Store). store.reads) c.asking.invariant.reads
     ∙ ap (reads_after c.args.store.now.reads)
     (asked-ended (AreOffered c.args.shape.now c.args.key c.args.first.now.most c.asking.total c.asking.first.rows) (in_candidates held first) c.args.store.now.space c.asking.from
-    (answer-same held first c.asking.candidates c.asking.from c.in_ok-id.field-0 None c.asking.invariant.same c.in_default.is c.in_ok-id.ensures.least) c.asking.invariant.asked).count
+    (answer-same held first c.asking.candidates c.asking.from c.in-Ok-None.field-0 None c.asking.invariant.same c.in-Ok-None.field-0-is c.in-Ok-None.ensures.least) c.asking.invariant.asked).count

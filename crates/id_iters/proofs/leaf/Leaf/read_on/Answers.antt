@@ -1,9 +1,9 @@
 use Rattle.std.proofs.Common.{rules, ◌≡◌, true}
 use Rattle.std.specs.Option.{option_copied}
-use Rattle.id_iters.specs.Entries.{counts_in, has_entry, lies_in}
+use Rattle.id_iters.specs.Entries.{counts_in, has_entry}
 use Rattle.id_iters.specs.Held.{entries_of}
 use Rattle.posting_block.specs.declared.hits.TagHit.{TagHit}
-use Rattle.id_iters.proofs.LeafLaws.{leaf_least, leaf_read, range_fits, range_same, tag_fits, tag_same, word_fits, word_same}
+use Rattle.id_iters.proofs.LeafLaws.{leaf_read, tag_fits, tag_same, word_fits, word_same}
 use Rattle.id_iters.proofs.leaf.Leaf.read_on.Goals as goal
 
 pub returns-in-Word-clause-ready : goal.returns-in-Word-clause-ready
@@ -23,23 +23,3 @@ returns-in-Tag-clause-ready g c =
     leaf_read held leaf c.read_in-in-Tag.result (has_entry (λ (hit : TagHit). true) (entries_of (option_copied c.tag.result))) c.read_in-in-Tag.new.place c.read_in-in-Tag.new.ahead
     (tag_same held leaf c.in-Tag.field c.in-Tag.text (option_copied c.tag.result) c.in-Tag.is found)
     (tag_fits held leaf c.in-Tag.field c.in-Tag.text (option_copied c.tag.result) c.read_in-in-Tag.new.place c.in-Tag.is found c.read_in-in-Tag.ensures.sound) c.read_in-in-Tag.ensures.ahead
-
-pub returns-in-Range-clause-least : goal.returns-in-Range-clause-least
-returns-in-Range-clause-least g c =
-    let held = g.T.Lists.held c.args.lists.now in
-    let leaf = c.args.self.now in
-    let found : option_copied c.range.result ≡ held.ranges c.in-Range.field c.in-Range.low = search rules in
-    leaf_least held leaf c.read_in-in-Range.result (has_entry (lies_in c.interval-interval.result.low c.interval-interval.result.high) (entries_of (option_copied c.range.result))) c.args.from
-    (range_same held leaf c.in-Range.field c.in-Range.low c.interval-interval.result.low c.interval-interval.result.high (option_copied c.range.result) c.in-Range.is found
-    c.interval-interval.ensures.low c.interval-interval.ensures.high) c.read_in-in-Range.ensures.least
-
-pub returns-in-Range-clause-ready : goal.returns-in-Range-clause-ready
-returns-in-Range-clause-ready g c =
-    let held = g.T.Lists.held c.args.lists.now in
-    let leaf = c.args.self.now in
-    let found : option_copied c.range.result ≡ held.ranges c.in-Range.field c.in-Range.low = search rules in
-    leaf_read held leaf c.read_in-in-Range.result (has_entry (lies_in c.interval-interval.result.low c.interval-interval.result.high) (entries_of (option_copied c.range.result)))
-    c.read_in-in-Range.new.place c.read_in-in-Range.new.ahead
-    (range_same held leaf c.in-Range.field c.in-Range.low c.interval-interval.result.low c.interval-interval.result.high (option_copied c.range.result) c.in-Range.is found
-    c.interval-interval.ensures.low c.interval-interval.ensures.high)
-    (range_fits held leaf c.in-Range.field c.in-Range.low (option_copied c.range.result) c.read_in-in-Range.new.place c.in-Range.is found c.read_in-in-Range.ensures.sound) c.read_in-in-Range.ensures.ahead

@@ -1,12 +1,8 @@
-//! Shows each adapter once over the real thing, of which no clause speaks: that bytes come over a
-//! connection, that a peer that is gone is a fault of its link and no more, and that a thread does
-//! its job.
+//! Shows each port of the system once over the real thing, of which no clause speaks: that bytes come over a connection,
+//! that a peer that is gone is a fault of its link and no more, that a thread does its job, and that the clock moves.
 ghost use Rattle.std.specs.Prelude.{◌≡◌, ◌+◌, false, ⊤};
 
-use crate::sleep_pace::SleepPace;
-use crate::tcp::{TcpDoor, TcpLink};
-use crate::threads::{ThreadSpawner, start_thread};
-use fs_ports::{Door, Job, Link, Pace, Spawner, write_all};
+use fs_ports::{Clock, Door, Job, Link, Pace, Spawner, write_all};
 use std::io::{Read, Write};
 use std::marker::PhantomData;
 use std::net::{Ipv4Addr, Net, TcpListener, TcpStream};
@@ -14,6 +10,7 @@ use std::sync::atomic::{AtomicBool, Ordering};
 use std::sync::{Arc, Wait};
 use std::test::Fail;
 use std::thread::Threads;
+use system_ports::{SleepPace, SystemClock, TcpDoor, TcpLink, ThreadSpawner, start_thread};
 
 // Whether what the client sends comes over the link, and what the link writes comes to the client.
 fn talk(link: &mut TcpLink, client: &mut TcpStream) -> bool {
@@ -67,8 +64,8 @@ fn connect<R: Net<Listener = TcpListener, Stream = TcpStream>>(
 
 // Whether the door takes this client, which then vanishes.
 fn outlives(door: &mut TcpDoor, client: TcpStream) -> bool
-    requires { (⟦<TcpDoor as Door>⟧.at door.old).out ≡ false }
-    ensures { (⟦<TcpDoor as Door>⟧.at door.new).out ≡ false }
+    requires { door.old.out ≡ false }
+    ensures { door.new.out ≡ false }
 {
     let Ok(Some(mut link)) = door.accept() else {
         return false;
@@ -80,8 +77,8 @@ fn outlives(door: &mut TcpDoor, client: TcpStream) -> bool
 
 // Whether the door takes this client, and answers it to the end.
 fn answers(door: &mut TcpDoor, client: &mut TcpStream) -> bool
-    requires { (⟦<TcpDoor as Door>⟧.at door.old).out ≡ false }
-    ensures { (⟦<TcpDoor as Door>⟧.at door.new).out ≡ false }
+    requires { door.old.out ≡ false }
+    ensures { door.new.out ≡ false }
 {
     let Ok(Some(mut link)) = door.accept() else {
         return false;
@@ -96,8 +93,8 @@ fn is_visited<R: Net<Listener = TcpListener, Stream = TcpStream>>(
     rt: &R,
     door: &mut TcpDoor,
 ) -> bool
-    requires { (⟦<TcpDoor as Door>⟧.at door.old).out ≡ false }
-    ensures { (⟦<TcpDoor as Door>⟧.at door.new).out ≡ false }
+    requires { door.old.out ≡ false }
+    ensures { door.new.out ≡ false }
 {
     let Some(first) = connect(rt, door) else {
         return false;
@@ -121,7 +118,7 @@ fn are_visited<R: Net<Listener = TcpListener, Stream = TcpStream>>(
     rt: &R,
     mut first: TcpDoor,
 ) -> bool
-    requires { (⟦<TcpDoor as Door>⟧.at first).out ≡ false }
+    requires { first.out ≡ false }
 {
     let Ok(mut second) = first.another() else {
         return false;
@@ -169,7 +166,7 @@ fn a_thread_does_its_job(rt: HostRuntime) {
 
 // Whether the pace goes on until its flag is set.
 fn stops_at_its_flag<R: std::rt::Clock + Drop>(mut pace: SleepPace<R>, flag: &AtomicBool) -> bool
-    requires { ⟦<SleepPace<R> as Pace>⟧.stopped pace ≡ false }
+    requires { pace ≡ false }
 {
     if !pace.between() {
         return false;
@@ -184,4 +181,30 @@ fn a_sleeping_pace_stops_at_its_flag(rt: HostRuntime) -> Result<(), Fail> {
     let stop = Arc::try_clone(&flag)?;
     assert!(rt; stops_at_its_flag(SleepPace::new(rt, stop), &flag));
     Ok(())
+}
+
+/// The most often that a clock is asked until it moves.
+const MOST_ASKED: u32 = 100_000_000;
+
+// Whether the clock does not fall, and gives a later moment where it is asked for long enough.
+fn moves<C: Clock>(clock: &mut C) -> bool {
+    let first = clock.now();
+    let mut last = first;
+    for _ in 0..MOST_ASKED {
+        let now = clock.now();
+        if now < last {
+            return false;
+        }
+        last = now;
+        if first < last {
+            return true;
+        }
+    }
+    false
+}
+
+#[test]
+fn the_clock_moves_and_does_not_fall(rt: HostRuntime) {
+    let mut clock = SystemClock { rt };
+    assert!(rt; moves(&mut clock));
 }

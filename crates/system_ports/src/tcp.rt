@@ -3,10 +3,13 @@
 //! A peer that vanishes shows as a read or a write that fails, and nowhere else. The standard
 //! library writes to sockets so that a peer that is gone raises no signal.
 ghost use Rattle.std.specs.Prelude.{◌≡◌, None, false, IfOk};
+ghost use Rattle.fs_ports.specs.Doors.{AtDoor};
+ghost use Rattle.system_ports.specs.Faults.{Faults};
 
 use fs_ports::{Door, Failed, Link};
 use std::io;
 use std::io::{ErrorKind, Read, Write};
+use std::marker::Model;
 use std::net::{Ipv4Addr, Net, Shutdown, TcpListener, TcpStream};
 
 /// A connection.
@@ -18,11 +21,16 @@ pub struct TcpLink {
     write_faults: u64,
 }
 
+impl Model for TcpLink {
+    ghost Value = { Faults };
+
+    ghost view = { λ link. record { reads = link.read_faults; writes = link.write_faults } };
+}
+
 impl TcpLink {
     // A link that has not failed yet.
     fn new(stream: Option<TcpStream>) -> TcpLink
-        ensures reads { ⟦<TcpLink as Link>⟧.read_faults result ≡ 0 }
-        ensures writes { ⟦<TcpLink as Link>⟧.write_faults result ≡ 0 }
+        ensures { result ≡ record { reads = 0; writes = 0 } }
     {
         TcpLink {
             stream,
@@ -37,9 +45,9 @@ impl Link for TcpLink {
 
     ghost written = { λ _. None };
 
-    ghost read_faults = { λ link. link.read_faults };
+    ghost read_faults = { λ link. link.reads };
 
-    ghost write_faults = { λ link. link.write_faults };
+    ghost write_faults = { λ link. link.writes };
 
     fn read(&mut self, buf: &mut [u8]) -> Result<usize, Failed> {
         if let Some(stream) = &mut self.stream {
@@ -71,14 +79,20 @@ pub struct TcpDoor {
     faults: u64,
 }
 
+impl Model for TcpDoor {
+    ghost Value = { AtDoor Faults };
+
+    ghost view = { λ d. record { faults = d.faults; out = d.out; ended = false; coming = None; back = None } };
+}
+
 impl TcpDoor {
     /// Listens at this port of 127.0.0.1, or at any that is free where the port is 0.
     pub fn bind<R: Net<Listener = TcpListener, Stream = TcpStream>>(
         rt: &R,
         port: u16,
     ) -> io::Result<TcpDoor>
-        ensures { IfOk result (λ door. ⟦<TcpDoor as Door>⟧.at door
-            ≡ record { faults = 0; out = false; ended = false; coming = None; back = None }) }
+        ensures { IfOk result (λ door.
+            door ≡ record { faults = 0; out = false; ended = false; coming = None; back = None }) }
     {
         let listener = TcpListener::bind(rt, (Ipv4Addr::LOCALHOST, port))?;
         Ok(TcpDoor {
@@ -90,8 +104,8 @@ impl TcpDoor {
 
     /// Another door of the same port. A connection comes to one of them.
     pub fn another(&self) -> io::Result<TcpDoor>
-        ensures { IfOk result (λ door. ⟦<TcpDoor as Door>⟧.at door
-            ≡ record { faults = 0; out = false; ended = false; coming = None; back = None }) }
+        ensures { IfOk result (λ door.
+            door ≡ record { faults = 0; out = false; ended = false; coming = None; back = None }) }
     {
         Ok(TcpDoor {
             listener: self.listener.try_clone()?,
@@ -109,7 +123,7 @@ impl TcpDoor {
 impl Door for TcpDoor {
     type Link = TcpLink;
 
-    ghost at = { λ d. record { faults = d.faults; out = d.out; ended = false; coming = None; back = None } };
+    ghost at = { λ d. d };
 
     fn accept(&mut self) -> Result<Option<TcpLink>, Failed> {
         match self.listener.accept() {

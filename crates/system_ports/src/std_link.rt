@@ -1,9 +1,11 @@
 //! The streams and the clock of the system, behind the traits of the outside.
-//! They tell no bytes and no moments, so what they do beyond their traits is shown by the program's run.
+//! They tell no bytes and no moments, so what they do beyond their traits is shown by the stored run of `rsearch`.
 ghost use Rattle.std.specs.Prelude.{◌≡◌, None};
+ghost use Rattle.system_ports.specs.Faults.{Faults};
 
 use fs_ports::{Clock, Failed, Link};
 use std::io::{Read, Write};
+use std::marker::Model;
 use std::time::SystemTime;
 
 /// A link over a reader and a writer of the system.
@@ -15,11 +17,16 @@ pub struct StdLink<R: Read + Drop, W: Write + Drop> {
     write_faults: u64,
 }
 
+impl<R: Read + Drop, W: Write + Drop> Model for StdLink<R, W> {
+    ghost Value = { Faults };
+
+    ghost view = { λ link. record { reads = link.read_faults; writes = link.write_faults } };
+}
+
 impl<R: Read + Drop, W: Write + Drop> StdLink<R, W> {
     /// A link that has not failed yet.
     pub fn new(reader: R, writer: W) -> StdLink<R, W>
-        ensures reads { ⟦<StdLink<R, W> as Link>⟧.read_faults result ≡ 0 }
-        ensures writes { ⟦<StdLink<R, W> as Link>⟧.write_faults result ≡ 0 }
+        ensures { result ≡ record { reads = 0; writes = 0 } }
     {
         StdLink {
             reader,
@@ -35,9 +42,9 @@ impl<R: Read + Drop, W: Write + Drop> Link for StdLink<R, W> {
 
     ghost written = { λ _. None };
 
-    ghost read_faults = { λ link. link.read_faults };
+    ghost read_faults = { λ link. link.reads };
 
-    ghost write_faults = { λ link. link.write_faults };
+    ghost write_faults = { λ link. link.writes };
 
     fn read(&mut self, buf: &mut [u8]) -> Result<usize, Failed> {
         match self.reader.read(buf) {
@@ -77,36 +84,5 @@ impl<R: std::rt::Clock + Drop> Clock for SystemClock<R> {
             Ok(since) => u64::try_from(since.as_millis()).unwrap_or(u64::MAX),
             Err(_) => 0,
         }
-    }
-}
-
-#[cfg(test)]
-mod tests {
-    use super::*;
-
-    /// The most often that a clock is asked until it moves.
-    const MOST_ASKED: u32 = 100_000_000;
-
-    // Whether the clock does not fall, and gives a later moment where it is asked for long enough.
-    fn moves<C: Clock>(clock: &mut C) -> bool {
-        let first = clock.now();
-        let mut last = first;
-        for _ in 0..MOST_ASKED {
-            let now = clock.now();
-            if now < last {
-                return false;
-            }
-            last = now;
-            if first < last {
-                return true;
-            }
-        }
-        false
-    }
-
-    #[test]
-    fn the_clock_moves_and_does_not_fall(rt: HostRuntime) {
-        let mut clock = SystemClock { rt };
-        assert!(rt; moves(&mut clock));
     }
 }

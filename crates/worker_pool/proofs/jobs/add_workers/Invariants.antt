@@ -3,7 +3,7 @@ use Rattle.std.specs.Arc.{arc_value}
 use Rattle.std.specs.Vec.Iter.{into_iter_items, into_iter_len}
 use Rattle.ft_server.specs.Passes.{IsOf}
 use Rattle.worker_pool.proofs.FillingLaws.{Filling}
-use Rattle.worker_pool.proofs.jobs.make_workers.Given as goal
+use Rattle.worker_pool.proofs.jobs.add_workers.Given as goal
 
 abbrev pub invariant-making : goal.invariant-making
 invariant-making g l =

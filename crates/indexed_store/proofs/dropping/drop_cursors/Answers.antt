@@ -7,7 +7,7 @@ use Rattle.ft_machine.specs.Definitions.{Defined, index_of}
 use Rattle.indexed_store.specs.Changing.{without_cursors_of}
 use Rattle.indexed_store.specs.DefinitionsOf.{defined, definitions_of}
 use Rattle.indexed_store.proofs.NamedLaws.{index_of-named}
-use Rattle.indexed_store.proofs.making.drop_cursors.Goals as goal
+use Rattle.indexed_store.proofs.dropping.drop_cursors.Goals as goal
 
 pub returns-in-Some : goal.returns-in-Some
 returns-in-Some c =

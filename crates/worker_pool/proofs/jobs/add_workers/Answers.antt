@@ -2,7 +2,7 @@ use Rattle.std.proofs.Common.{length, arith, ap}
 use Rattle.std.specs.Arc.{arc_value}
 use Rattle.std.specs.Vec.Iter.{into_iter_items}
 use Rattle.worker_pool.proofs.FillingLaws.{filled, snoc_length}
-use Rattle.worker_pool.proofs.jobs.make_workers.Goals as goal
+use Rattle.worker_pool.proofs.jobs.add_workers.Goals as goal
 
 pub making-preserved : goal.making-preserved
 making-preserved g c =

@@ -1,8 +1,9 @@
 //! A pace that sleeps, behind the trait of the outside.
-ghost use Rattle.std.specs.Prelude.{◌≡◌, None, false};
+ghost use Rattle.std.specs.Prelude.{◌≡◌, Bool, None, false};
 
 use fs_ports::Pace;
 use std::alloc::Global;
+use std::marker::Model;
 use std::sync::Arc;
 use std::sync::atomic::{AtomicBool, Ordering};
 use std::thread;
@@ -19,10 +20,16 @@ pub struct SleepPace<R: std::rt::Clock + Drop> {
     stopped: bool,
 }
 
+impl<R: std::rt::Clock + Drop> Model for SleepPace<R> {
+    ghost Value = { Bool };
+
+    ghost view = { λ p. p.stopped };
+}
+
 impl<R: std::rt::Clock + Drop> SleepPace<R> {
     /// A pace that was not asked yet.
     pub fn new(rt: R, stop: Arc<AtomicBool, Global>) -> SleepPace<R>
-        ensures { ⟦<SleepPace<R> as Pace>⟧.stopped result ≡ false }
+        ensures { result ≡ false }
     {
         SleepPace {
             rt,
@@ -33,7 +40,7 @@ impl<R: std::rt::Clock + Drop> SleepPace<R> {
 }
 
 impl<R: std::rt::Clock + Drop> Pace for SleepPace<R> {
-    ghost stopped = { λ p. p.stopped };
+    ghost stopped = { λ p. p };
 
     ghost asked = { λ _. None };
 

@@ -1,9 +1,7 @@
 use Rattle.std.proofs.Common.{ap}
-use Rattle.std.specs.Prelude.{pos}
-use Rattle.ft_base.specs.declared.reply.Reply.TheVariants.{Number}
 use Rattle.hash_store.specs.Store.{Store}
 use Rattle.search_exec.proofs.ColumnLaws.{reads-next, shown-next}
-use Rattle.search_exec.proofs.by_column.show_rows.Goals as goal
+use Rattle.search_exec.proofs.by_column.show_ids.Goals as goal
 
 pub showing-preserved : goal.showing-preserved
 showing-preserved c =
@@ -14,7 +12,7 @@ showing-preserved c =
     let was = c.showing.invariant in
     let next = c.in_ok-show_id.ensures in
     record {
-      shown = shown-next shape rows row store.space c.showing.store.space c.showing.replies.items c.show_id.new.replies.items (Number (pos c.args.total)) (ap (λ (store : Store). store.space) was.reads) was.shown next.row;
+      shown = shown-next shape rows row store.space c.showing.store.space c.showing.replies.items c.show_id.new.replies.items c.args.replies.now.items (ap (λ (store : Store). store.space) was.reads) was.shown next.row;
       bits = was.bits;
       reads = reads-next shape rows row store c.showing.store c.show_id.new.store was.reads next.reads;
     }
