@@ -4,7 +4,8 @@
     tools/session_to_resp.py "the first search" < crates/rows/stdin | ./rsearch script
     tools/session_to_resp.py --list < crates/rows/stdin
 
-A session with moments (`@ N`) is refused: the program's are those of the system's clock.
+A session with moments (`@ N`) is refused: the program's are those of the system's clock. Rows of a link of its own (`~`) are of no
+session.
 """
 import re
 import sys
@@ -13,6 +14,7 @@ WORD = re.compile(rb'"((?:[^"\\]|\\.)*)"|(\S+)', re.S)
 ESCAPE = re.compile(rb"\\(?:x([0-9a-fA-F]{2})|(.))", re.S)
 LETTERS = {b"n": b"\n", b"r": b"\r", b"t": b"\t"}
 NUMBERS = re.compile(rb"(\d+)\.\.(\d+)")
+MANY = re.compile(rb"\{(\d+)\.\.(\d+)(?::([^}]*))?\}")
 
 
 def unescaped(text):
@@ -30,12 +32,21 @@ def words_of(line):
     return words
 
 
+def meant_by(word):
+    """The words that a word stands for: {N..M} for these numbers, {N..M:V} for each of them with a V behind it."""
+    many = MANY.fullmatch(word)
+    if not many:
+        return [word]
+    span = range(int(many[1]), int(many[2]) + 1)
+    return [part for number in span for part in (b"%d" % number, many[3]) if part is not None]
+
+
 def commands_of(line):
     """The commands that a row stands for: one, or one for each of the numbers that it begins with."""
     words = words_of(line)
     numbers = NUMBERS.fullmatch(words[0])
     if not numbers:
-        return [words]
+        return [[part for word in words for part in meant_by(word)]]
     span = range(int(numbers[1]), int(numbers[2]) + 1)
     return [[word.replace(b"{}", b"%d" % number) for word in words[1:]] for number in span]
 
@@ -47,7 +58,7 @@ def sessions(lines):
     for line in lines:
         if line.startswith(b"== "):
             rows = found.setdefault(line[3:].strip().decode(), [])
-        elif line.strip() and not line.lstrip().startswith(b"#"):
+        elif line.strip() and not line.lstrip().startswith((b"#", b"~")):
             rows.append(line)
     return found
 

@@ -1,6 +1,6 @@
 """Rows of sessions: a command's words, a bar, and the lines of its reply, as crates/rows/stdin has them.
 
-A line `@ N` there has the moment of the rows behind it, in milliseconds.
+A line `@ N` there has the moment of the rows behind it, in milliseconds; one that begins with `~` is of no session.
 """
 import re
 
@@ -10,6 +10,7 @@ WORD = re.compile(rb'"((?:[^"\\]|\\.)*)"|(\S+)', re.S)
 ESCAPE = re.compile(rb"\\(?:x([0-9a-fA-F]{2})|(.))", re.S)
 LETTERS = {b"n": b"\n", b"r": b"\r", b"t": b"\t"}
 NUMBERS = re.compile(rb"(\d+)\.\.(\d+)")
+MANY = re.compile(rb"\{(\d+)\.\.(\d+)(?::([^}]*))?\}")
 
 BARE = re.compile(rb"(?=.*[A-Za-z0-9])[A-Za-z0-9_@:.+*-]+")
 ESCAPES = {ord('"'): '\\"', ord("\\"): "\\\\", ord("\n"): "\\n", ord("\r"): "\\r", ord("\t"): "\\t"}
@@ -32,12 +33,21 @@ def read_row(row: bytes) -> tuple:
     return words[:bar], [reply] if reply.startswith(b"-") else words[bar + 1:]
 
 
+def meant_by(word: bytes) -> list:
+    """The words that a word stands for: {N..M} for these numbers, {N..M:V} for each of them with a V behind it."""
+    many = MANY.fullmatch(word)
+    if not many:
+        return [word]
+    span = range(int(many[1]), int(many[2]) + 1)
+    return [part for number in span for part in (b"%d" % number, many[3]) if part is not None]
+
+
 def read_rows(row: bytes) -> list:
     """The row, or one for each of the numbers that it begins with."""
     words, reply = read_row(row)
     numbers = NUMBERS.fullmatch(words[0])
     if not numbers:
-        return [(words, reply)]
+        return [([part for word in words for part in meant_by(word)], reply)]
     span = [b"%d" % number for number in range(int(numbers[1]), int(numbers[2]) + 1)]
     return [([part.replace(b"{}", n) for part in words[1:]], [part.replace(b"{}", n) for part in reply]) for n in span]
 
@@ -50,7 +60,7 @@ def read_sessions(lines) -> dict:
             rows, moment = found.setdefault(line[3:].strip().decode(), []), 0
         elif line.startswith(b"@ "):
             moment = int(line[2:])
-        elif line.strip() and not line.lstrip().startswith(b"#"):
+        elif line.strip() and not line.lstrip().startswith((b"#", b"~")):
             rows += [(words, reply, moment) for words, reply in read_rows(line)]
     return found
 

@@ -10,15 +10,14 @@ use agg_pipeline::{Load, ReduceKind, Reducer, SortKey, Step};
 use cmd_parse::AggregateSpec;
 use expr_eval::Expr;
 use ft_base::Bytes;
-use std::alloc::Global;
 
 /// An aggregate without its parameters.
-pub fn put_aggregate(alloc: Global, spec: &AggregateSpec<'_>, out: &mut Answer) {
+pub fn put_aggregate(spec: &AggregateSpec<'_>, out: &mut Answer) {
     put_named(b"aggregate ", spec.index, out);
     put_named(b" ", spec.query, out);
     put_load(&spec.load, out);
     for step in spec.steps.as_slice() {
-        put_step(alloc, step, out);
+        put_step(step, out);
     }
 }
 
@@ -42,12 +41,12 @@ fn put_names(text: &[u8], names: &[Bytes], out: &mut Answer) {
     out.put_words(names);
 }
 
-fn put_step(alloc: Global, step: &Step, out: &mut Answer) {
+fn put_step(step: &Step, out: &mut Answer) {
     match step {
         Step::Group { by, reduce } => put_group(by.as_slice(), reduce.as_slice(), out),
         Step::Sort { keys, max } => put_sort(keys.as_slice(), *max, out),
-        Step::Apply { expr, name } => put_apply(alloc, expr, name.as_slice(), out),
-        Step::Keep { expr } => put_expression(alloc, b" filter ", expr, out),
+        Step::Apply { expr, name } => put_apply(expr, name.as_slice(), out),
+        Step::Keep { expr } => put_expression(b" filter ", expr, out),
         Step::Limit { offset, num } => put_limit(*offset, *num, out),
     }
 }
@@ -97,17 +96,14 @@ fn put_key(key: &SortKey, out: &mut Answer) {
     out.put(if key.descending { b" desc" } else { b" asc" });
 }
 
-fn put_apply(alloc: Global, expr: &Expr, name: &[u8], out: &mut Answer) {
-    put_expression(alloc, b" apply ", expr, out);
+fn put_apply(expr: &Expr, name: &[u8], out: &mut Answer) {
+    put_expression(b" apply ", expr, out);
     put_named(b" as ", name, out);
 }
 
-fn put_expression(alloc: Global, text: &[u8], expr: &Expr, out: &mut Answer) {
-    let mut tree = Vec::new(alloc);
-    let done = put_tree(expr, &mut tree);
-    out.note(done);
+fn put_expression(text: &[u8], expr: &Expr, out: &mut Answer) {
     out.put(text);
-    out.put(tree.as_slice());
+    put_tree(expr, out);
 }
 
 fn put_limit(offset: u32, num: u32, out: &mut Answer) {

@@ -65,7 +65,7 @@ fn put_command(alloc: Global, command: &Command<'_>, out: &mut Answer) -> Result
         Command::Create(index) => put_create(index.get(), out),
         Command::Alter { index, fields } => put_alter(index, fields.as_slice(), out),
         Command::Search(spec) => put_search(spec, out),
-        Command::Aggregate(spec) => put_whole_aggregate(alloc, spec, out),
+        Command::Aggregate(spec) => put_whole_aggregate(spec, out),
         Command::CursorRead { index, id, count } => put_cursor_read(index, *id, *count, out),
         Command::CursorDel { index, id } => put_cursor(b"cursor delete ", index, *id, out),
     }
@@ -172,8 +172,8 @@ fn put_params(params: &[Param], out: &mut Answer) {
 }
 
 // The aggregate, its cursor and each parameter.
-fn put_whole_aggregate(alloc: Global, spec: &AggregateSpec<'_>, out: &mut Answer) {
-    put_aggregate(alloc, spec, out);
+fn put_whole_aggregate(spec: &AggregateSpec<'_>, out: &mut Answer) {
+    put_aggregate(spec, out);
     put_opening(&spec.cursor, out);
     put_params(spec.params.as_slice(), out);
 }

@@ -19,30 +19,37 @@ mod phrases;
 mod queries;
 mod replies;
 mod schemas;
+mod stored;
 mod texts;
 mod trees;
 mod values;
 mod wanted;
+mod wire;
 
 use answer::Answer;
 use ft_base::NoMemory;
 use row_text::{Row, read_row};
 use std::alloc::Global;
+use std::hash::RandomState;
 use std::io;
 use std::io::{BufRead, BufReader};
 
-/// How many rows there were, and how many of them differed.
+/// How many rows there were, how many of them differed, and what makes the hashes of keys.
 #[derive(Drop)]
 struct Tally {
     rows: u64,
     differ: u64,
+    hashing: RandomState,
 }
 
 fn main(rt: HostRuntime) -> io::Result<()> {
-    let mut tally = Tally { rows: 0, differ: 0 };
+    let mut tally = Tally {
+        rows: 0,
+        differ: 0,
+        hashing: RandomState::new(&rt)?,
+    };
     judge_all(&rt, &mut tally)?;
-    let Tally { rows, differ } = tally;
-    println!(rt; "{rows} rows, {differ} differ")
+    println!(rt; "{} rows, {} differ", tally.rows, tally.differ)
 }
 
 /// Runs the rows of all lines of the input.
@@ -64,7 +71,7 @@ fn judge(rt: &HostRuntime, line: io::Result<String>, tally: &mut Tally) -> io::R
 
 /// Runs a row, and prints it with what came where that is not what the row wants.
 fn judge_row(rt: &HostRuntime, line: &str, row: &Row, tally: &mut Tally) -> io::Result<()> {
-    let came = answer_to(rt.alloc(), row.words.as_slice())?;
+    let came = answer_to(rt.alloc(), tally.hashing, row.words.as_slice())?;
     let came = came.as_slice().trim_ascii();
     compare(rt, line, came, row.want.as_slice(), tally)
 }
@@ -87,21 +94,13 @@ fn compare(
 }
 
 /// What the call of a row answers.
-fn answer_to(alloc: Global, words: &[Vec<u8>]) -> Result<Vec<u8>, NoMemory> {
+fn answer_to(alloc: Global, hashing: RandomState, words: &[Vec<u8>]) -> Result<Vec<u8>, NoMemory> {
     let Some((call, words)) = words.split_first() else {
         return Vec::from_slice(alloc, b"no call");
     };
-    match expressions::answer(alloc, call.as_slice(), words)? {
-        Some(answer) => Ok(answer),
-        None => leaf_answer(alloc, call.as_slice(), words),
-    }
-}
-
-/// The answer of a call that is of no list and no expression.
-fn leaf_answer(alloc: Global, call: &[u8], words: &[Vec<u8>]) -> Result<Vec<u8>, NoMemory> {
-    let call = std::str::from_utf8(call).unwrap_or("");
+    let call = std::str::from_utf8(call.as_slice()).unwrap_or("");
     let mut out = Answer::new(alloc);
-    if !put(alloc, call, words, &mut out) {
+    if !put(alloc, call, words, &mut out) && !stored::put(alloc, hashing, call, words, &mut out) {
         out.put(b"no such call");
     }
     out.finish()
@@ -120,5 +119,7 @@ fn put(alloc: Global, call: &str, words: &[Vec<u8>], out: &mut Answer) -> bool {
         || schemas::put(alloc, call, words, out)
         || commands::put(alloc, call, words, out)
         || documents::put(alloc, call, words, out)
+        || expressions::put(alloc, call, words, out)
         || lists::put(alloc, call, words, out)
+        || wire::put(alloc, call, words, out)
 }

@@ -2,10 +2,13 @@
 //!
 //! Standard input has the sessions. `== NAME` begins one, which runs in a fresh server; each further line is
 //! a row of `row_text`, a command and its reply. A row that begins with `N..M` stands for one row for each of
-//! these numbers, with `{}` in its words and its reply replaced by the number. `@ N` is the moment, in
-//! milliseconds, of each command behind it. Each row that is answered otherwise is told, and the last line
-//! counts them.
+//! these numbers, with `{}` in its words and its reply replaced by the number. A word `{N..M}` of a row stands
+//! for these numbers as words, and `{N..M:V}` for each with a V behind it. `@ N` is the moment, in milliseconds,
+//! of each command behind it. A line that begins with `~` is a link of its own: `links.rt` has these. Each row
+//! that is answered otherwise is told, and the last line counts them.
 #![tactic(auto)]
+
+mod links;
 
 use fs_ports::{MemLink, ScriptedClock};
 use ft_base::{Bytes, ListOf, NoMemory, put_int, read_int};
@@ -103,7 +106,7 @@ fn no_tally(alloc: Global) -> Tally {
     }
 }
 
-// Begins another session where the line has its name, and else takes it as one of the session.
+// Begins another session where the line has its name, runs a link's row, and else takes the line as one of the session.
 fn take_line<R: Wait>(
     rt: &R,
     alloc: Global,
@@ -112,8 +115,11 @@ fn take_line<R: Wait>(
     session: &mut Session,
     tally: &mut Tally,
 ) -> Result<(), NoMemory> {
-    match line.strip_prefix("== ") {
-        Some(name) => begin_session(rt, alloc, hashing, name, session, tally),
+    if let Some(name) = line.strip_prefix("== ") {
+        return begin_session(rt, alloc, hashing, name, session, tally);
+    }
+    match line.strip_prefix("~ ") {
+        Some(row) => links::judge(rt, alloc, hashing, row, tally),
         None => take_session_line(alloc, line, session),
     }
 }
@@ -191,7 +197,12 @@ fn push_row(row: Row, rows: &mut Vec<Row>) -> Result<(), NoMemory> {
 
 // The numbers that a row begins with.
 fn numbers_of(words: &[Vec<u8>]) -> Option<(i64, i64)> {
-    let (first, last) = cut_at_dots(words.first()?.as_slice())?;
+    numbers_in(words.first()?.as_slice())
+}
+
+// The numbers before two dots and behind them.
+fn numbers_in(text: &[u8]) -> Option<(i64, i64)> {
+    let (first, last) = cut_at_dots(text)?;
     Some((read_int(first)?, read_int(last)?))
 }
 
@@ -294,19 +305,86 @@ fn link_for(alloc: Global, rows: &[Row]) -> Result<MemLink, NoMemory> {
 fn requests_of(alloc: Global, rows: &[Row]) -> Result<Vec<u8>, NoMemory> {
     let mut requests = Vec::new(alloc);
     for row in rows {
-        put_request(&mut requests, row.words.as_slice())?;
+        put_request(alloc, &mut requests, row.words.as_slice())?;
     }
     Ok(requests)
 }
 
-fn put_request(out: &mut Vec<u8>, words: &[Vec<u8>]) -> Result<(), NoMemory> {
-    put_count(out, b'*', words.len())?;
+fn put_request(alloc: Global, out: &mut Vec<u8>, words: &[Vec<u8>]) -> Result<(), NoMemory> {
+    let mut count = 0usize;
     for word in words {
-        put_count(out, b'$', word.len())?;
-        out.extend_from_slice(word.as_slice())?;
-        out.extend_from_slice(b"\r\n")?;
+        count = count.saturating_add(spread_len(word.as_slice()));
+    }
+    put_count(out, b'*', count)?;
+    for word in words {
+        put_word(alloc, out, word.as_slice())?;
     }
     Ok(())
+}
+
+// The numbers that a word stands for, and what stands behind each.
+#[derive(Clone, Copy)]
+struct Spread<'a> {
+    first: i64,
+    last: i64,
+    value: Option<&'a [u8]>,
+}
+
+// What a word `{N..M}` or `{N..M:V}` stands for.
+fn spread_of(word: &[u8]) -> Option<Spread<'_>> {
+    let (numbers, value) = parts_of(word)?;
+    let (first, last) = numbers_in(numbers)?;
+    Some(Spread { first, last, value })
+}
+
+// What stands in braces, and what behind a colon there.
+fn parts_of(word: &[u8]) -> Option<(&[u8], Option<&[u8]>)> {
+    let [b'{', inner @ .., b'}'] = word else {
+        return None;
+    };
+    match inner.iter().position(|byte| *byte == b':') {
+        Some(colon) => Some((&inner[..colon], Some(&inner[colon + 1..]))),
+        None => Some((inner, None)),
+    }
+}
+
+// How many words a word stands for.
+fn spread_len(word: &[u8]) -> usize {
+    match spread_of(word) {
+        Some(Spread { first, last, value }) => {
+            let numbers = usize::try_from(last.saturating_sub(first)).unwrap_or(0);
+            let each = if value.is_some() { 2 } else { 1 };
+            numbers.saturating_add(1).saturating_mul(each)
+        }
+        None => 1,
+    }
+}
+
+// Appends a word, or those that it stands for.
+fn put_word(alloc: Global, out: &mut Vec<u8>, word: &[u8]) -> Result<(), NoMemory> {
+    match spread_of(word) {
+        Some(spread) => put_spread(alloc, out, spread),
+        None => put_bulk(out, word),
+    }
+}
+
+fn put_spread(alloc: Global, out: &mut Vec<u8>, spread: Spread<'_>) -> Result<(), NoMemory> {
+    let mut digits = Vec::new(alloc);
+    for number in spread.first..=spread.last {
+        digits.clear();
+        put_int(&mut digits, number)?;
+        put_bulk(out, digits.as_slice())?;
+        if let Some(value) = spread.value {
+            put_bulk(out, value)?;
+        }
+    }
+    Ok(())
+}
+
+fn put_bulk(out: &mut Vec<u8>, word: &[u8]) -> Result<(), NoMemory> {
+    put_count(out, b'$', word.len())?;
+    out.extend_from_slice(word)?;
+    out.extend_from_slice(b"\r\n")
 }
 
 fn put_count(out: &mut Vec<u8>, mark: u8, count: usize) -> Result<(), NoMemory> {
@@ -387,12 +465,24 @@ fn check_row<'a>(
 ) -> Result<&'a [u8], NoMemory> {
     let mut came = Vec::new(alloc);
     let rest = read_reply(alloc, replies, &mut came)?;
-    tally.rows = tally.rows.saturating_add(1);
-    if !is_wanted(alloc, row.want.as_slice(), came.as_slice())? {
-        tally.differ = tally.differ.saturating_add(1);
-        tell(&mut tally.told, name, row, came.as_slice())?;
-    }
+    compare_row(alloc, name, row, came.as_slice(), tally)?;
     Ok(rest)
+}
+
+// Counts a row, and tells of it where other lines came than it wants.
+fn compare_row(
+    alloc: Global,
+    name: &[u8],
+    row: &Row,
+    came: &[Vec<u8>],
+    tally: &mut Tally,
+) -> Result<(), NoMemory> {
+    tally.rows = tally.rows.saturating_add(1);
+    if is_wanted(alloc, row.want.as_slice(), came)? {
+        return Ok(());
+    }
+    tally.differ = tally.differ.saturating_add(1);
+    tell(&mut tally.told, name, row, came)
 }
 
 fn is_wanted(alloc: Global, want: &[u8], came: &[Vec<u8>]) -> Result<bool, NoMemory> {

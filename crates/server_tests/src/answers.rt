@@ -1,89 +1,10 @@
-//! What a link is answered, and how its connection and the run end.
-use crate::links::{
-    Faults, HSET, HSET_AGAIN, NONE, NOPE, NOT_BUILT, PING, QUIT, is_run, is_served, link_of,
-    run_words, serve,
-};
+//! How a connection ends, with the place of a fault, and the words of the command line that are refused.
+use crate::links::{HSET, NONE, NOT_BUILT, QUIT, link_of, run_words, serve};
 use ft_server::{End, Exit};
 use resp_wire::WireFault;
 use std::alloc::Global;
 use std::random::RandomSource;
 use std::sync::Wait;
-
-const REPLIES: &[u8] = b":1\r\n:0\r\n-ERR not built\r\n-ERR unknown command\r\n";
-
-const ECHOES: &[u8] = b"+PONG\r\n$2\r\na\n\r\n+OK\r\n";
-
-const COUNT: &[u8] = b"-ERR Protocol error: invalid multibulk length\r\n";
-
-const LENGTH: &[u8] = b":1\r\n-ERR Protocol error: invalid bulk length\r\n";
-
-const PLUS: &[u8] = b"-ERR Protocol error: expected '$', got '+'\r\n";
-
-const OTHER: &[u8] = b"-ERR Protocol error: expected '$', got '?'\r\n";
-
-/// Whether the texts are answered so, by whole pieces and by three bytes at once.
-fn is_answered<R: RandomSource + Wait>(
-    rt: &R,
-    alloc: Global,
-    texts: &[&[u8]],
-    want: &[u8],
-    exit: Exit,
-) -> bool {
-    let slow = Faults {
-        read: 0,
-        write: 0,
-        write_max: 3,
-    };
-    is_run(rt, alloc, texts, &NONE, want, exit) && is_run(rt, alloc, texts, &slow, want, exit)
-}
-
-fn answers_commands<R: RandomSource + Wait>(rt: &R, alloc: Global) -> bool {
-    is_answered(
-        rt,
-        alloc,
-        &[HSET, HSET_AGAIN, b"*0\r\n", NOT_BUILT, NOPE],
-        REPLIES,
-        Exit::Done,
-    ) && is_answered(rt, alloc, &[], b"", Exit::Done)
-        && is_answered(rt, alloc, &[b"*0\r\n*-1\r\n"], b"", Exit::Done)
-        && is_answered(
-            rt,
-            alloc,
-            &[HSET, b"*1\r\n$4\r\nPI"],
-            b":1\r\n",
-            Exit::CutShort,
-        )
-        && is_answered(
-            rt,
-            alloc,
-            &[PING, b"*2\r\n$4\r\nping\r\n$2\r\na\n\r\n", QUIT],
-            ECHOES,
-            Exit::Done,
-        )
-}
-
-fn answers_faults<R: RandomSource + Wait>(rt: &R, alloc: Global) -> bool {
-    is_faulty(rt, alloc, &[b"*1\n$4\nPING\n*1\n$4\nPING\n"], COUNT)
-        && is_faulty(
-            rt,
-            alloc,
-            &[HSET, b"*1\r\n$+4\r\nPING\r\n", NOT_BUILT],
-            LENGTH,
-        )
-        && is_faulty(rt, alloc, &[b"PING\r\n"], COUNT)
-        && is_faulty(rt, alloc, &[b"*1\r\n+"], PLUS)
-        && is_faulty(rt, alloc, &[b"*1\r\n\x7f"], OTHER)
-}
-
-fn is_faulty<R: RandomSource + Wait>(rt: &R, alloc: Global, texts: &[&[u8]], want: &[u8]) -> bool {
-    is_answered(rt, alloc, texts, want, Exit::Protocol)
-}
-
-#[test]
-fn answers_each_command(rt: HostRuntime) {
-    assert!(rt; answers_commands(&rt, rt.alloc()));
-    assert!(rt; answers_faults(&rt, rt.alloc()));
-}
 
 /// Whether a link that gives the texts ends so.
 fn ends<R: RandomSource + Wait>(rt: &R, alloc: Global, texts: &[&[u8]], end: End) -> bool {
@@ -147,24 +68,6 @@ fn a_command_has_at_most_16_mib(rt: HostRuntime) {
     assert!(rt; is_refused_past(&rt, rt.alloc(), long_word(rt.alloc()).as_slice()));
 }
 
-#[test]
-fn bytes_behind_quit_are_not_executed(rt: HostRuntime) {
-    let cases: [&[&[u8]]; 4] = [
-        &[HSET, QUIT],
-        &[HSET, QUIT, HSET_AGAIN],
-        &[HSET, QUIT, b"x"],
-        &[
-            HSET,
-            b"*0\r\n",
-            b"*1\r\n$4\r\n",
-            b"QUIT\r\n*1\r\n$4\r\nNOPE\r\n",
-        ],
-    ];
-    for texts in cases {
-        assert!(rt; is_served(&rt, rt.alloc(), texts, b":1\r\n+OK\r\n", End::Quit));
-    }
-}
-
 /// Whether the program refuses these words, and writes nothing to its link.
 fn is_refused<R: RandomSource + Wait>(rt: &R, alloc: Global, words: &[&str]) -> bool {
     match link_of(alloc, &[NOT_BUILT], &NONE) {
@@ -196,5 +99,7 @@ fn other_words_are_refused(rt: HostRuntime) {
     for words in cases {
         assert!(rt; is_refused(&rt, rt.alloc(), words));
     }
-    assert!(rt; Exit::Usage.status() == 2);
+    assert!(rt;
+        Exit::Usage.status() == 2 && Exit::WriteFault.status() == 4 && Exit::Protocol.status() == 1
+    );
 }

@@ -8,11 +8,7 @@
 #[cfg(test)]
 mod answers;
 #[cfg(test)]
-mod cuts;
-#[cfg(test)]
 mod events;
-#[cfg(test)]
-mod failed_calls;
 #[cfg(test)]
 mod gates;
 #[cfg(test)]
@@ -28,12 +24,6 @@ mod rows;
 #[cfg(test)]
 mod session;
 #[cfg(test)]
-mod stored;
-#[cfg(test)]
 mod system;
-#[cfg(test)]
-mod wide;
-#[cfg(test)]
-mod wire;
 #[cfg(test)]
 mod workers;

@@ -15,17 +15,10 @@ use std::sync::Wait;
 /// A command that answers `:1`.
 pub const HSET: &[u8] = b"*4\r\n$4\r\nHSET\r\n$2\r\nd1\r\n$1\r\nt\r\n$11\r\nHello world\r\n";
 
-/// The same field once more, which answers `:0`.
-pub const HSET_AGAIN: &[u8] = b"*4\r\n$4\r\nhSet\r\n$2\r\nd1\r\n$1\r\nt\r\n$1\r\nx\r\n";
-
 /// A command that is known, and not built.
 pub const NOT_BUILT: &[u8] = b"*2\r\n$8\r\nFT.DEBUG\r\n$2\r\nix\r\n";
 
 pub const QUIT: &[u8] = b"*1\r\n$4\r\nqUIt\r\n";
-
-pub const NOPE: &[u8] = b"*1\r\n$4\r\nNOPE\r\n";
-
-pub const PING: &[u8] = b"*1\r\n$4\r\nPING\r\n";
 
 /// Which calls of a link fail, counted from 1, and the most bytes that it takes at once.
 #[derive(Clone, Copy)]
@@ -128,39 +121,4 @@ pub fn serve_as<R: Wait>(
 {
     let mut clock = clock_of(alloc)?;
     Some(serve_connection(rt, alloc, server, pass, link, &mut clock).1)
-}
-
-/// Whether `script` over a link that gives the texts ends so, and the link took these bytes.
-pub fn is_run<R: RandomSource + Wait>(
-    rt: &R,
-    alloc: Global,
-    texts: &[&[u8]],
-    faults: &Faults,
-    want: &[u8],
-    exit: Exit,
-) -> bool {
-    match link_of(alloc, texts, faults) {
-        Some(mut link) => {
-            let ended = run_words(rt, alloc, &["script"], &mut link);
-            (ended == Some(exit)) & (link.output() == want)
-        }
-        None => false,
-    }
-}
-
-/// Whether a link that gives the texts is served to this end, and took these bytes.
-pub fn is_served<R: RandomSource + Wait>(
-    rt: &R,
-    alloc: Global,
-    texts: &[&[u8]],
-    want: &[u8],
-    end: End,
-) -> bool {
-    match link_of(alloc, texts, &NONE) {
-        Some(mut link) => {
-            let ended = serve(rt, alloc, &mut link);
-            (ended == Some(end)) & (link.output() == want)
-        }
-        None => false,
-    }
 }

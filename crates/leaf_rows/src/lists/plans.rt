@@ -7,10 +7,8 @@ ghost use Rattle.ft_index.specs.Markers.{AreBefore};
 use super::numbers::{number, number_at, parted, put_number};
 use crate::answer::Answer;
 use crate::arguments::{rest, word};
-use ft_base::{
-    Bytes, Doc, Field, FieldKind, HashRec, HashView, IndexDef, ListOf, NoMemory, Query, Steps,
-    StopWords,
-};
+use crate::schemas::index_of;
+use ft_base::{Doc, HashRec, HashView, IndexDef, ListOf, NoMemory, Query, Steps};
 use ft_index::FtIndex;
 use id_iters::{Hint, Hints, Iter, Leaf, ListName};
 use inverted_list::Markers;
@@ -70,36 +68,11 @@ fn plan_over(alloc: Global, index: &FtIndex, text: &[u8]) -> Result<Option<Iter>
 }
 
 // An index of every key, with the TEXT field `t`.
-fn index_def(alloc: Global) -> Result<IndexDef, NoMemory> {
-    let mut fields = ListOf::new(alloc);
-    fields.push(text_field(alloc)?)?;
-    Ok(IndexDef {
-        name: Bytes::new(alloc),
-        serial: 1,
-        prefixes: ListOf::new(alloc),
-        stops: StopWords {
-            words: ListOf::new(alloc),
-        },
-        fields,
-    })
-}
-
-fn text_field(alloc: Global) -> Result<Field, NoMemory> {
-    Ok(Field {
-        name: Bytes::from_slice(alloc, b"t")?,
-        alias: Bytes::from_slice(alloc, b"t")?,
-        kind: FieldKind::Text,
-        sortable: false,
-        unf: false,
-        noindex: false,
-    })
-}
-
 fn begin(alloc: Global, markers: &mut Markers) -> Result<Option<FtIndex>, NoMemory>
     ensures last { IfOk result (λ begun. IfSome begun (λ index. index.table.last ≡ 0)) }
     ensures before { IfOk result (λ begun. IfSome begun (λ index. AreBefore markers.new index.lists)) }
 {
-    let def = index_def(alloc)?;
+    let def = index_of(alloc, b"STOPWORDS 0", b"t TEXT")?;
     if 5 < def.fields.len() {
         return Ok(None);
     }

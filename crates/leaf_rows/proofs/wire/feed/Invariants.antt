@@ -1,6 +1,6 @@
 use Rattle.std.proofs.Common.{◌≡◌, ◌+◌, ◌-◌, ◌≤◌, length}
 use Rattle.resp_wire.specs.Decoding.{fed}
-use Rattle.server_tests.proofs.wire.log_pieces.Given as goal
+use Rattle.leaf_rows.proofs.wire.feed.Given as goal
 
 abbrev pub invariant-feeding : goal.invariant-feeding
 invariant-feeding l = record {
