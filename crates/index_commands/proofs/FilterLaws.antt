@@ -19,8 +19,8 @@ use Rattle.ft_machine.specs.Counted.{counted, first_unknown, is_among, least, pa
 use Rattle.ft_meaning.specs.Holds.{found_of, has_of, holds}
 use Rattle.ft_meaning.proofs.HoldsLaws.{holds-And}
 use Rattle.ft_meaning.specs.Member.{members}
-use Rattle.search_exec.specs.Ids.{docs_of}
-use Rattle.search_exec.specs.Shapes.{SortsBy}
+use Rattle.doc_reads.specs.Ids.{docs_of}
+use Rattle.doc_reads.specs.Shapes.{SortsBy}
 
 -- one more part, of one more FILTER
 pub ranges-more : {X Y : Type 0} (p : X → Bool) (q : Y → Bool) (first : Bool) (parts : List X) (part : X) (before : List Y) (next : Y)

@@ -27,7 +27,7 @@ use Rattle.indexed_store.specs.Named.{is_named}
 use Rattle.indexed_store.specs.Standing.{IndexStands, InStep, markers_at}
 use Rattle.index_commands.specs.Exactness.{Shows}
 use Rattle.index_commands.specs.Reading.{AreReadable, IsReadable}
-use Rattle.search_exec.specs.Ids.{docs_of, reads_for}
+use Rattle.doc_reads.specs.Ids.{docs_of, reads_for}
 use Rattle.index_commands.proofs.AnsweringLaws.{IsQuery, Queried}
 
 -- a search, as a command that has a query

@@ -22,7 +22,7 @@ use Rattle.ft_machine.specs.declared.counts.Counts.{Counts}
 use Rattle.hash_store.specs.Store.{reads_after}
 use Rattle.ft_index.specs.Records.{all_entries}
 use Rattle.indexed_store.specs.Named.{is_named}
-use Rattle.search_exec.specs.Ids.{reads_for}
+use Rattle.doc_reads.specs.Ids.{reads_for}
 
 -- a refusal is written, or out of memory
 abbrev pub IsRefusal : List ℕ → Type 0

@@ -9,7 +9,7 @@ use Rattle.id_iters.specs.Held.{AreLists}
 use Rattle.id_iters.specs.Ready.{Ready}
 use Rattle.id_iters.specs.Sets.{in_set}
 use Rattle.id_iters.specs.declared.iter.Iter.{Iter}
-use Rattle.search_exec.specs.Ids.{AreKnown, AreNumbered, docs_in}
+use Rattle.doc_reads.specs.Ids.{AreKnown, AreNumbered, docs_in}
 
 -- the ids that an iterator has in an index
 abbrev pub ids_in : Index → Iter → ℕ → Bool

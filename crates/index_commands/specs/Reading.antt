@@ -25,7 +25,7 @@ use Rattle.indexed_store.specs.DefinitionsOf.{definitions_of}
 use Rattle.indexed_store.specs.Holding.{Holding, state_of}
 use Rattle.indexed_store.specs.Standing.{InStep}
 use Rattle.indexed_store.specs.declared.change.Change.{Change}
-use Rattle.search_exec.specs.Ids.{docs_of}
+use Rattle.doc_reads.specs.Ids.{docs_of}
 
 -- a text is no longer than a word may be
 abbrev pub IsWord : List ℕ → Type 0

@@ -12,8 +12,8 @@ use Rattle.id_iters.specs.declared.hint.Hint.{Hint}
 use Rattle.id_iters.specs.declared.leaf.Leaf.{Leaf}
 use Rattle.id_iters.specs.declared.list_name.ListName.{ListName}
 use Rattle.id_iters.specs.declared.list_name.ListName.TheVariants as names
-use Rattle.query_plan.specs.Known.{KnowsAll}
-use Rattle.query_plan.specs.Plans.{AllKnown, AllOpen}
+use Rattle.list_plan.specs.Known.{KnowsAll}
+use Rattle.list_plan.specs.Plans.{AllKnown, AllOpen}
 
 -- ---- a list has one place that is opened behind an id
 

@@ -10,10 +10,7 @@ pub mod RangeLaws
 pub mod AskedLaws
 pub mod MeetLaws
 pub mod NameLaws
-pub mod KnownLaws
 pub mod HintLaws
-pub mod UnionLaws
-pub mod GainLaws
 pub mod PlanLaws
 pub mod OtherLaws
 pub mod FoundLaws

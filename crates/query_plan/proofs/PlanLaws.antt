@@ -27,9 +27,10 @@ use Rattle.id_iters.specs.declared.list_name.ListName.TheVariants as names
 use Rattle.id_iters.specs.declared.phrase.PhraseIter.{PhraseIter}
 use Rattle.phrase_match.specs.Phrase.{within}
 use Rattle.query_plan.specs.Asked.{asked_of_each}
-use Rattle.query_plan.specs.Plans.{AllReady, AllTell, Joins, Tells, ids_of, some_has}
+use Rattle.list_plan.specs.Plans.{AllReady, Joins, ids_of, some_has}
+use Rattle.query_plan.specs.Plans.{AllTell, Tells}
 use Rattle.query_plan.specs.Sought.{all_sought, section_of, words_with}
-use Rattle.query_plan.specs.declared.size.Planned.{Planned}
+use Rattle.list_plan.specs.declared.size.Planned.{Planned}
 use Rattle.query_plan.proofs.AnyLaws.{any_cong}
 use Rattle.query_plan.proofs.AskedLaws.{section_as}
 use Rattle.query_plan.proofs.MeetLaws.{phrase_meets, prefix_meets, range_meets, tags_meet, word_meets}

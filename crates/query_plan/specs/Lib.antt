@@ -1,6 +1,4 @@
 pub mod Finds
-pub mod Groups
-pub mod Known
 pub mod Phrases
 pub mod Plans
 pub mod Sought

@@ -5,14 +5,12 @@ ghost use Rattle.id_iters.specs.Fitting.{leaves_of};
 ghost use Rattle.id_iters.specs.Held.{entries_of};
 ghost use Rattle.id_iters.specs.Ready.{Ready};
 ghost use Rattle.query_plan.specs.Asked.{asked_of};
-ghost use Rattle.query_plan.specs.Known.{KnownFit, place_of};
+ghost use Rattle.list_plan.specs.Known.{KnownFit, place_of};
 ghost use Rattle.query_plan.specs.Plans.{AllKnown, AllOpen, ids_of};
 
-use crate::leaves::plan_list;
-use crate::size::Planned;
-use crate::sources::{Sources, Wanted};
 use ft_base::{Fields, NoMemory, Steps};
 use id_iters::{ListName, Lists};
+use list_plan::{Planned, Sources, Wanted, plan_list};
 use std::sync::ledger::Ledger;
 
 /// The ids of a range of a field, which ends where the next one begins, for the numbers from `low` to `high`.

@@ -6,16 +6,11 @@
 #![tactic(auto)]
 
 mod asked;
-mod known;
-mod leaves;
 mod phrases;
 mod planner;
 mod query_tree;
 mod ranges;
-mod size;
-mod sources;
 mod tags;
-mod union;
 mod words;
 
 /// The plan of a query over the lists of an index.

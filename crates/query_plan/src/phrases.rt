@@ -4,15 +4,13 @@ ghost use Rattle.ft_meaning.specs.Meaning.{has_words};
 ghost use Rattle.id_iters.specs.Fitting.{IsOpenAt, leaves_of};
 ghost use Rattle.id_iters.specs.Places.{LeavesReady, WordReady};
 ghost use Rattle.id_iters.specs.Ready.{Ready};
-ghost use Rattle.query_plan.specs.Known.{KnownFit, place_of};
+ghost use Rattle.list_plan.specs.Known.{KnownFit, place_of};
 ghost use Rattle.query_plan.specs.Phrases.{AreOfWords, has_phrase, has_words_at, is_searched, is_searched_at};
 ghost use Rattle.query_plan.specs.Plans.{AllKnown, AllOpen, AlwaysReady, Gains, HasAllIf, Tells, ids_of};
 
-use crate::leaves::{copy_of, leaf_of};
-use crate::size::{Planned, word_size};
-use crate::sources::{Sources, Wanted};
 use ft_base::{Bytes, Field, Fields, IndexDef, ListOf, NoMemory, Steps};
 use id_iters::{Iter, Leaf, ListName, Lists, PhraseIter};
+use list_plan::{Planned, Sources, Wanted, copy_of, leaf_of, word_size};
 use std::sync::ledger::Ledger;
 
 /// What is asked of a phrase.

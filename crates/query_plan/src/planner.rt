@@ -7,11 +7,10 @@ ghost use Rattle.id_iters.specs.Ready.{Ready};
 ghost use Rattle.id_iters.specs.Sets.{in_set};
 ghost use Rattle.query_plan.specs.Finds.{AreOf, finds};
 
-use crate::known::known_places;
 use crate::query_tree::plan_part;
-use crate::sources::Sources;
 use ft_base::{IndexDef, NoMemory, Query, Steps};
 use id_iters::{Hints, Iter, Lists};
+use list_plan::{Sources, known_places};
 use std::alloc::Global;
 use std::sync::ledger::Ledger;
 

@@ -4,19 +4,17 @@ ghost use Rattle.ft_base.specs.declared.query.Query.TheVariants as tree;
 ghost use Rattle.ft_meaning.specs.Holds.{holds};
 ghost use Rattle.id_iters.specs.Fitting.{leaves_of};
 ghost use Rattle.id_iters.specs.Ready.{Ready};
-ghost use Rattle.query_plan.specs.Known.{KnownFit, place_of};
+ghost use Rattle.list_plan.specs.Known.{KnownFit, place_of};
 ghost use Rattle.query_plan.specs.Plans.{AllKnown, AllOpen, AllReady, AllTell, PartsKnown, PartsOpen, Tells, ids_of};
 ghost use Rattle.query_plan.specs.Sought.{asks_other};
 
 use crate::phrases::{Phrase, plan_phrase};
 use crate::ranges::plan_range;
-use crate::size::{Planned, add_planned};
-use crate::sources::Sources;
 use crate::tags::plan_tags;
-use crate::union::{every_of, other_of, some_of};
 use crate::words::{plan_prefix, plan_word};
 use ft_base::{NoMemory, Query, Steps};
 use id_iters::Lists;
+use list_plan::{Planned, Sources, add_planned, every_of, other_of, some_of};
 use std::sync::ledger::Ledger;
 
 /// The plan of a part of a query, or of the whole.

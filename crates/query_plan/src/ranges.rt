@@ -4,16 +4,14 @@ ghost use Rattle.ft_meaning.specs.Holds.{has_of};
 ghost use Rattle.id_iters.specs.Fitting.{leaves_of};
 ghost use Rattle.id_iters.specs.Ready.{Ready};
 ghost use Rattle.query_plan.specs.Asked.{asked_of_each};
-ghost use Rattle.query_plan.specs.Known.{KnownFit, place_of};
+ghost use Rattle.list_plan.specs.Known.{KnownFit, place_of};
 ghost use Rattle.query_plan.specs.Plans.{AllKnown, AllOpen, AllReady, PartsKnown, PartsOpen, Tells, ids_of};
 ghost use Rattle.query_plan.specs.Sought.{section_of};
 
 use crate::asked::plan_one_range;
-use crate::size::{Planned, add_planned};
-use crate::sources::Sources;
-use crate::union::some_of;
 use ft_base::{NoMemory, Span, Steps};
 use id_iters::Lists;
+use list_plan::{Planned, Sources, add_planned, some_of};
 use std::sync::ledger::Ledger;
 
 /// The documents whose number in a field lies between two ends, both included. Of a range that lies whole between them no

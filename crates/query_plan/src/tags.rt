@@ -3,15 +3,13 @@ ghost use Rattle.std.specs.Prelude.{◌≡◌, ◌≤◌, ◌+◌, ◌++◌, map
 ghost use Rattle.ft_meaning.specs.Holds.{has_of};
 ghost use Rattle.id_iters.specs.Fitting.{leaves_of};
 ghost use Rattle.id_iters.specs.Ready.{Ready};
-ghost use Rattle.query_plan.specs.Known.{KnownFit, place_of};
+ghost use Rattle.list_plan.specs.Known.{KnownFit, place_of};
 ghost use Rattle.query_plan.specs.Plans.{AllKnown, AllOpen, Tells, ids_of};
 ghost use Rattle.query_plan.specs.Sought.{all_sought, sought_by, words_with};
 
-use crate::leaves::plan_lists;
-use crate::size::Planned;
-use crate::sources::{Sources, Wanted};
 use ft_base::{Bytes, Fields, ListOf, NoMemory, Steps, TagPart};
 use id_iters::{ListName, Lists};
+use list_plan::{Planned, Sources, Wanted, plan_lists};
 use std::alloc::Global;
 use std::sync::ledger::Ledger;
 

@@ -21,7 +21,7 @@ use Rattle.id_iters.specs.Held.{Held}
 use Rattle.id_iters.specs.Least.{IsLeast, IsLeastAt, NoneFrom}
 use Rattle.id_iters.specs.Sets.{About, living}
 use Rattle.search_exec.specs.Candidates.{AreNamed, about_candidates, candidate, ids_with, in_candidates, is_id_of, is_named}
-use Rattle.search_exec.specs.Ids.{docs_in, docs_of}
+use Rattle.doc_reads.specs.Ids.{docs_in, docs_of}
 use Rattle.search_exec.specs.declared.candidates.Candidates.{Candidates}
 
 -- ---- which documents are named

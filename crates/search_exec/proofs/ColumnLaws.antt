@@ -26,14 +26,14 @@ use Rattle.row_sort.specs.Order.{row_order, value_order}
 use Rattle.row_sort.specs.Sorting.{placed, sorted}
 use Rattle.row_sort.specs.declared.order.Direction.{Direction}
 use Rattle.row_sort.specs.declared.rows.Ranked.{Ranked}
-use Rattle.search_exec.proofs.AskLaws.{IsAsked, asked-next}
+use Rattle.doc_reads.proofs.AskLaws.{IsAsked, asked-next}
 use Rattle.search_exec.proofs.FieldLaws.{sorted-map, then-alone}
-use Rattle.search_exec.specs.Ids.{AreKnown, doc_at, docs_in}
-use Rattle.search_exec.specs.Pages.{reads_of, reads_shown}
+use Rattle.doc_reads.specs.Ids.{AreKnown, doc_at, docs_in}
+use Rattle.doc_reads.specs.Pages.{reads_of, reads_shown}
 use Rattle.search_exec.specs.Ranks.{AreRanked, docs_at, first_ids, offered, page_at, ranked_id, reads_at}
-use Rattle.search_exec.specs.Shapes.{order_by, page_by, row_by, value_by}
-use Rattle.search_exec.specs.declared.shape.Shape.{Shape}
-use Rattle.search_exec.specs.declared.shape.SortKey.{SortKey}
+use Rattle.doc_reads.specs.Shapes.{order_by, page_by, row_by, value_by}
+use Rattle.doc_reads.specs.declared.shape.Shape.{Shape}
+use Rattle.doc_reads.specs.declared.shape.SortKey.{SortKey}
 
 -- ---- the ids that were offered
 

@@ -17,9 +17,9 @@ use Rattle.row_sort.specs.Order.{row_order, value_order}
 use Rattle.row_sort.specs.Sorting.{placed, sorted}
 use Rattle.row_sort.specs.declared.rows.Ranked.{Ranked}
 use Rattle.search_exec.specs.Ranks.{first_ranked, page_from, ranked}
-use Rattle.search_exec.specs.Shapes.{order_by, page_by, row_by, value_by}
-use Rattle.search_exec.specs.declared.shape.Shape.{Shape}
-use Rattle.search_exec.specs.declared.shape.SortKey.{SortKey}
+use Rattle.doc_reads.specs.Shapes.{order_by, page_by, row_by, value_by}
+use Rattle.doc_reads.specs.declared.shape.Shape.{Shape}
+use Rattle.doc_reads.specs.declared.shape.SortKey.{SortKey}
 
 -- where nothing comes later, the first decides
 pub then-alone : (order : Ordering) → ordering_then order Equal ≡ order

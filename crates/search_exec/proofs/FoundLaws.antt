@@ -20,8 +20,8 @@ use Rattle.ft_meaning.specs.Sortable.{number_at, sorting_vector}
 use Rattle.id_iters.specs.Held.{Held}
 use Rattle.id_iters.specs.Sets.{in_set}
 use Rattle.id_iters.specs.declared.iter.Iter.{Iter}
-use Rattle.search_exec.proofs.AskLaws.{live-first}
-use Rattle.search_exec.specs.Ids.{AreKnown, AreNumbered, doc_at, docs_in}
+use Rattle.doc_reads.proofs.AskLaws.{live-first}
+use Rattle.doc_reads.specs.Ids.{AreKnown, AreNumbered, doc_at, docs_in}
 
 abbrev ids : List Doc → List ℕ
 ids docs = map (λ (doc : Doc). doc.id) docs

@@ -1,13 +1,7 @@
 pub mod AggregateLaws
-pub mod AskLaws
 pub mod CandidatesLaws
 pub mod ColumnLaws
 pub mod FieldLaws
 pub mod FoundLaws
-pub mod HintLaws
-pub mod KeyLaws
-pub mod PageLaws
 pub mod RowsReplyLaws
 pub mod SearchLaws
-pub mod ShapeLaws
-pub mod StreamLaws

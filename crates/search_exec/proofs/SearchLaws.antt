@@ -8,13 +8,13 @@ use Rattle.ft_base.specs.declared.reply.Reply.{Reply}
 use Rattle.ft_machine.specs.Counted.{in_order}
 use Rattle.ft_machine.specs.Shown.{found_reply}
 use Rattle.hash_store.specs.Store.{reads_after}
-use Rattle.search_exec.proofs.KeyLaws.{column-reads, same-reads, sorts-field}
-use Rattle.search_exec.proofs.ShapeLaws.{order-length, sorted-page, unsorted, unsorted-page}
-use Rattle.search_exec.specs.Ids.{reads_for}
-use Rattle.search_exec.specs.Pages.{ordered_by, reads_by, reads_of}
-use Rattle.search_exec.specs.Shapes.{IsShapeOf, SortsBy, page_by}
-use Rattle.search_exec.specs.declared.shape.Shape.{Shape}
-use Rattle.search_exec.specs.declared.shape.SortKey.{SortKey}
+use Rattle.doc_reads.proofs.KeyLaws.{column-reads, same-reads, sorts-field}
+use Rattle.doc_reads.proofs.ShapeLaws.{order-length, sorted-page, unsorted, unsorted-page}
+use Rattle.doc_reads.specs.Ids.{reads_for}
+use Rattle.doc_reads.specs.Pages.{ordered_by, reads_by, reads_of}
+use Rattle.doc_reads.specs.Shapes.{IsShapeOf, SortsBy, page_by}
+use Rattle.doc_reads.specs.declared.shape.Shape.{Shape}
+use Rattle.doc_reads.specs.declared.shape.SortKey.{SortKey}
 
 ordered-length : (sort : Option SortKey) (docs : List Doc) → length (ordered_by sort docs) ≡ length docs
 ordered-length None docs = refl

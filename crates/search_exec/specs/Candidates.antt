@@ -8,7 +8,7 @@ use Rattle.ft_machine.specs.Counted.{is_among}
 use Rattle.id_iters.specs.Held.{AreLists, Held}
 use Rattle.id_iters.specs.Ready.{Ready}
 use Rattle.id_iters.specs.Sets.{About, about, living}
-use Rattle.search_exec.specs.Ids.{AreKnown, docs_in}
+use Rattle.doc_reads.specs.Ids.{AreKnown, docs_in}
 use Rattle.search_exec.specs.declared.candidates.Candidates.{Candidates}
 use Rattle.search_exec.specs.declared.candidates.NamedIds.{NamedIds}
 

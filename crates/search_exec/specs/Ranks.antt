@@ -11,11 +11,11 @@ use Rattle.row_sort.specs.Order.{row_order}
 use Rattle.row_sort.specs.Sorting.{sorted}
 use Rattle.row_sort.specs.declared.order.Direction.{Direction}
 use Rattle.row_sort.specs.declared.rows.Ranked.{Ranked}
-use Rattle.search_exec.specs.Ids.{AreKnown, doc_at, docs_in}
-use Rattle.search_exec.specs.Pages.{reads_shown}
-use Rattle.search_exec.specs.Shapes.{row_by, value_by}
-use Rattle.search_exec.specs.declared.shape.Shape.{Shape}
-use Rattle.search_exec.specs.declared.shape.SortKey.{SortKey}
+use Rattle.doc_reads.specs.Ids.{AreKnown, doc_at, docs_in}
+use Rattle.doc_reads.specs.Pages.{reads_shown}
+use Rattle.doc_reads.specs.Shapes.{row_by, value_by}
+use Rattle.doc_reads.specs.declared.shape.Shape.{Shape}
+use Rattle.doc_reads.specs.declared.shape.SortKey.{SortKey}
 
 -- the first rows once a row is offered
 abbrev pub offered : {T : Type 0} → First T → Ranked T → First T

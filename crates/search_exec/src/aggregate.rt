@@ -5,11 +5,11 @@ ghost use Rattle.ft_base.specs.Reply.{fits_wire};
 ghost use Rattle.ft_machine.specs.Aggregating.{aggregate_rows, rows_reply};
 ghost use Rattle.hash_store.specs.Store.{reads_after};
 ghost use Rattle.search_exec.specs.Feeds.{AreMadeBy, Gathers, Takes};
-ghost use Rattle.search_exec.specs.Ids.{IsWalkable, doc_at, docs_found};
+ghost use Rattle.doc_reads.specs.Ids.{IsWalkable, doc_at, docs_found};
 
-use crate::facts::tell;
 use crate::replied_rows::rows_reply;
 use agg_pipeline::{Feed, Load, Step};
+use doc_reads::tell;
 use ft_base::{IndexDef, NoMemory, Reply, Row, Steps};
 use hash_store::HashStore;
 use id_iters::{Iter, Lists};

@@ -4,15 +4,14 @@ ghost use Rattle.std.specs.Prelude.{◌≡◌, ◌<◌, ◌≤◌, ◌+◌, ◌^
 ghost use Rattle.hash_store.specs.Store.{reads_after};
 ghost use Rattle.id_iters.specs.Held.{AreLists};
 ghost use Rattle.search_exec.specs.Candidates.{in_candidates, AreWalkable, MayAsk, docs_counted};
-ghost use Rattle.search_exec.specs.Ids.{doc_at};
-ghost use Rattle.search_exec.specs.Pages.{reads_of, reads_shown};
+ghost use Rattle.doc_reads.specs.Ids.{doc_at};
+ghost use Rattle.doc_reads.specs.Pages.{reads_of, reads_shown};
 ghost use Rattle.search_exec.specs.Ranks.{AreAllRanked, docs_at, offered, page_at, ranked_id, reads_at};
-ghost use Rattle.search_exec.specs.Shapes.{AreSeen, order_by, page_by, row_by};
+ghost use Rattle.doc_reads.specs.Shapes.{AreSeen, order_by, page_by, row_by};
 
 use crate::candidates::Candidates;
-use crate::facts::tell;
 use crate::replied_rows::counted;
-use crate::shape::{Shape, SortKey, push_key, push_row};
+use doc_reads::{Shape, SortKey, push_key, push_row, tell};
 use ft_base::{ListOf, NoMemory, Reply, Steps, Value};
 use hash_store::HashStore;
 use id_iters::Lists;

@@ -4,14 +4,13 @@ ghost use Rattle.std.specs.Prelude.{◌≡◌, ◌<◌, ◌≤◌, ◌+◌, ◌^
 ghost use Rattle.std.specs.Option.{ForSome};
 ghost use Rattle.hash_store.specs.Store.{reads_after};
 ghost use Rattle.search_exec.specs.Candidates.{AreWalkable, docs_counted};
-ghost use Rattle.search_exec.specs.Ids.{doc_at};
+ghost use Rattle.doc_reads.specs.Ids.{doc_at};
 ghost use Rattle.search_exec.specs.Ranks.{first_ranked, offered, page_from, ranked};
-ghost use Rattle.search_exec.specs.Shapes.{order_by, page_by, row_by, value_by};
+ghost use Rattle.doc_reads.specs.Shapes.{order_by, page_by, row_by, value_by};
 
 use crate::candidates::Candidates;
-use crate::facts::tell;
 use crate::replied_rows::counted;
-use crate::shape::{Shape, SortKey, push_row};
+use doc_reads::{Shape, SortKey, push_row, tell};
 use field_text::number;
 use ft_base::{Bytes, Doc, ListOf, NoMemory, Reply, Steps, Value};
 use hash_store::HashStore;

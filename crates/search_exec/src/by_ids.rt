@@ -4,14 +4,12 @@ ghost use Rattle.std.specs.Option.{ForSome};
 ghost use Rattle.ft_base.specs.Docs.{Doc};
 ghost use Rattle.hash_store.specs.Store.{reads_after};
 ghost use Rattle.search_exec.specs.Candidates.{AreWalkable, docs_counted};
-ghost use Rattle.search_exec.specs.Ids.{doc_at};
-ghost use Rattle.search_exec.specs.Pages.{Shows, reads_of};
-ghost use Rattle.search_exec.specs.Shapes.{page_by};
+ghost use Rattle.doc_reads.specs.Ids.{doc_at};
+ghost use Rattle.doc_reads.specs.Pages.{Shows, reads_of};
+ghost use Rattle.doc_reads.specs.Shapes.{page_by};
 
 use crate::candidates::Candidates;
-use crate::facts::tell;
-use crate::page::Page;
-use crate::shape::Shape;
+use doc_reads::{Page, Shape, note_id, tell};
 use ft_base::{NoMemory, Reply, Steps};
 use hash_store::HashStore;
 use id_iters::Lists;
@@ -73,37 +71,4 @@ fn note_all<T: Lists, L: Ledger>(
         from = id + 1;
     }
     Ok(())
-}
-
-/// Notes the document of an id. Outside the window it is counted, and neither its key nor the document is asked for.
-fn note_id(
-    page: &mut Page,
-    alloc: Global,
-    store: &mut HashStore,
-    shape: &Shape<'_>,
-    id: u64,
-) -> Result<(), NoMemory>
-    requires few { page.old.total < 2 ^ 62 }
-    requires bits { store.old.reads < 2 ^ 64 }
-    requires stored { IsSome (doc_at id store.old.space) }
-    ensures shown { OnOk result ((docs : List Doc) → ForSome (doc_at id store.old.space) (λ doc.
-        Shows shape.now docs page.old → Shows shape.now (docs ++ doc ∷ []) page.new)) }
-    ensures total { OnOk result (page.new.total ≡ page.old.total + 1) }
-
-    ensures reads { OnOk result ((start : ℕ)
-        → store.old.reads ≡ reads_after start (reads_of shape.now page.old.total)
-        → store.new.reads ≡ reads_after start (reads_of shape.now page.new.total)) }
-    ensures rises { store.old.reads ≤ store.new.reads }
-    ensures same { store.new ≡ record store.old { reads = store.new.reads } }
-{
-    if !page.shows_next(shape) {
-        page.note_unseen();
-        return Ok(());
-    }
-    if shape.no_content {
-        let key = store.key_of(id).unwrap();
-        return page.note_key(alloc, key);
-    }
-    let doc = store.get_by_id(id).unwrap();
-    page.note(alloc, shape, doc)
 }

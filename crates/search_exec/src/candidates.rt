@@ -5,7 +5,7 @@ ghost use Rattle.id_iters.specs.Least.{IsLeast};
 ghost use Rattle.id_iters.specs.Ready.{Ready};
 ghost use Rattle.id_iters.specs.Sets.{about, in_set};
 ghost use Rattle.search_exec.specs.Candidates.{about_candidates, candidate, ids_named, ids_with, in_candidates, is_id_of, AreBehind, AreNamed, IsBehind, MayAsk};
-ghost use Rattle.search_exec.specs.Ids.{docs_in, docs_of};
+ghost use Rattle.doc_reads.specs.Ids.{docs_in, docs_of};
 
 use ft_base::{NoMemory, Steps, Words};
 use hash_store::HashStore;

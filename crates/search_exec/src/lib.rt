@@ -3,10 +3,10 @@
 //!
 //! A search asks the iterator of a query for its ids, counts them all, and reads the documents that it shows; and all of them
 //! where it sorts by a field whose numbers the index does not keep. What is answered is defined in `ft_machine`,
-//! `specs/Counted.antt` and `specs/Shown.antt`; read `search.rt` first, then `candidates.rt`, `shape.rt`, and the three orders
-//! `by_ids.rt`, `by_column.rt` and `by_field.rt`. An aggregate reads each document that the
-//! iterator finds, and its steps make rows of them: `aggregate.rt` and `replied_rows.rt`, defined in `specs/Aggregating.antt`
-//! of `ft_machine`. A stream is read from an id on, document by document: `stream.rt`, defined in `specs/Parts.antt`.
+//! `specs/Counted.antt` and `specs/Shown.antt`; read `search.rt` first, then `candidates.rt` and the three orders
+//! `by_ids.rt`, `by_column.rt` and `by_field.rt`. How a document is shown is in `doc_reads`. An aggregate reads each document
+//! that the iterator finds, and its steps make rows of them: `aggregate.rt` and `replied_rows.rt`, defined in
+//! `specs/Aggregating.antt` of `ft_machine`.
 #![tactic(auto)]
 
 mod aggregate;
@@ -14,13 +14,8 @@ mod by_column;
 mod by_field;
 mod by_ids;
 mod candidates;
-mod facts;
-mod hints;
-mod page;
 mod replied_rows;
 mod search;
-mod shape;
-mod stream;
 
 /// What an aggregate answers, and its rows by themselves.
 pub use aggregate::{aggregate_reply, found_rows};
@@ -28,5 +23,3 @@ pub use aggregate::{aggregate_reply, found_rows};
 pub use replied_rows::{lent_rows_reply, rows_reply};
 /// What a search answers.
 pub use search::search_reply;
-/// A read of a stream.
-pub use stream::{StreamRead, read_stream};

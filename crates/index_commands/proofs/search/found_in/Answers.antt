@@ -4,8 +4,8 @@ use Rattle.ft_base.specs.declared.definition.Field.{Field}
 use Rattle.ft_base.specs.declared.definition.IndexDef.{IndexDef}
 use Rattle.ft_index.specs.Lists.{held_of, named_of}
 use Rattle.id_iters.specs.Sets.{in_set}
-use Rattle.search_exec.specs.Ids.{AreNumbered}
-use Rattle.search_exec.specs.Shapes.{SortsBy}
+use Rattle.doc_reads.specs.Ids.{AreNumbered}
+use Rattle.doc_reads.specs.Shapes.{SortsBy}
 use Rattle.index_commands.proofs.FilterLaws.{sorts-known}
 use Rattle.index_commands.proofs.SearchLaws.{shown-by}
 use Rattle.index_commands.proofs.search.found_in.Goals as goal

@@ -5,9 +5,9 @@ use Rattle.id_iters.specs.Fitting.{IsOpenAt}
 use Rattle.id_iters.specs.Places.{WordReady}
 use Rattle.id_iters.specs.declared.leaf.Leaf.{Leaf}
 use Rattle.id_iters.specs.declared.list_name.ListName.TheVariants as names
-use Rattle.query_plan.specs.Known.{place_of}
-use Rattle.query_plan.proofs.GainLaws.{all_more, each_more, map_more, same_more}
-use Rattle.query_plan.proofs.UnionLaws.{more}
+use Rattle.list_plan.specs.Known.{place_of}
+use Rattle.list_plan.proofs.GainLaws.{all_more, each_more, map_more, same_more}
+use Rattle.list_plan.proofs.UnionLaws.{more}
 use Rattle.std.specs.Option.{IsSome}
 use Rattle.query_plan.proofs.phrases.add_leaves.Goals as goal
 

@@ -2,8 +2,8 @@ use Rattle.std.proofs.Common.{◌≡◌, ◌≤◌, ◌+◌, map, take}
 use Rattle.id_iters.specs.Leaves.{list_names}
 use Rattle.id_iters.specs.Places.{LeavesReady}
 use Rattle.id_iters.specs.declared.list_name.ListName.TheVariants as names
-use Rattle.query_plan.specs.Known.{place_of}
-use Rattle.query_plan.specs.Plans.{AllKnown, AllOpen}
+use Rattle.list_plan.specs.Known.{place_of}
+use Rattle.list_plan.specs.Plans.{AllKnown, AllOpen}
 use Rattle.query_plan.proofs.phrases.add_leaves.Given as goal
 
 abbrev pub invariant-words : goal.invariant-words

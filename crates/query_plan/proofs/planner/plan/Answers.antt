@@ -1,7 +1,7 @@
 use Rattle.std.proofs.Common.{List, subst}
 use Rattle.id_iters.specs.declared.hint.Hint.{Hint}
-use Rattle.query_plan.specs.Known.{KnowsAll, place_of}
-use Rattle.query_plan.specs.Plans.{ids_of}
+use Rattle.list_plan.specs.Known.{KnowsAll, place_of}
+use Rattle.list_plan.specs.Plans.{ids_of}
 use Rattle.query_plan.proofs.HintLaws.{all_known, all_placed}
 use Rattle.query_plan.proofs.MeetLaws.{are_lists, found_at}
 use Rattle.query_plan.proofs.planner.plan.Goals as goal

@@ -5,11 +5,12 @@ use Rattle.ft_base.specs.declared.query.Query.TheVariants as query
 use Rattle.ft_meaning.specs.Holds.{holds}
 use Rattle.id_iters.specs.Fitting.{leaves_of}
 use Rattle.id_iters.specs.Ready.{Ready}
-use Rattle.query_plan.specs.Known.{place_of}
-use Rattle.query_plan.specs.declared.size.Planned.{Planned}
-use Rattle.query_plan.specs.Plans.{AllKnown, AllOpen, Tells, ids_of}
-use Rattle.query_plan.proofs.GainLaws.{all_more, of_item, same_more}
-use Rattle.query_plan.proofs.UnionLaws.{more}
+use Rattle.list_plan.specs.Known.{place_of}
+use Rattle.list_plan.specs.declared.size.Planned.{Planned}
+use Rattle.list_plan.specs.Plans.{AllKnown, AllOpen, ids_of}
+use Rattle.query_plan.specs.Plans.{Tells}
+use Rattle.list_plan.proofs.GainLaws.{all_more, of_item, same_more}
+use Rattle.list_plan.proofs.UnionLaws.{more}
 use Rattle.query_plan.proofs.OtherLaws.{other}
 use Rattle.query_plan.proofs.PlanLaws.{every_tells, one_more_tells, other_tells, some_tells, tells_same}
 use Rattle.query_plan.proofs.query_tree.+part.Goals as goal

@@ -1,6 +1,7 @@
 use Rattle.std.proofs.Common.{◌≡◌, ◌≤◌, ◌+◌, take}
-use Rattle.query_plan.specs.Known.{place_of}
-use Rattle.query_plan.specs.Plans.{AllReady, AllTell, PartsKnown, PartsOpen}
+use Rattle.list_plan.specs.Known.{place_of}
+use Rattle.list_plan.specs.Plans.{AllReady, PartsKnown, PartsOpen}
+use Rattle.query_plan.specs.Plans.{AllTell}
 use Rattle.query_plan.proofs.query_tree.+part.Given as goal
 
 abbrev pub invariant-plan_each-queries : goal.invariant-plan_each-queries

@@ -1,6 +1,6 @@
 use Rattle.query_plan.proofs.OtherLaws.{rest_tells}
 use Rattle.query_plan.proofs.PlanLaws.{none_tells}
-use Rattle.query_plan.specs.Plans.{ids_of}
+use Rattle.list_plan.specs.Plans.{ids_of}
 use Rattle.query_plan.proofs.query_tree.plan_other_leaf.Goals as goal
 
 pub returns-in-Empty-clause-set : goal.returns-in-Empty-clause-set

@@ -7,12 +7,12 @@ use Rattle.id_iters.specs.Fitting.{leaves_of}
 use Rattle.id_iters.specs.Held.{entries_of}
 use Rattle.id_iters.specs.Ready.{Ready}
 use Rattle.query_plan.specs.Asked.{asked_of, asked_of_each}
-use Rattle.query_plan.specs.Known.{place_of}
-use Rattle.query_plan.specs.Plans.{AllKnown, AllOpen, ids_of}
+use Rattle.list_plan.specs.Known.{place_of}
+use Rattle.list_plan.specs.Plans.{AllKnown, AllOpen, ids_of}
 use Rattle.query_plan.specs.Sought.{section_of}
-use Rattle.query_plan.specs.declared.size.Planned.{Planned}
+use Rattle.list_plan.specs.declared.size.Planned.{Planned}
 use Rattle.query_plan.proofs.AskedLaws.{asked_ended, asked_more, section_as}
-use Rattle.query_plan.proofs.GainLaws.{all_more, map_more, same_more}
+use Rattle.list_plan.proofs.GainLaws.{all_more, map_more, same_more}
 use Rattle.query_plan.proofs.ranges.plan_each_range.Goals as goal
 
 pub returns-clause-set : goal.returns-clause-set

@@ -1,9 +1,9 @@
 use Rattle.std.proofs.Common.{◌≡◌, ◌≤◌, ◌+◌, map}
 use Rattle.query_plan.specs.Asked.{asked_of_each}
-use Rattle.query_plan.specs.Known.{place_of}
-use Rattle.query_plan.specs.Plans.{AllReady, PartsKnown, PartsOpen, ids_of}
+use Rattle.list_plan.specs.Known.{place_of}
+use Rattle.list_plan.specs.Plans.{AllReady, PartsKnown, PartsOpen, ids_of}
 use Rattle.query_plan.specs.Sought.{section_of}
-use Rattle.query_plan.specs.declared.size.Planned.{Planned}
+use Rattle.list_plan.specs.declared.size.Planned.{Planned}
 use Rattle.query_plan.proofs.ranges.plan_each_range.Given as goal
 
 abbrev pub invariant-places : goal.invariant-places

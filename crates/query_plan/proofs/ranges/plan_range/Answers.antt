@@ -1,10 +1,10 @@
 use mir.Syntax.{w64}
 use mir.Val.{of_z, to_z}
 use Rattle.std.proofs.lemmas.Int.{to_z-of_z}
-use Rattle.query_plan.specs.Known.{place_of}
+use Rattle.list_plan.specs.Known.{place_of}
 use Rattle.query_plan.proofs.PlanLaws.{range_tells_as}
 use Rattle.query_plan.proofs.RangeLaws.{above_least, below_greatest}
-use Rattle.query_plan.proofs.UnionLaws.{sets_joined}
+use Rattle.list_plan.proofs.UnionLaws.{sets_joined}
 use Rattle.query_plan.proofs.ranges.plan_range.Goals as goal
 
 pub returns-clause-set : goal.returns-clause-set

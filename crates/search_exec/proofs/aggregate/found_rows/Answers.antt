@@ -1,6 +1,6 @@
 use Rattle.id_iters.specs.Sets.{in_set}
 use Rattle.search_exec.proofs.AggregateLaws.{rows-noted}
-use Rattle.search_exec.specs.Ids.{docs_in}
+use Rattle.doc_reads.specs.Ids.{docs_in}
 use Rattle.search_exec.proofs.aggregate.found_rows.Goals as goal
 
 pub returns-clause-rows : goal.returns-clause-rows

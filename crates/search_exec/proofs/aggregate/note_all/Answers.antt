@@ -6,8 +6,8 @@ use Rattle.id_iters.specs.Least.{IsLeastAt}
 use Rattle.id_iters.specs.Ready.{Ready}
 use Rattle.id_iters.specs.Sets.{about, in_set}
 use Rattle.search_exec.proofs.AggregateLaws.{IsFed, fed-next, fed-none}
-use Rattle.search_exec.proofs.AskLaws.{asked-ended, asked-next, asked-none, found-still, iter-same, live-first, read-on}
-use Rattle.search_exec.specs.Ids.{doc_at}
+use Rattle.doc_reads.proofs.AskLaws.{asked-ended, asked-next, asked-none, found-still, iter-same, live-first, read-on}
+use Rattle.doc_reads.specs.Ids.{doc_at}
 use Rattle.search_exec.proofs.aggregate.note_all.Goals as goal
 
 pub asking-init : goal.asking-init

@@ -4,7 +4,7 @@ use Rattle.ft_base.specs.Docs.{Doc}
 use Rattle.id_iters.specs.Ready.{Ready}
 use Rattle.id_iters.specs.Sets.{about, in_set}
 use Rattle.search_exec.proofs.AggregateLaws.{IsFed}
-use Rattle.search_exec.proofs.AskLaws.{IsAsked}
+use Rattle.doc_reads.proofs.AskLaws.{IsAsked}
 use Rattle.search_exec.proofs.aggregate.note_all.Given as goal
 
 -- The feed holds the documents of the ids so far, each of which was read once, and these with those of the ids from here on are all.

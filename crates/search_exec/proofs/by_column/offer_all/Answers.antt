@@ -1,7 +1,7 @@
 use Rattle.std.proofs.Common.{◌+◌, ℕ, refl, ap, ◌∙◌, subst, arith}
 use Rattle.std.specs.Prelude.{Option, None, IfSome}
 use Rattle.row_sort.specs.First.{First}
-use Rattle.search_exec.proofs.AskLaws.{asked-ended, asked-none}
+use Rattle.doc_reads.proofs.AskLaws.{asked-ended, asked-none}
 use Rattle.search_exec.proofs.CandidatesLaws.{answer-same, least-next, live-candidate}
 use Rattle.search_exec.proofs.ColumnLaws.{ranked-asked, ranked-none}
 use Rattle.search_exec.specs.Candidates.{about_candidates, in_candidates, MayAsk}

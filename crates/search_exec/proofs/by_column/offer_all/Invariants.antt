@@ -2,9 +2,9 @@ use Rattle.std.specs.Prelude.{◌≡◌, ◌<◌, ◌≤◌, ◌-◌, ◌^◌, �
 use Rattle.std.specs.List.Sorted.{IsStrictlyIncreasing}
 use Rattle.ft_base.specs.Docs.{Doc}
 use Rattle.search_exec.specs.Candidates.{about_candidates, in_candidates, MayAsk}
-use Rattle.search_exec.specs.Ids.{AreKnown}
+use Rattle.doc_reads.specs.Ids.{AreKnown}
 use Rattle.search_exec.specs.Ranks.{AreRanked}
-use Rattle.search_exec.proofs.AskLaws.{IsAsked}
+use Rattle.doc_reads.proofs.AskLaws.{IsAsked}
 use Rattle.search_exec.proofs.by_column.offer_all.Given as goal
 
 -- The ids so far were offered, and the documents of these with those of the ids from here on are all.

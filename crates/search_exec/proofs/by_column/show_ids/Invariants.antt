@@ -1,9 +1,9 @@
 use Rattle.std.specs.Prelude.{◌≡◌, ◌<◌, ◌^◌, ◌++◌, length}
 use Rattle.std.specs.List.{flat_map}
 use Rattle.hash_store.specs.Store.{reads_after}
-use Rattle.search_exec.specs.Pages.{reads_shown}
+use Rattle.doc_reads.specs.Pages.{reads_shown}
 use Rattle.search_exec.specs.Ranks.{docs_at}
-use Rattle.search_exec.specs.Shapes.{row_by}
+use Rattle.doc_reads.specs.Shapes.{row_by}
 use Rattle.search_exec.proofs.by_column.show_ids.Given as goal
 
 -- the documents of the ids so far behind what was there

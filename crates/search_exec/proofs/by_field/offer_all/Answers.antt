@@ -6,11 +6,11 @@ use Rattle.hash_store.specs.Store.{Store, reads_after}
 use Rattle.row_sort.specs.First.{First}
 use Rattle.row_sort.specs.Order.{row_order}
 use Rattle.row_sort.specs.Sorting.{sorted}
-use Rattle.search_exec.proofs.AskLaws.{asked-ended, asked-next, asked-none, found-still, read-more}
+use Rattle.doc_reads.proofs.AskLaws.{asked-ended, asked-next, asked-none, found-still, read-more}
 use Rattle.search_exec.proofs.CandidatesLaws.{answer-same, least-next, live-candidate}
 use Rattle.search_exec.proofs.FieldLaws.{AreOffered, offered-next, offered-none}
 use Rattle.search_exec.specs.Candidates.{about_candidates, in_candidates, MayAsk}
-use Rattle.search_exec.specs.Ids.{doc_at}
+use Rattle.doc_reads.specs.Ids.{doc_at}
 use Rattle.search_exec.specs.Ranks.{ranked}
 use Rattle.search_exec.proofs.by_field.offer_all.Goals as goal
 

@@ -3,7 +3,7 @@ use Rattle.std.specs.List.Sorted.{IsStrictlyIncreasing}
 use Rattle.ft_base.specs.Docs.{Doc}
 use Rattle.hash_store.specs.Store.{reads_after}
 use Rattle.search_exec.specs.Candidates.{about_candidates, in_candidates, MayAsk}
-use Rattle.search_exec.proofs.AskLaws.{IsAsked}
+use Rattle.doc_reads.proofs.AskLaws.{IsAsked}
 use Rattle.search_exec.proofs.FieldLaws.{AreOffered}
 use Rattle.search_exec.proofs.by_field.offer_all.Given as goal
 

@@ -1,7 +1,7 @@
 use Rattle.std.proofs.Common.{ap}
 use Rattle.search_exec.proofs.FieldLaws.{page-offered}
 use Rattle.search_exec.specs.Candidates.{in_candidates}
-use Rattle.search_exec.specs.Ids.{docs_in}
+use Rattle.doc_reads.specs.Ids.{docs_in}
 use Rattle.search_exec.proofs.by_field.page_by_field.Goals as goal
 
 pub returns-clause-reply : goal.returns-clause-reply

@@ -1,12 +1,12 @@
 use Rattle.std.proofs.Common.{◌≡◌, ◌+◌, ℕ, List, ◌∙◌, subst, arith}
 use Rattle.std.specs.Prelude.{Option, None, Some, IfSome}
 use Rattle.ft_base.specs.Docs.{Doc}
-use Rattle.search_exec.proofs.AskLaws.{asked-ended, asked-next, found-still, read-on}
+use Rattle.doc_reads.proofs.AskLaws.{asked-ended, asked-next, found-still, read-on}
 use Rattle.search_exec.proofs.CandidatesLaws.{answer-same, least-next, live-candidate}
-use Rattle.search_exec.proofs.PageLaws.{AreShown, reads-told}
+use Rattle.doc_reads.proofs.PageLaws.{AreShown, reads-told}
 use Rattle.search_exec.specs.Candidates.{MayAsk, in_candidates}
-use Rattle.search_exec.specs.Ids.{doc_at, docs_in}
-use Rattle.search_exec.specs.Pages.{Shows}
+use Rattle.doc_reads.specs.Ids.{doc_at, docs_in}
+use Rattle.doc_reads.specs.Pages.{Shows}
 use Rattle.search_exec.proofs.by_ids.note_all.Goals as goal
 
 pub asking-preserved : goal.asking-preserved

@@ -2,10 +2,10 @@ use Rattle.std.specs.Prelude.{◌≡◌, ◌<◌, ◌≤◌, ◌-◌, ◌^◌, m
 use Rattle.std.specs.List.Sorted.{IsStrictlyIncreasing}
 use Rattle.ft_base.specs.Docs.{Doc}
 use Rattle.hash_store.specs.Store.{reads_after}
-use Rattle.search_exec.proofs.AskLaws.{IsAsked}
-use Rattle.search_exec.proofs.PageLaws.{AreShown}
+use Rattle.doc_reads.proofs.AskLaws.{IsAsked}
+use Rattle.doc_reads.proofs.PageLaws.{AreShown}
 use Rattle.search_exec.specs.Candidates.{MayAsk, about_candidates, in_candidates}
-use Rattle.search_exec.specs.Pages.{reads_of}
+use Rattle.doc_reads.specs.Pages.{reads_of}
 use Rattle.search_exec.proofs.by_ids.note_all.Given as goal
 
 -- the documents of the ids so far, with those of the ids from here on, are all

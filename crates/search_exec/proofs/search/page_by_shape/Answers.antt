@@ -4,11 +4,11 @@ use Rattle.ft_base.specs.Docs.{Doc}
 use Rattle.ft_base.specs.declared.reply.Reply.{Reply}
 use Rattle.search_exec.proofs.SearchLaws.{page-without-key, page-without-rows, reads-without-rows}
 use Rattle.search_exec.specs.Candidates.{in_candidates}
-use Rattle.search_exec.specs.Ids.{docs_in}
+use Rattle.doc_reads.specs.Ids.{docs_in}
 use Rattle.hash_store.specs.Store.{reads_after}
-use Rattle.search_exec.specs.Pages.{ordered_by, reads_by, reads_of}
-use Rattle.search_exec.specs.Shapes.{page_by}
-use Rattle.search_exec.specs.declared.shape.SortKey.{SortKey}
+use Rattle.doc_reads.specs.Pages.{ordered_by, reads_by, reads_of}
+use Rattle.doc_reads.specs.Shapes.{page_by}
+use Rattle.doc_reads.specs.declared.shape.SortKey.{SortKey}
 use Rattle.search_exec.proofs.search.page_by_shape.Goals as goal
 use Rattle.search_exec.proofs.search.page_by_shape.Goals.{in_default-via-in-Some+else-shape-gt0, in_default-via-in_default}
 

@@ -1,12 +1,12 @@
 use Rattle.std.proofs.Common.{arith}
 use Rattle.cmd_parse.specs.Seen.{search_of}
 use Rattle.ft_base.proofs.RepliesLaws.{made-fits}
-use Rattle.search_exec.proofs.KeyLaws.{column-seen}
+use Rattle.doc_reads.proofs.KeyLaws.{column-seen}
 use Rattle.search_exec.proofs.SearchLaws.{made-answer, reads-told}
-use Rattle.search_exec.proofs.ShapeLaws.{page-fits}
+use Rattle.doc_reads.proofs.ShapeLaws.{page-fits}
 use Rattle.search_exec.specs.Candidates.{in_candidates}
-use Rattle.search_exec.specs.Ids.{docs_in}
-use Rattle.search_exec.specs.Pages.{ordered_by}
+use Rattle.doc_reads.specs.Ids.{docs_in}
+use Rattle.doc_reads.specs.Pages.{ordered_by}
 use Rattle.search_exec.proofs.search.reply_of.Goals as goal
 
 pub page_by_shape-requires-clause-window : goal.page_by_shape-requires-clause-window

@@ -1,0 +1,3 @@
+pub mod Ids
+pub mod Pages
+pub mod Shapes

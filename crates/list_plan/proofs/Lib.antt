@@ -1,0 +1,3 @@
+pub mod KnownLaws
+pub mod UnionLaws
+pub mod GainLaws

@@ -1,9 +1,0 @@
-use Rattle.std.proofs.Common.{take}
-use Rattle.query_plan.specs.Known.{KnownFit, KnowsAll, place_of}
-use Rattle.query_plan.proofs.known.known_places.Given as goal
-
-abbrev pub invariant-hints : goal.invariant-hints
-invariant-hints g l = record {
-  fit : KnownFit (g.T.Lists.held l.lists) l.after (place_of l.known);
-  all : KnowsAll (g.T.Lists.held l.lists) l.after (place_of l.known) (take l.hint-index l.hints);
-}

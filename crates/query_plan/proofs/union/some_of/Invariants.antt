@@ -1,9 +1,0 @@
-use Rattle.std.proofs.Common.{length}
-use Rattle.query_plan.specs.Plans.{Joins}
-use Rattle.query_plan.proofs.union.some_of.Given as goal
-
-abbrev pub invariant-rounds : goal.invariant-rounds
-invariant-rounds l = Joins l.fn.plans.items l.left.items
-
-abbrev pub decreases-rounds : goal.decreases-rounds
-decreases-rounds l = length l.left.items

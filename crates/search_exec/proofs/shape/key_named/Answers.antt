@@ -1,7 +1,0 @@
-use Rattle.std.proofs.Common.{sym, ap, ◌∙◌}
-use Rattle.std.specs.Option.{option_copied}
-use Rattle.search_exec.proofs.KeyLaws.{no-column}
-use Rattle.search_exec.proofs.shape.key_named.Goals as goal
-
-pub returns-in-None-clause-column : goal.returns-in-None-clause-column
-returns-in-None-clause-column c = sym (no-column c.args.sort.now.field.now c.args.fields.now (sym c.with_alias.ensures ∙ ap option_copied c.in-None.is))

@@ -1,7 +1,0 @@
-use Rattle.std.specs.Prelude.{◌≡◌, map, take}
-use Rattle.search_exec.specs.Shapes.{pair_of, resolved}
-use Rattle.search_exec.proofs.shape.shown_fields.Given as goal
-
--- the fields so far
-abbrev pub invariant-names : goal.invariant-names
-invariant-names l = map pair_of l.shown.items ≡ map (resolved l.fields) (take l.i l.names)
