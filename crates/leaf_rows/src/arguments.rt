@@ -2,7 +2,7 @@
 ghost use Rattle.std.specs.Prelude.{◌↔◌, IsTrue};
 ghost use Rattle.ft_base.specs.Spans.{LieIn};
 
-use ft_base::{Bytes, Frame, ListOf, NoMemory, Span};
+use ft_base::{Bytes, Frame, HashRec, ListOf, NoMemory, Span};
 use std::alloc::Global;
 
 /// The word at a place, empty where there is none.
@@ -40,6 +40,16 @@ pub fn halves(word: &[u8]) -> (&[u8], &[u8]) {
     }
 }
 
+/// The hash to which each `field=value` is set in turn.
+pub fn hash_of(alloc: Global, pairs: &[Vec<u8>]) -> Result<HashRec, NoMemory> {
+    let mut hash = HashRec::new(alloc);
+    for pair in pairs {
+        let (field, value) = halves(pair.as_slice());
+        hash.set(field, Bytes::from_slice(alloc, value)?)?;
+    }
+    Ok(hash)
+}
+
 /// Copies of words.
 pub fn list_of_words(alloc: Global, words: &[Vec<u8>]) -> Result<ListOf<Bytes>, NoMemory> {
     let mut list = ListOf::new(alloc);
@@ -70,8 +80,8 @@ fn spans_of(alloc: Global, words: &[Vec<u8>]) -> Result<Vec<Span>, NoMemory> {
     Ok(spans)
 }
 
-/// Bytes and the spans of words in them; none where one does not lie in them.
-pub fn framed(bytes: Vec<u8>, spans: Vec<Span>) -> Option<Frame> {
+// Bytes and the spans of words in them; none where one does not lie in them.
+fn framed(bytes: Vec<u8>, spans: Vec<Span>) -> Option<Frame> {
     if !lie_in(bytes.as_slice(), spans.as_slice()) {
         return None;
     }
@@ -81,8 +91,8 @@ pub fn framed(bytes: Vec<u8>, spans: Vec<Span>) -> Option<Frame> {
     })
 }
 
-/// Whether each span lies in the bytes.
-pub fn lie_in(bytes: &[u8], spans: &[Span]) -> bool
+// Whether each span lies in the bytes.
+fn lie_in(bytes: &[u8], spans: &[Span]) -> bool
     ensures { IsTrue result ↔ LieIn bytes.now spans.now }
 {
     spans

@@ -3,8 +3,7 @@ ghost use Rattle.std.specs.Prelude.{◌≡◌, IsTrue};
 ghost use Rattle.ft_meaning.specs.Meaning.{ValuesFit};
 
 use crate::answer::Answer;
-use crate::arguments::{rest, word};
-use crate::hashes::hash_of;
+use crate::arguments::{hash_of, rest, word};
 use crate::queries::query_of;
 use crate::schemas::index_of;
 use crate::trees::put_fault;

@@ -5,8 +5,7 @@
 //! `.NAME=VALUE`, are cells of the row, and the others, `FIELD=VALUE`, the fields of its document, which it has where
 //! there are some. A cell's value is `null`, a number, a text, or a list, as `[1 a`.
 use crate::answer::Answer;
-use crate::arguments::{halves, rest, word};
-use crate::hashes::hash_of;
+use crate::arguments::{halves, hash_of, rest, word};
 use crate::schemas::index_of;
 use expr_eval::{Expr, ExprFault, Func, LentRow, Op, eval, parse_expr};
 use ft_base::{Bytes, Cell, Doc, ListOf, NoMemory, Row, Value, read_int};

@@ -1,9 +1,9 @@
-//! What holds bytes, items, words and steps.
+//! What holds bytes, items and steps.
 ghost use Rattle.std.specs.Prelude.{◌≡◌, ◌<◌};
 
 use crate::answer::Answer;
-use crate::arguments::{count_of, framed, halves, lie_in, rest, word};
-use ft_base::{Boxed, Bytes, ListOf, NoMemory, Span, Steps, Words};
+use crate::arguments::{count_of, rest, word};
+use ft_base::{Boxed, Bytes, ListOf, NoMemory, Steps};
 use std::alloc::Global;
 use std::marker::Brand;
 use std::mem::size_of;
@@ -16,8 +16,6 @@ pub fn put(alloc: Global, call: &str, words: &[Vec<u8>], out: &mut Answer) -> bo
         "boxed" => put_boxed(alloc, first, out),
         "bytes" => put_bytes(alloc, first, word(words, 1), out),
         "list_of" => put_list(alloc, words, out),
-        "words" => put_spans(alloc, first, rest(words, 1), out),
-        "frame" => put_frame(alloc, first, rest(words, 1), out),
         "steps" => put_steps(out),
         _ => return false,
     };
@@ -81,60 +79,6 @@ fn numbers_of(alloc: Global, words: &[Vec<u8>]) -> Result<ListOf<usize>, NoMemor
         list.push(count_of(word.as_slice()))?;
     }
     Ok(list)
-}
-
-// The words of a text at places, then the same from the second on.
-fn put_spans(
-    alloc: Global,
-    text: &[u8],
-    places: &[Vec<u8>],
-    out: &mut Answer,
-) -> Result<(), NoMemory> {
-    let spans = spans_at(alloc, places)?;
-    if lie_in(text, spans.as_slice()) {
-        let words = Words::new(text, spans.as_slice());
-        put_all(&words, out);
-        if 0 < words.len() {
-            out.put(b", ");
-            put_all(&words.rest(1), out);
-        }
-    }
-    Ok(())
-}
-
-// The words of a frame.
-fn put_frame(
-    alloc: Global,
-    text: &[u8],
-    places: &[Vec<u8>],
-    out: &mut Answer,
-) -> Result<(), NoMemory> {
-    let text = Vec::from_slice(alloc, text)?;
-    if let Some(frame) = framed(text, spans_at(alloc, places)?) {
-        put_all(&frame.words(), out);
-    }
-    Ok(())
-}
-
-fn put_all(words: &Words<'_>, out: &mut Answer) {
-    out.put_count(words.len());
-    for i in 0..words.len() {
-        out.put(b" ");
-        out.put_word(words.word(i));
-    }
-}
-
-// The spans of places, each written as the first byte of a word, `=` and the first byte behind it.
-fn spans_at(alloc: Global, places: &[Vec<u8>]) -> Result<Vec<Span>, NoMemory> {
-    let mut spans = Vec::new(alloc);
-    for place in places {
-        let (from, to) = halves(place.as_slice());
-        spans.push(Span {
-            from: count_of(from),
-            to: count_of(to),
-        })?;
-    }
-    Ok(spans)
 }
 
 // The bytes that a count of steps takes.

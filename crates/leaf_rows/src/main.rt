@@ -11,13 +11,11 @@ mod arguments;
 mod commands;
 mod documents;
 mod expressions;
-mod hashes;
 mod holders;
 mod lexemes;
 mod lists;
 mod phrases;
 mod queries;
-mod replies;
 mod schemas;
 mod stored;
 mod texts;
@@ -110,8 +108,6 @@ fn answer_to(alloc: Global, hashing: RandomState, words: &[Vec<u8>]) -> Result<V
 fn put(alloc: Global, call: &str, words: &[Vec<u8>], out: &mut Answer) -> bool {
     values::put(call, words, out)
         || holders::put(alloc, call, words, out)
-        || hashes::put(alloc, call, words, out)
-        || replies::put(alloc, call, words, out)
         || texts::put(alloc, call, words, out)
         || phrases::put(alloc, call, words, out)
         || lexemes::put(alloc, call, words, out)

@@ -3,7 +3,7 @@ use crate::answer::Answer;
 use crate::arguments::{halves, rest, word};
 use crate::schemas::index_of;
 use crate::trees::{put_fault, put_query};
-use ft_base::{Bytes, IndexDef, ListOf, MAX_WORD_BYTES, NoMemory, Param, Query, put_int};
+use ft_base::{Bytes, IndexDef, ListOf, MAX_WORD_BYTES, NoMemory, Param, Query};
 use query_parse::{QueryFault, parse};
 use std::alloc::Global;
 
@@ -15,32 +15,19 @@ const FIELDS: &[u8] = b"field AS t TEXT field AS u TEXT field AS n NUMERIC field
 
 /// Writes the answer of a call, and tells whether it is of this file.
 pub fn put(alloc: Global, call: &str, words: &[Vec<u8>], out: &mut Answer) -> bool {
-    match call {
-        "parse" => put_parsed(alloc, word(words, 0), params_of(alloc, rest(words, 1)), out),
-        "parse_with_many" => put_parsed(alloc, word(words, 0), many_params(alloc), out),
-        _ => return false,
+    if call != "parse" {
+        return false;
+    }
+    match parsed_with(alloc, word(words, 0), rest(words, 1)) {
+        Ok(query) => put_query(&query, out),
+        Err(fault) => put_fault(fault, out),
     }
     true
 }
 
-fn put_parsed(
-    alloc: Global,
-    text: &[u8],
-    params: Result<ListOf<Param>, NoMemory>,
-    out: &mut Answer,
-) {
-    match parsed_with(alloc, text, params) {
-        Ok(query) => put_query(&query, out),
-        Err(fault) => put_fault(fault, out),
-    }
-}
-
-fn parsed_with(
-    alloc: Global,
-    text: &[u8],
-    params: Result<ListOf<Param>, NoMemory>,
-) -> Result<Query, QueryFault> {
-    query_of(alloc, OPTIONS, FIELDS, text, &params?)
+fn parsed_with(alloc: Global, text: &[u8], params: &[Vec<u8>]) -> Result<Query, QueryFault> {
+    let params = params_of(alloc, params)?;
+    query_of(alloc, OPTIONS, FIELDS, text, &params)
 }
 
 /// The tree of a text over an index with these options and fields.
@@ -83,26 +70,4 @@ fn param(alloc: Global, word: &[u8]) -> Result<Param, NoMemory> {
         name: Bytes::from_slice(alloc, name)?,
         value: Bytes::from_slice(alloc, value)?,
     })
-}
-
-// The parameters p0=v0 to p1499=v1499, and then the same names with other values.
-fn many_params(alloc: Global) -> Result<ListOf<Param>, NoMemory> {
-    let mut params = ListOf::new(alloc);
-    for number in 0..3_000 {
-        params.push(numbered(alloc, number)?)?;
-    }
-    Ok(params)
-}
-
-fn numbered(alloc: Global, number: i64) -> Result<Param, NoMemory> {
-    Ok(Param {
-        name: marked(alloc, b"p", number % 1_500)?,
-        value: marked(alloc, b"v", number)?,
-    })
-}
-
-fn marked(alloc: Global, mark: &[u8], number: i64) -> Result<Bytes, NoMemory> {
-    let mut text = Vec::from_slice(alloc, mark)?;
-    put_int(&mut text, number)?;
-    Ok(Bytes::from_vec(text))
 }

@@ -1,7 +1,7 @@
 //! Schemas, spelled back as the words of FT.CREATE that define them.
 use crate::answer::Answer;
-use crate::arguments::{count_of, frame_of, word};
-use ft_base::{Field, FieldKind, IndexDef, ListOf, MAX_WORDS, NoMemory, Words, put_int};
+use crate::arguments::{frame_of, word};
+use ft_base::{Field, FieldKind, IndexDef, ListOf, MAX_WORDS, NoMemory, Words};
 use ft_schema::{SchemaFault, extend, read_alter, read_create};
 use row_text::split_words;
 use std::alloc::Global;
@@ -19,8 +19,6 @@ pub fn put(alloc: Global, call: &str, words: &[Vec<u8>], out: &mut Answer) -> bo
         "serial_and_stops" => put_rest(created(alloc, words), out),
         "alter" => put_altered(altered(alloc, words), out),
         "extend" => put_created(extended(alloc, word(words, 0), word(words, 1)), out),
-        "create_many" => put_size(created_many(alloc, words), out),
-        "extend_many" => put_size(extended_many(alloc, words), out),
         _ => return false,
     }
     true
@@ -112,47 +110,6 @@ fn put_rest(created: Result<IndexDef, SchemaFault>, out: &mut Answer) {
 fn put_altered(altered: Result<ListOf<Field>, SchemaFault>, out: &mut Answer) {
     match altered {
         Ok(fields) => put_fields(fields.as_slice(), out),
-        Err(fault) => put_fault(fault, out),
-    }
-}
-
-// The index whose command goes on behind many fields.
-fn created_many(alloc: Global, words: &[Vec<u8>]) -> Result<IndexDef, SchemaFault> {
-    let mut text = long_text(alloc, words)?;
-    text.extend_from_slice(word(words, 3))?;
-    created_by(alloc, text.as_slice())
-}
-
-// An index with many fields and those of FT.ALTER.
-fn extended_many(alloc: Global, words: &[Vec<u8>]) -> Result<IndexDef, SchemaFault> {
-    let text = long_text(alloc, words)?;
-    extended(alloc, text.as_slice(), word(words, 3))
-}
-
-// The begin of a command, a number of fields and their kind: the command with fields `f0 KIND f1 KIND ..`.
-fn long_text(alloc: Global, words: &[Vec<u8>]) -> Result<Vec<u8>, NoMemory> {
-    let mut text = Vec::from_slice(alloc, word(words, 0))?;
-    for i in 0..count_of(word(words, 1)) {
-        put_long(&mut text, i, word(words, 2))?;
-    }
-    text.push(b' ')?;
-    Ok(text)
-}
-
-fn put_long(text: &mut Vec<u8>, i: usize, kind: &[u8]) -> Result<(), NoMemory> {
-    text.extend_from_slice(b" f")?;
-    put_int(text, i64::try_from(i).unwrap_or(0))?;
-    text.extend_from_slice(b" ")?;
-    text.extend_from_slice(kind)
-}
-
-// How many fields an index has.
-fn put_size(created: Result<IndexDef, SchemaFault>, out: &mut Answer) {
-    match created {
-        Ok(index) => {
-            out.put_count(index.fields.len());
-            out.put(b" fields");
-        }
         Err(fault) => put_fault(fault, out),
     }
 }

@@ -1,5 +1,5 @@
 //! Blocks of a posting list: their bytes, and their ids.
-use super::numbers::{int_at, number, number_at, put_found};
+use super::numbers::{int_at, number, number_at, numbers_of, put_found};
 use crate::answer::Answer;
 use crate::arguments::rest;
 use ft_base::NoMemory;
@@ -13,7 +13,6 @@ pub fn put(alloc: Global, call: &str, words: &[Vec<u8>], out: &mut Answer) -> bo
         "spell_places" => put_places(alloc, words, out),
         "spell_tags" => put_tags(alloc, words, out),
         "block_ids" => put_ids_of(alloc, words, out),
-        "fill_block" => put_filled(alloc, number_at(words, 0), out),
         _ => return false,
     };
     out.note(done);
@@ -47,10 +46,7 @@ fn put_numbers(alloc: Global, words: &[Vec<u8>], out: &mut Answer) -> Result<(),
 
 // The bytes of an id with the places of a word, by their codes.
 fn put_places(alloc: Global, words: &[Vec<u8>], out: &mut Answer) -> Result<(), NoMemory> {
-    let mut places = ListOfPlaces::new(alloc);
-    for word in rest(words, 1) {
-        places.push(number(word.as_slice()))?;
-    }
+    let places = ListOfPlaces::from_vec(numbers_of(alloc, rest(words, 1))?);
     let mut block = Block::new(alloc);
     push(&mut block, number_at(words, 0), &TextHit { places })?;
     put_bytes(&block, out);
@@ -85,15 +81,4 @@ fn put_ids(block: &Block<TagHit>, out: &mut Answer) {
     for id in &ids[..few] {
         put_found(Some(*id), out);
     }
-}
-
-// How many entries a block has and its last id, where so many are added to it.
-fn put_filled(alloc: Global, count: u64, out: &mut Answer) -> Result<(), NoMemory> {
-    let mut block = Block::new(alloc);
-    for i in 0..count.min(1_000) {
-        push(&mut block, i + 1, &TagHit {})?;
-    }
-    out.put_count(block.len());
-    put_found(Some(block.last()), out);
-    Ok(())
 }

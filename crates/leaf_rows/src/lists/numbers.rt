@@ -1,8 +1,10 @@
 //! Numbers and markers in rows.
 use crate::answer::Answer;
 use crate::arguments::word;
+use ft_base::NoMemory;
 use inverted_list::Marker;
 use itoa::Buffer;
+use std::alloc::Global;
 
 /// The number that a word spells, and 0 where it spells none.
 pub fn number(word: &[u8]) -> u64 {
@@ -15,6 +17,15 @@ pub fn number(word: &[u8]) -> u64 {
 /// The number of the word at a place.
 pub fn number_at(words: &[Vec<u8>], i: usize) -> u64 {
     number(word(words, i))
+}
+
+/// The number that each word spells.
+pub fn numbers_of(alloc: Global, words: &[Vec<u8>]) -> Result<Vec<u64>, NoMemory> {
+    let mut numbers = Vec::new(alloc);
+    for word in words {
+        numbers.push(number(word.as_slice()))?;
+    }
+    Ok(numbers)
 }
 
 /// The signed number of the word at a place, and 0 where it spells none.

@@ -3,7 +3,7 @@ ghost use Rattle.std.specs.Prelude.{◌≡◌, ◌<◌, IfSome, IsSome};
 ghost use Rattle.inverted_list.specs.Listing.{hit_of};
 ghost use Rattle.inverted_list.specs.Places.{IsSound};
 
-use super::numbers::{number, number_at, put_found, put_marker, put_number};
+use super::numbers::{number, number_at, numbers_of, put_found, put_marker, put_number};
 use crate::answer::Answer;
 use crate::arguments::rest;
 use ft_base::{NoMemory, Steps};
@@ -19,7 +19,6 @@ pub fn put(alloc: Global, call: &str, words: &[Vec<u8>], out: &mut Answer) -> bo
         "push_places" => put_pushed(alloc, words, out),
         "take_places" => put_taken(alloc, words, out),
         "walk" => put_walk(alloc, words, out),
-        "walk_evens" => put_walk_of_evens(alloc, words, out),
         "take_markers" => {
             put_markers(number_at(words, 0), number_at(words, 1), out);
             Ok(())
@@ -43,10 +42,7 @@ fn put_pushed(alloc: Global, words: &[Vec<u8>], out: &mut Answer) -> Result<(), 
 
 // Places that were taken over.
 fn put_taken(alloc: Global, words: &[Vec<u8>], out: &mut Answer) -> Result<(), NoMemory> {
-    let mut codes = Vec::new(alloc);
-    for word in words {
-        codes.push(number(word.as_slice()))?;
-    }
+    let codes = numbers_of(alloc, words)?;
     put_codes(ListOfPlaces::from_vec(codes).as_slice(), out);
     Ok(())
 }
@@ -59,21 +55,7 @@ fn put_codes(codes: &[u64], out: &mut Answer) {
 
 // In the list of some ids, each with its negative, the place behind one number, and what a seek from another finds.
 fn put_walk(alloc: Global, words: &[Vec<u8>], out: &mut Answer) -> Result<(), NoMemory> {
-    let mut ids = Vec::new(alloc);
-    for word in rest(words, 2) {
-        ids.push(number(word.as_slice()))?;
-    }
-    let list = list_of(alloc, ids.as_slice())?;
-    put_between(&list, number_at(words, 0), number_at(words, 1), out);
-    Ok(())
-}
-
-// The same in the list of so many even ids from 2 on.
-fn put_walk_of_evens(alloc: Global, words: &[Vec<u8>], out: &mut Answer) -> Result<(), NoMemory> {
-    let mut ids = Vec::new(alloc);
-    for i in 0..number_at(words, 2).min(1_000) {
-        ids.push(2 * i + 2)?;
-    }
+    let ids = numbers_of(alloc, rest(words, 2))?;
     let list = list_of(alloc, ids.as_slice())?;
     put_between(&list, number_at(words, 0), number_at(words, 1), out);
     Ok(())

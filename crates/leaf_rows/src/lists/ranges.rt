@@ -1,7 +1,7 @@
-//! The ranges of a numeric field. The values are so many equal ones, and then the numbers from one to below another, with
-//! the ids from 1 on.
-use super::numbers::{int_at, number_at, put_found, put_marker};
+//! The ranges of a numeric field, whose values have the ids from 1 on.
+use super::numbers::{int_at, put_found, put_marker};
 use crate::answer::Answer;
+use crate::arguments::{number_of, rest};
 use ft_base::NoMemory;
 use inverted_list::{List, Marker, Markers};
 use numeric_ranges::Ranges;
@@ -21,52 +21,21 @@ pub fn put(alloc: Global, call: &str, words: &[Vec<u8>], out: &mut Answer) -> bo
     true
 }
 
-// The ranges of the values.
-fn filled(alloc: Global, values: &[i64]) -> Result<Ranges, NoMemory> {
+// The ranges of the values that words spell.
+fn filled(alloc: Global, words: &[Vec<u8>]) -> Result<Ranges, NoMemory> {
     let mut markers = Markers { event: 7, next: 3 };
     let mut ranges = Ranges::new(alloc, &mut markers)?;
     let mut id = 0;
-    'values: for value in values {
+    'values: for word in words {
         id += 1;
-        ranges.add(id, *value, &mut markers)?;
+        ranges.add(id, number_of(word.as_slice()).unwrap_or(0), &mut markers)?;
     }
     Ok(ranges)
 }
 
-// So many equal values, and then the numbers from one to below another.
-fn values_of(
-    alloc: Global,
-    count: u64,
-    equal: i64,
-    from: i64,
-    to: i64,
-) -> Result<Vec<i64>, NoMemory> {
-    let mut values = Vec::new(alloc);
-    for _ in 0..count {
-        values.push(equal)?;
-    }
-    push_numbers(&mut values, from, to)?;
-    Ok(values)
-}
-
-fn push_numbers(values: &mut Vec<i64>, from: i64, to: i64) -> Result<(), NoMemory> {
-    for value in from..to {
-        values.push(value)?;
-    }
-    Ok(())
-}
-
-// The ranges of the numbers from the row's first to below its second.
-fn numbers(alloc: Global, words: &[Vec<u8>]) -> Result<Ranges, NoMemory> {
-    let values = values_of(alloc, 0, 0, int_at(words, 0), int_at(words, 1))?;
-    filled(alloc, values.as_slice())
-}
-
-// `ranges COUNT VALUE FROM TO`: how many entries the first range has, and for each other one its low and its entries.
+// `ranges VALUE..`: how many entries the first range has, and for each other one its low and its entries.
 fn put_shape(alloc: Global, words: &[Vec<u8>], out: &mut Answer) -> Result<(), NoMemory> {
-    let (count, equal) = (number_at(words, 0), int_at(words, 1));
-    let values = values_of(alloc, count, equal, int_at(words, 2), int_at(words, 3))?;
-    put_ranges(&filled(alloc, values.as_slice())?, out);
+    put_ranges(&filled(alloc, words)?, out);
     Ok(())
 }
 
@@ -80,39 +49,37 @@ fn put_ranges(ranges: &Ranges, out: &mut Answer) {
     }
 }
 
-// `range_entries FROM TO`: how many entries the ranges of these numbers have.
+// `range_entries VALUE..`: how many entries the ranges have.
 fn put_entries(alloc: Global, words: &[Vec<u8>], out: &mut Answer) -> Result<(), NoMemory> {
-    let ranges = numbers(alloc, words)?;
-    put_found(ranges.entries(), out);
+    put_found(filled(alloc, words)?.entries(), out);
     Ok(())
 }
 
-// `ranges_between FROM TO LOW HIGH`: which of the ranges of these numbers meet an interval, as the first of them and the
-// one behind the last.
+// `ranges_between LOW HIGH VALUE..`: which of the ranges meet an interval, as the first of them and the one behind the last.
 fn put_between(alloc: Global, words: &[Vec<u8>], out: &mut Answer) -> Result<(), NoMemory> {
-    let ranges = numbers(alloc, words)?;
-    let met = ranges.between(int_at(words, 2), int_at(words, 3));
+    let ranges = filled(alloc, rest(words, 2))?;
+    let met = ranges.between(int_at(words, 0), int_at(words, 1));
     out.put_count(met.from);
     out.put(b" ");
     out.put_count(met.to);
     Ok(())
 }
 
-// `range_at FROM TO LOW`: the marker of the range of these numbers that begins at a low.
+// `range_at LOW VALUE..`: the marker of the range that begins at a low.
 fn put_range(alloc: Global, words: &[Vec<u8>], out: &mut Answer) -> Result<(), NoMemory> {
-    let ranges = numbers(alloc, words)?;
+    let ranges = filled(alloc, rest(words, 1))?;
     put_marker(
-        ranges.by_low(int_at(words, 2)).map(|list| list.marker()),
+        ranges.by_low(int_at(words, 0)).map(|list| list.marker()),
         out,
     );
     Ok(())
 }
 
-// `hand_out_ranges FROM TO LOW..`: for each low how many entries the list there has when it is handed out, and the marker
-// of the list there when an empty one was put in its place.
+// `hand_out_ranges LOW LOW LOW LOW VALUE..`: for each low how many entries the list there has when it is handed out, and the
+// marker of the list there when an empty one was put in its place.
 fn put_handed_out(alloc: Global, words: &[Vec<u8>], out: &mut Answer) -> Result<(), NoMemory> {
-    let mut ranges = numbers(alloc, words)?;
-    for at in 2..words.len() {
+    let mut ranges = filled(alloc, rest(words, 4))?;
+    for at in 0..4 {
         hand_out(alloc, &mut ranges, int_at(words, at), out);
     }
     Ok(())

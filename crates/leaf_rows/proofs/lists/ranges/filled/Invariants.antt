@@ -5,6 +5,6 @@ use Rattle.leaf_rows.proofs.lists.ranges.filled.Given as goal
 -- the ranges have parts of some entries with the ids so far
 abbrev pub invariant-values : goal.invariant-values
 invariant-values l = record {
-  id : l.id ≡ l.value-index;
+  id : l.id ≡ l.word-index;
   parts : HasParts l.ranges l.id;
 }
