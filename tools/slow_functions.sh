@@ -1,6 +1,7 @@
 #!/usr/bin/env bash
 # Lists the functions that are slow to check: the check of one grows with its `Lts` module, and that with the values to
-# drop that are alive across a call that may fail. Prints those over a size, in KiB, by crate, as the last checks left them.
+# drop that are alive across a call that may fail. Prints those over a size, in KiB, by crate, as the last checks left them:
+# those of tests where that of `server_tests` was `rt check --test`.
 #
 #   tools/slow_functions.sh [KIB]     2,500 where none is given; fails where one is larger
 set -u

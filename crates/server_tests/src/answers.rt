@@ -1,4 +1,5 @@
-//! How a connection ends, with the place of a fault, and the words of the command line that are refused.
+//! How a connection ends, with the place of a fault, the words of the command line that are refused, and the statuses of
+//! exits.
 use crate::links::{HSET, NONE, NOT_BUILT, QUIT, link_of, run_words, serve};
 use ft_server::{End, Exit};
 use resp_wire::WireFault;
@@ -14,33 +15,36 @@ fn ends<R: RandomSource + Wait>(rt: &R, alloc: Global, texts: &[&[u8]], end: End
     }
 }
 
-fn fault(at: u64, kind: WireFault) -> End {
-    End::Protocol { at, kind }
-}
+/// What a link gives, and how its connection ends.
+const ENDS: &[(&[&[u8]], End)] = &[
+    (&[HSET], End::Closed),
+    (&[b"*1\r\n$4\r\nPI"], End::CutShort { left: 10 }),
+    (&[b"*65536\r\n"], End::CutShort { left: 8 }),
+    (&[HSET, b"*"], End::CutShort { left: 1 }),
+    (&[QUIT, b"x"], End::Quit),
+];
 
-fn ends_within<R: RandomSource + Wait>(rt: &R, alloc: Global) -> bool {
-    ends(rt, alloc, &[HSET], End::Closed)
-        && ends(rt, alloc, &[b"*1\r\n$4\r\nPI"], End::CutShort { left: 10 })
-        && ends(rt, alloc, &[b"*65536\r\n"], End::CutShort { left: 8 })
-        && ends(rt, alloc, &[HSET, b"*"], End::CutShort { left: 1 })
-        && ends(rt, alloc, &[QUIT, b"x"], End::Quit)
-}
-
-fn ends_with_fault<R: RandomSource + Wait>(rt: &R, alloc: Global) -> bool {
-    let count = WireFault::MultiLength;
-    let length = WireFault::BulkLength;
-    let plus = WireFault::NoDollar { got: b'+' };
-    ends(rt, alloc, &[b"*1\r\n$1048577\r\n"], fault(4, length))
-        && ends(rt, alloc, &[b"*1\r\n$-2\r\n"], fault(4, length))
-        && ends(rt, alloc, &[b"*70000\r\n"], fault(0, count))
-        && ends(rt, alloc, &[b"*1\r\n+"], fault(4, plus))
-        && ends(rt, alloc, &[HSET, b"x"], fault(HSET.len() as u64, count))
-}
+/// What a link gives, and the place of its fault, and the fault.
+const FAULTS: &[(&[&[u8]], u64, WireFault)] = &[
+    (&[b"*1\r\n$1048577\r\n"], 4, WireFault::BulkLength),
+    (&[b"*1\r\n$-2\r\n"], 4, WireFault::BulkLength),
+    (&[b"*70000\r\n"], 0, WireFault::MultiLength),
+    (&[b"*1\r\n+"], 4, WireFault::NoDollar { got: b'+' }),
+    (&[HSET, b"x"], HSET.len() as u64, WireFault::MultiLength),
+];
 
 #[test]
 fn how_a_connection_ends(rt: HostRuntime) {
-    assert!(rt; ends_within(&rt, rt.alloc()));
-    assert!(rt; ends_with_fault(&rt, rt.alloc()));
+    for (texts, end) in ENDS {
+        assert!(rt; ends(&rt, rt.alloc(), texts, *end));
+    }
+    for (texts, at, kind) in FAULTS {
+        let end = End::Protocol {
+            at: *at,
+            kind: *kind,
+        };
+        assert!(rt; ends(&rt, rt.alloc(), texts, end));
+    }
 }
 
 // A word of 1 MiB with its length.
@@ -60,7 +64,11 @@ fn is_refused_past<R: RandomSource + Wait>(rt: &R, alloc: Global, word: &[u8]) -
         b"*17\r\n", word, word, word, word, word, word, word, word, word, word, word, word, word,
         word, word, word, b"$1\r\n",
     ];
-    ends(rt, alloc, &texts, fault(16_777_413, WireFault::BulkLength))
+    let end = End::Protocol {
+        at: 16_777_413,
+        kind: WireFault::BulkLength,
+    };
+    ends(rt, alloc, &texts, end)
 }
 
 #[test]
@@ -79,26 +87,32 @@ fn is_refused<R: RandomSource + Wait>(rt: &R, alloc: Global, words: &[&str]) -> 
     }
 }
 
+/// Words that do not ask for a script.
+const REFUSED: &[&[&str]] = &[
+    &[],
+    &["serve"],
+    &["--help"],
+    &["SCRIPT"],
+    &["script", "x"],
+    // Words of another call, and numbers that are none of it.
+    &["serve", "7777", "4"],
+    &["serve", "0", "4"],
+    &["serve", "7777", "65"],
+    &["serve", "07777", "4"],
+    &["serve", "+7777", "4"],
+    &["serve", "7777", "4", "x"],
+    &["serve", "65536", "4"],
+];
+
 #[test]
 fn other_words_are_refused(rt: HostRuntime) {
-    let cases: [&[&str]; 12] = [
-        &[],
-        &["serve"],
-        &["--help"],
-        &["SCRIPT"],
-        &["script", "x"],
-        // Words of another call, and numbers that are none of it.
-        &["serve", "7777", "4"],
-        &["serve", "0", "4"],
-        &["serve", "7777", "65"],
-        &["serve", "07777", "4"],
-        &["serve", "+7777", "4"],
-        &["serve", "7777", "4", "x"],
-        &["serve", "65536", "4"],
-    ];
-    for words in cases {
+    for words in REFUSED {
         assert!(rt; is_refused(&rt, rt.alloc(), words));
     }
+}
+
+#[test]
+fn an_exit_has_its_status(rt: HostRuntime) {
     assert!(rt;
         Exit::Usage.status() == 2 && Exit::WriteFault.status() == 4 && Exit::Protocol.status() == 1
     );

@@ -1,5 +1,6 @@
 //! Events given to the engine in order: a run succeeds, with one outcome for each event.
 ghost use Rattle.std.specs.Prelude.{IfSome};
+ghost use Rattle.std.specs.List.{All};
 ghost use Rattle.history_core.specs.Running.{IsLawful};
 
 use crate::session::{is_small, part};
@@ -8,7 +9,7 @@ use ft_engine::Engine;
 use history_core::{Event, Outcome, run};
 use std::alloc::Global;
 use std::hash::RandomState;
-use std::test::Fail;
+use std::random::RandomSource;
 
 /// The command of a line of words with one `|` between each two.
 fn command(alloc: Global, line: &[u8]) -> Option<Event>
@@ -30,49 +31,52 @@ fn command(alloc: Global, line: &[u8]) -> Option<Event>
     })
 }
 
-/// What three commands come to, one after another.
-fn three_outcomes(alloc: Global, hashing: RandomState) -> Option<ListOf<Outcome>> {
-    let events = [
-        command(alloc, b"HSET|h|n|1")?,
-        command(alloc, b"HINCRBY|h|n|1")?,
-        command(alloc, b"HGET|h|n")?,
-    ];
-    let mut engine = Engine::new(alloc, hashing).ok()?;
-    run(alloc, &mut engine, &events).ok()
+/// Three commands, each of which finds what the one before it left.
+fn three_commands(alloc: Global) -> Option<[Event; 3]>
+    ensures { IfSome result (λ events. All IsLawful events) }
+{
+    let first = command(alloc, b"HSET|h|n|1")?;
+    let second = command(alloc, b"HINCRBY|h|n|1")?;
+    Some([first, second, command(alloc, b"HGET|h|n")?])
 }
 
-/// The replies of outcomes, one behind another.
-fn replies(alloc: Global, outcomes: &[Outcome]) -> Vec<u8> {
+/// Whether a new engine answers the events so, with one outcome for each, and has this number for the next one.
+fn come_to<R: RandomSource>(rt: &R, alloc: Global, events: &[Event], want: &[u8], next: u64) -> bool
+    requires { All IsLawful events.now }
+{
+    let Ok(hashing) = RandomState::new(rt) else {
+        return false;
+    };
+    let Ok(mut engine) = Engine::new(alloc, hashing) else {
+        return false;
+    };
+    let Ok(outcomes) = run(alloc, &mut engine, events) else {
+        return false;
+    };
+    let is_counted = (outcomes.len() == events.len()) & (engine.next() == next);
+    is_counted & are_replies(alloc, outcomes.as_slice(), want)
+}
+
+/// Whether the replies of outcomes, one behind another, are this.
+fn are_replies(alloc: Global, outcomes: &[Outcome], want: &[u8]) -> bool {
     let mut all = Vec::new(alloc);
     for outcome in outcomes {
         let Outcome::Replied(reply) = outcome;
         let _ = all.extend_from_slice(reply.as_slice());
     }
-    all
+    all.as_slice() == want
 }
 
 #[test]
-fn answers_in_order(rt: HostRuntime) -> Result<(), Fail> {
-    let alloc = rt.alloc();
-    let Some(outcomes) = three_outcomes(alloc, RandomState::new(&rt)?) else {
-        assert!(rt; false);
-        return Ok(());
+fn answers_in_order(rt: HostRuntime) {
+    let answered = match three_commands(rt.alloc()) {
+        Some(events) => come_to(&rt, rt.alloc(), &events, b":1\r\n:2\r\n$1\r\n2\r\n", 4),
+        None => false,
     };
-    let replies = replies(alloc, outcomes.as_slice());
-    assert!(rt; replies.as_slice() == b":1\r\n:2\r\n$1\r\n2\r\n".as_slice());
-    Ok(())
-}
-
-/// How many outcomes nothing has, and the number of the next event behind it.
-fn nothing_asked(alloc: Global, hashing: RandomState) -> Option<(usize, u64)> {
-    let mut engine = Engine::new(alloc, hashing).ok()?;
-    let outcomes = run(alloc, &mut engine, &[]).ok()?;
-    Some((outcomes.len(), engine.next()))
+    assert!(rt; answered);
 }
 
 #[test]
-fn nothing_asked_is_nothing_done(rt: HostRuntime) -> Result<(), Fail> {
-    let hashing = RandomState::new(&rt)?;
-    assert!(rt; nothing_asked(rt.alloc(), hashing) == Some((0, 1)));
-    Ok(())
+fn nothing_asked_is_nothing_done(rt: HostRuntime) {
+    assert!(rt; come_to(&rt, rt.alloc(), &[], b"", 1));
 }

@@ -1,8 +1,10 @@
-//! Tests of what no row of data can show: links that fail, commands that are abandoned, threads, and the ports of the system.
+//! Tests of what no row of data can show: fakes whose calls fail, a reply that is cut, commands that are abandoned, threads,
+//! and the ports of the system.
 //!
 //! They are against mistakes that the check would pass: a definition that says something else than a client or a reader
 //! of the server's documents expects, a call that always runs out of memory, a condition that no caller can meet.
-//! Read `session.rt` first, which has sessions with the engine, then `links.rt`, which has those with the server.
+//! Read `session.rt` first, which has sessions with the engine, then `links.rt`, which makes what is in memory and has
+//! sessions with the server.
 #![tactic(auto)]
 
 #[cfg(test)]

@@ -5,14 +5,13 @@ ghost use Rattle.ft_server.specs.Passes.{IsOf};
 
 use crate::links::{Faults, NONE, link_of, serve_as, server_of};
 use crate::session::{is_small, part};
+use fs_ports::MemLink;
 use ft_base::{Span, Words};
-use ft_engine::Engine;
 use ft_server::{End, Pass, Server, call};
 use std::alloc::Global;
-use std::hash::RandomState;
+use std::random::RandomSource;
 use std::sync::Wait;
-use std::test::Fail;
-use std::thread::join;
+use std::thread::{Threads, join};
 
 const HSET: &[u8] = b"*4\r\n$4\r\nHSET\r\n$1\r\nd\r\n$1\r\nt\r\n$1\r\nx\r\n";
 
@@ -25,42 +24,58 @@ fn is_served_as<R: Wait>(
     server: &Server,
     pass: Pass,
     text: &[u8],
-    faults: &Faults,
+    faults: &Faults<'_>,
     want: &[u8],
     end: End,
 ) -> bool
     requires { IsOf server.now pass }
 {
     match link_of(alloc, &[text], faults) {
-        Some(mut link) => {
-            let ended = serve_as(rt, alloc, server, pass, &mut link);
-            (ended == Some(end)) & (link.output() == want)
-        }
+        Some(mut link) => ends_as(rt, alloc, server, pass, &mut link, want, end),
         None => false,
     }
 }
 
+/// Whether a link is served to this end as this caller, and took these bytes.
+fn ends_as<R: Wait>(
+    rt: &R,
+    alloc: Global,
+    server: &Server,
+    pass: Pass,
+    link: &mut MemLink,
+    want: &[u8],
+    end: End,
+) -> bool
+    requires { IsOf server.now pass }
+{
+    let ended = serve_as(rt, alloc, server, pass, link);
+    (ended == Some(end)) & (link.output() == want)
+}
+
+/// A link that takes three bytes of a reply, and no more.
+const CUT: Faults<'static> = Faults {
+    reads: &[],
+    writes: &[2],
+    write_max: 3,
+};
+
 /// Whether a command whose reply was cut was executed, as another caller sees.
-fn is_kept<R: Wait>(rt: &R, alloc: Global, hashing: RandomState) -> bool {
-    let Some((server, mut pass)) = server_of(alloc, hashing) else {
+fn is_kept<R: RandomSource + Wait>(rt: &R, alloc: Global) -> bool {
+    let Some((server, mut pass)) = server_of(rt, alloc) else {
         return false;
     };
     let other = server.split(&mut pass);
-    let cut = Faults {
-        read: 0,
-        write: 2,
-        write_max: 3,
-    };
-    is_served_as(
+    let cut = is_served_as(
         rt,
         alloc,
         &server,
         pass,
         HSET,
-        &cut,
+        &CUT,
         b":1\r",
         End::WriteFault,
-    ) && is_served_as(
+    );
+    let found = is_served_as(
         rt,
         alloc,
         &server,
@@ -69,14 +84,13 @@ fn is_kept<R: Wait>(rt: &R, alloc: Global, hashing: RandomState) -> bool {
         &NONE,
         b"$1\r\nx\r\n",
         End::Closed,
-    )
+    );
+    cut & found
 }
 
 #[test]
-fn a_cut_reply_is_of_a_command_that_counts(rt: HostRuntime) -> Result<(), Fail> {
-    let hashing = RandomState::new(&rt)?;
-    assert!(rt; is_kept(&rt, rt.alloc(), hashing));
-    Ok(())
+fn a_cut_reply_is_of_a_command_that_counts(rt: HostRuntime) {
+    assert!(rt; is_kept(&rt, rt.alloc()));
 }
 
 /// A caller with its buffers, and how many of its replies were others than it wanted.
@@ -122,20 +136,8 @@ fn ask_at<R: Wait>(
     pass
 }
 
-/// Does so at a moment at which nothing is idle.
-fn ask<R: Wait>(
-    rt: &R,
-    server: &Server,
-    pass: Pass,
-    caller: &mut Caller,
-    line: &[u8],
-    want: &[u8],
-) -> Pass
-    requires { IsOf server.now pass }
-    ensures { IsOf server.now result }
-{
-    ask_at(rt, server, pass, caller, 5, line, want)
-}
+/// A moment at which nothing is idle.
+const NOW: u64 = 5;
 
 /// Sets a field to one value and another in turns, and reads each back.
 fn set_and_get<R: Wait>(
@@ -148,12 +150,12 @@ fn set_and_get<R: Wait>(
     requires { IsOf server.now pass }
     ensures { IsOf server.now result }
 {
-    let mut pass = ask(rt, server, pass, caller, lines[1], b":1\r\n");
+    let mut pass = ask_at(rt, server, pass, caller, NOW, lines[1], b":1\r\n");
     for _ in 0..300u32 {
-        pass = ask(rt, server, pass, caller, lines[0], b":0\r\n");
-        pass = ask(rt, server, pass, caller, lines[2], b"$1\r\na\r\n");
-        pass = ask(rt, server, pass, caller, lines[1], b":0\r\n");
-        pass = ask(rt, server, pass, caller, lines[2], b"$1\r\nb\r\n");
+        pass = ask_at(rt, server, pass, caller, NOW, lines[0], b":0\r\n");
+        pass = ask_at(rt, server, pass, caller, NOW, lines[2], b"$1\r\na\r\n");
+        pass = ask_at(rt, server, pass, caller, NOW, lines[1], b":0\r\n");
+        pass = ask_at(rt, server, pass, caller, NOW, lines[2], b"$1\r\nb\r\n");
     }
     pass
 }
@@ -177,31 +179,47 @@ fn finds_own<R: Wait>(
     }
 }
 
-const ONE: [&[u8]; 3] = [b"HSET|one|f|a", b"HSET|one|f|b", b"HGET|one|f"];
+const ONE: &[&[u8]; 3] = &[b"HSET|one|f|a", b"HSET|one|f|b", b"HGET|one|f"];
 
-const TWO: [&[u8]; 3] = [b"HSET|two|f|a", b"HSET|two|f|b", b"HGET|two|f"];
+const TWO: &[&[u8]; 3] = &[b"HSET|two|f|a", b"HSET|two|f|b", b"HGET|two|f"];
+
+/// Whether each of two callers, in a thread each, finds its own values.
+fn find_their_own<R: Threads + Wait + Sync>(
+    rt: &R,
+    alloc: Global,
+    server: &Server,
+    one: Pass,
+    two: Pass,
+) -> bool
+    requires one { IsOf server.now one }
+    requires two { IsOf server.now two }
+{
+    let (first, second) = join(
+        rt,
+        || -> bool
+            requires { IsOf server.now one }
+        { finds_own(rt, alloc, server, one, ONE) },
+        || -> bool
+            requires { IsOf server.now two }
+        { finds_own(rt, alloc, server, two, TWO) },
+    );
+    first && second
+}
 
 #[test]
-fn two_threads_find_their_own_values(rt: HostRuntime) -> Result<(), Fail> {
-    let alloc = rt.alloc();
-    let hashing = RandomState::new(&rt)?;
-    let (server, mut one) = Server::open(alloc, Engine::new(alloc, hashing)?)?;
-    let two = server.split(&mut one);
-    let (first, second) = join(
-        &rt,
-        || -> bool
-            requires { IsOf server one }
-        { finds_own(&rt, alloc, &server, one, &ONE) },
-        || -> bool
-            requires { IsOf server two }
-        { finds_own(&rt, alloc, &server, two, &TWO) },
-    );
-    assert!(rt; first && second);
-    Ok(())
+fn two_threads_find_their_own_values(rt: HostRuntime) {
+    let found = match server_of(&rt, rt.alloc()) {
+        Some((server, mut one)) => {
+            let two = server.split(&mut one);
+            find_their_own(&rt, rt.alloc(), &server, one, two)
+        }
+        None => false,
+    };
+    assert!(rt; found);
 }
 
 /// The lines of the events 1 to 5, the last of which opens a cursor, and the reply to each.
-const OPENS: [[&[u8]; 2]; 5] = [
+const OPENS: &[[&[u8]; 2]] = &[
     [b"FT.CREATE|ix|SCHEMA|t|TEXT", b"+OK\r\n"],
     [b"HSET|d1|t|a", b":1\r\n"],
     [b"HSET|d2|t|b", b":1\r\n"],
@@ -232,78 +250,50 @@ fn open<R: Wait>(rt: &R, server: &Server, pass: Pass, caller: &mut Caller) -> Pa
     pass
 }
 
-/// Whether one caller reads the cursor that another opened, until it is idle for longer than 100 milliseconds.
-fn is_read_by_another<R: Wait>(
-    rt: &R,
-    server: &Server,
-    one: Pass,
-    two: Pass,
-    caller: &mut Caller,
-) -> bool
-    requires one { IsOf server.now one }
-    requires two { IsOf server.now two }
-{
-    let one = open(rt, server, one, caller);
-    let two = ask_at(rt, server, two, caller, 1_100, READ, SECOND);
-    drop(ask_at(rt, server, one, caller, 1_201, READ, GONE));
-    drop(ask_at(rt, server, two, caller, 1_100, READ, GONE));
-    caller.others == 0
-}
-
-/// Whether one caller deletes the cursor that another opened, for both.
-fn is_deleted_by_another<R: Wait>(
-    rt: &R,
-    server: &Server,
-    one: Pass,
-    two: Pass,
-    caller: &mut Caller,
-) -> bool
-    requires one { IsOf server.now one }
-    requires two { IsOf server.now two }
-{
-    let one = open(rt, server, one, caller);
-    let two = ask_at(rt, server, two, caller, 1_100, DELETE, b"+OK\r\n");
-    drop(ask_at(rt, server, one, caller, 1_100, READ, GONE));
-    drop(ask_at(rt, server, two, caller, 1_100, DELETE, GONE));
-    caller.others == 0
-}
-
-/// Whether a cursor is gone for two callers, because one deletes it or because it is idle.
+/// Whether the cursor that one caller opens answers another one so, and at this moment is gone for both.
 fn is_gone_for_both<R: Wait>(
     rt: &R,
     server: &Server,
     one: Pass,
     two: Pass,
     caller: &mut Caller,
-    is_deleted: bool,
+    line: &[u8],
+    want: &[u8],
+    moment: u64,
 ) -> bool
     requires one { IsOf server.now one }
     requires two { IsOf server.now two }
 {
-    if is_deleted {
-        return is_deleted_by_another(rt, server, one, two, caller);
-    }
-    is_read_by_another(rt, server, one, two, caller)
+    let one = open(rt, server, one, caller);
+    let two = ask_at(rt, server, two, caller, 1_100, line, want);
+    drop(ask_at(rt, server, one, caller, moment, READ, GONE));
+    drop(ask_at(rt, server, two, caller, 1_100, line, GONE));
+    caller.others == 0
 }
 
 /// The same of a server of its own.
-fn is_gone_for_all<R: Wait>(rt: &R, alloc: Global, hashing: RandomState, is_deleted: bool) -> bool {
+fn is_gone_for_all<R: RandomSource + Wait>(
+    rt: &R,
+    alloc: Global,
+    line: &[u8],
+    want: &[u8],
+    moment: u64,
+) -> bool {
     let Some(mut caller) = new_caller(alloc) else {
         return false;
     };
-    match server_of(alloc, hashing) {
+    match server_of(rt, alloc) {
         Some((server, mut one)) => {
             let two = server.split(&mut one);
-            is_gone_for_both(rt, &server, one, two, &mut caller, is_deleted)
+            is_gone_for_both(rt, &server, one, two, &mut caller, line, want, moment)
         }
         None => false,
     }
 }
 
 #[test]
-fn a_cursor_is_of_all_callers(rt: HostRuntime) -> Result<(), Fail> {
-    let hashing = RandomState::new(&rt)?;
-    assert!(rt; is_gone_for_all(&rt, rt.alloc(), hashing, false));
-    assert!(rt; is_gone_for_all(&rt, rt.alloc(), hashing, true));
-    Ok(())
+fn a_cursor_is_of_all_callers(rt: HostRuntime) {
+    // The other caller reads it, and then it is idle for longer than 100 milliseconds; or the other deletes it.
+    assert!(rt; is_gone_for_all(&rt, rt.alloc(), READ, SECOND, 1_201));
+    assert!(rt; is_gone_for_all(&rt, rt.alloc(), DELETE, b"+OK\r\n", 1_100));
 }

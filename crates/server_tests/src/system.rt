@@ -1,15 +1,15 @@
 //! Shows each port of the system once over the real thing, of which no clause speaks: that bytes come over a connection,
 //! that a peer that is gone is a fault of its link and no more, that a thread does its job, and that the clock moves.
-ghost use Rattle.std.specs.Prelude.{◌≡◌, ◌+◌, false, ⊤};
+ghost use Rattle.std.specs.Prelude.{◌≡◌, false};
 
-use fs_ports::{Clock, Door, Job, Link, Pace, Spawner, write_all};
+use crate::ports::threads::Doubled;
+use fs_ports::{Clock, Door, Link, Pace, Spawner, write_all};
 use std::io::{Read, Write};
 use std::marker::PhantomData;
 use std::net::{Ipv4Addr, Net, TcpListener, TcpStream};
+use std::sync::Arc;
 use std::sync::atomic::{AtomicBool, Ordering};
-use std::sync::{Arc, Wait};
 use std::test::Fail;
-use std::thread::Threads;
 use system_ports::{SleepPace, SystemClock, TcpDoor, TcpLink, ThreadSpawner, start_thread};
 
 // Whether what the client sends comes over the link, and what the link writes comes to the client.
@@ -131,22 +131,6 @@ fn doors_of_one_port_outlive_their_peers(rt: HostRuntime) {
     match TcpDoor::bind(&rt, 0) {
         Ok(door) => assert!(rt; are_visited(&rt, door)),
         Err(_) => assert!(rt; false),
-    }
-}
-
-/// The double of a number.
-#[derive(Drop)]
-struct Doubled(u32);
-
-impl Job for Doubled {
-    type Out = u64;
-
-    ghost ready = { λ _. ⊤ };
-
-    ghost done = { λ job out. out ≡ job.0 + job.0 };
-
-    fn work<R: Threads + Wait + Sync>(self, _rt: &R) -> u64 {
-        u64::from(self.0) + u64::from(self.0)
     }
 }
 

@@ -1,23 +1,7 @@
 //! The door in memory: which link comes at which call, and which links are handed back.
-ghost use Rattle.std.specs.Prelude.{◌≡◌, false, IfOk};
+ghost use Rattle.std.specs.Prelude.{◌≡◌, false};
 
 use super::*;
-
-// A door of links with these bytes, some of whose calls fail.
-fn door(alloc: Global, texts: &[&str], fail: &[u64]) -> Result<MemDoor<MemLink>, NoMemory>
-    ensures { IfOk result (λ door. door.at.out ≡ false) }
-{
-    let links = links(alloc, texts)?;
-    MemDoor::new(alloc, links, ListOf::from_vec(fail.to_vec(alloc)?))
-}
-
-fn links(alloc: Global, texts: &[&str]) -> Result<ListOf<MemLink>, NoMemory> {
-    let mut links = ListOf::new(alloc);
-    for text in texts {
-        links.push(link(alloc, &[*text], &[], &[], 9)?)?;
-    }
-    Ok(links)
-}
 
 // Writes what one read of the link gives back to it, and says how much that is.
 fn echo(link: &mut MemLink) -> usize {
@@ -40,17 +24,6 @@ fn visited(door: &mut MemDoor<MemLink>) -> Result<Option<usize>, Failed>
     Ok(Some(count))
 }
 
-// Whether the links come in order, and behind them none, with the listed call failing between.
-fn gives_in_order(door: &mut MemDoor<MemLink>) -> bool
-    requires { door.old.at.out ≡ false }
-{
-    visited(door) == Ok(Some(1))
-        && visited(door) == Err(Failed)
-        && visited(door) == Ok(Some(2))
-        && visited(door) == Ok(None)
-        && visited(door) == Ok(None)
-}
-
 // Whether these bytes were written to the link that was handed back at this place, counted from 0.
 fn has_back(door: &MemDoor<MemLink>, place: usize, text: &str) -> bool {
     match door.back().get(place) {
@@ -59,16 +32,23 @@ fn has_back(door: &MemDoor<MemLink>, place: usize, text: &str) -> bool {
     }
 }
 
-// Whether they come and go back in order.
-fn come_and_go(alloc: Global) -> Result<bool, NoMemory> {
-    let mut door = door(alloc, &["a", "bc"], &[2])?;
-    let came = gives_in_order(&mut door);
-    let went = has_back(&door, 0, "a") && has_back(&door, 1, "bc") && door.back().len() == 2;
-    Ok(came && went)
+// Whether the links come in order, and behind them none, with the listed call failing between, and go back in order.
+fn come_and_go(door: &mut MemDoor<MemLink>) -> bool
+    requires { door.old.at.out ≡ false }
+{
+    let came = visited(door) == Ok(Some(1))
+        && visited(door) == Err(Failed)
+        && visited(door) == Ok(Some(2))
+        && visited(door) == Ok(None)
+        && visited(door) == Ok(None);
+    came && has_back(door, 0, "a") && has_back(door, 1, "bc") && door.back().len() == 2
 }
 
 #[test]
-fn links_come_and_go_back_in_order(rt: HostRuntime) -> Result<(), Fail> {
-    assert!(rt; come_and_go(rt.alloc())?);
-    Ok(())
+fn links_come_and_go_back_in_order(rt: HostRuntime) {
+    let ordered = match door_of(rt.alloc(), &[b"a", b"bc"], &[2]) {
+        Some(mut door) => come_and_go(&mut door),
+        None => false,
+    };
+    assert!(rt; ordered);
 }

@@ -13,28 +13,28 @@ fn counted_pace_stops_behind_its_answers(rt: HostRuntime) {
     assert!(rt; !CountedPace::new(0).between());
 }
 
-fn flag(alloc: Global, is_set: bool) -> Result<Arc<AtomicBool, Global>, NoMemory> {
-    Ok(Arc::new(alloc, AtomicBool::new(is_set))?)
+fn flag(alloc: Global, is_set: bool) -> Option<Arc<AtomicBool, Global>> {
+    Arc::new(alloc, AtomicBool::new(is_set)).ok()
 }
 
-// Whether the pace sets the first flag, and answers whether the second is set.
-fn answers(alloc: Global, is_set: bool) -> Result<bool, NoMemory> {
+// Whether the pace sets the first flag, and what it answers where the second is set or not.
+fn answers(alloc: Global, is_set: bool) -> Option<(bool, bool)> {
     let first = flag(alloc, false)?;
-    let mut pace = HeldPace::new(Arc::try_clone(&first)?, flag(alloc, is_set)?);
+    let second = flag(alloc, is_set)?;
+    let mut pace = HeldPace::new(Arc::try_clone(&first).ok()?, second);
     let answer = pace.between();
-    Ok(answer == is_set && first.load(Ordering::SeqCst))
+    Some((first.load(Ordering::SeqCst), answer))
 }
 
 #[test]
-fn held_pace_waits_for_its_flag(rt: HostRuntime) -> Result<(), Fail> {
-    assert!(rt; answers(rt.alloc(), true)?);
-    assert!(rt; answers(rt.alloc(), false)?);
-    Ok(())
+fn held_pace_waits_for_its_flag(rt: HostRuntime) {
+    assert!(rt; answers(rt.alloc(), true) == Some((true, true)));
+    assert!(rt; answers(rt.alloc(), false) == Some((true, false)));
 }
 
 /// The double of a number.
 #[derive(Drop)]
-struct Doubled(u32);
+pub struct Doubled(pub u32);
 
 impl Job for Doubled {
     type Out = u64;
@@ -66,9 +66,7 @@ fn are_doubled<R: Threads + Wait + Sync>(rt: &R, spawner: &mut MemSpawner<R>) ->
 }
 
 #[test]
-fn listed_starts_fail(rt: HostRuntime) -> Result<(), Fail> {
-    let fail = ListOf::from_vec([2].to_vec(rt.alloc())?);
-    let mut spawner = MemSpawner::new(rt, fail);
+fn listed_starts_fail(rt: HostRuntime) {
+    let mut spawner = MemSpawner::new(rt, calls_of(rt.alloc(), &[2]));
     assert!(rt; are_doubled(&rt, &mut spawner));
-    Ok(())
 }
