@@ -70,9 +70,9 @@ fn put_in(
 
 // ---- trees and values as they are written
 
-/// Writes a tree.
+// Writes a tree.
 #[cycle(tree)]
-pub fn put_tree(tree: &Expr, out: &mut Answer) {
+fn put_tree(tree: &Expr, out: &mut Answer) {
     match tree {
         Expr::Num(number) => out.put_int(*number),
         Expr::Text(text) => out.put_quoted(text.as_slice()),

@@ -5,10 +5,8 @@
 //! answer differs, and then how many there were. Read `stdin` first, then `values.rt` and `answer.rt`.
 #![tactic(auto)]
 
-mod aggregates;
 mod answer;
 mod arguments;
-mod commands;
 mod documents;
 mod expressions;
 mod holders;
@@ -113,7 +111,6 @@ fn put(alloc: Global, call: &str, words: &[Vec<u8>], out: &mut Answer) -> bool {
         || lexemes::put(alloc, call, words, out)
         || queries::put(alloc, call, words, out)
         || schemas::put(alloc, call, words, out)
-        || commands::put(alloc, call, words, out)
         || documents::put(alloc, call, words, out)
         || expressions::put(alloc, call, words, out)
         || lists::put(alloc, call, words, out)

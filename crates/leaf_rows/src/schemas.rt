@@ -114,8 +114,8 @@ fn put_altered(altered: Result<ListOf<Field>, SchemaFault>, out: &mut Answer) {
     }
 }
 
-/// A fault by its name and its word.
-pub fn put_fault(fault: SchemaFault, out: &mut Answer) {
+// A fault by its name and its word.
+fn put_fault(fault: SchemaFault, out: &mut Answer) {
     match fault {
         SchemaFault::BadOption { at } => out.put_at(b"BadOption", at as usize),
         SchemaFault::BadKind { at } => out.put_at(b"BadKind", at as usize),
@@ -127,9 +127,9 @@ pub fn put_fault(fault: SchemaFault, out: &mut Answer) {
     }
 }
 
-/// An index by its name, its prefixes, its stop words where they are not those of every index, and
-/// its fields.
-pub fn put_index(index: &IndexDef, out: &mut Answer) {
+// An index by its name, its prefixes, its stop words where they are not those of every index, and
+// its fields.
+fn put_index(index: &IndexDef, out: &mut Answer) {
     out.put_word(index.name.as_slice());
     if 0 < index.prefixes.len() {
         out.put(b" PREFIX ");
@@ -146,8 +146,8 @@ pub fn put_index(index: &IndexDef, out: &mut Answer) {
     put_fields(index.fields.as_slice(), out);
 }
 
-/// Fields with a blank before each.
-pub fn put_fields(fields: &[Field], out: &mut Answer) {
+// Fields with a blank before each.
+fn put_fields(fields: &[Field], out: &mut Answer) {
     for field in fields {
         put_field(field, out);
     }
