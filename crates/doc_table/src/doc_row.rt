@@ -1,7 +1,7 @@
 //! One document's row.
 
 use crate::sorting_vector::SortingVector;
-use id_rows::HasId;
+use ft_base::HasId;
 
 /// A document's id and its sorting vector.
 #[derive(Drop)]

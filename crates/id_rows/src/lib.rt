@@ -4,16 +4,12 @@
 //! `near.rt`.
 #![tactic(auto)]
 
-mod doc;
-mod has_id;
 mod near;
 mod places;
 mod row;
 mod rows;
 mod walk;
 
-/// What has an id.
-pub use has_id::HasId;
 /// The things, each found by its id.
 pub use rows::IdRows;
 /// A walk over all things.

@@ -7,9 +7,9 @@
 ghost use Rattle.std.specs.Prelude.{◌≡◌, ◌<◌, ◌≤◌, ◌+◌, ◌-◌, ℕ, length};
 ghost use Rattle.id_rows.specs.IdRows.{Rise, place_id, IsPlace};
 
-use crate::has_id::HasId;
 use crate::places::{id_at, place_of};
 use crate::row::Row;
+use ft_base::HasId;
 
 // So many rows are leaped over. To search among all rows costs less than to leap over more.
 const FAR: usize = 16;

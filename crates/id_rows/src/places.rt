@@ -7,8 +7,8 @@
 ghost use Rattle.std.specs.Prelude.{◌≡◌, ◌<◌, ◌≤◌, ◌+◌, ◌-◌, ℕ, length, min};
 ghost use Rattle.id_rows.specs.IdRows.{Rise, place_id, IsPlace, IsSpan};
 
-use crate::has_id::HasId;
 use crate::row::Row;
+use ft_base::HasId;
 
 // So many steps take ids to be missing evenly. The search halves after them, however ids are missing.
 const EVEN_STEPS: u32 = 3;

@@ -3,7 +3,7 @@ ghost use Rattle.std.specs.Prelude.{◌≡◌};
 ghost use Rattle.std.specs.Option.{option_copied};
 ghost use Rattle.id_rows.specs.IdRows.{row_id, thing_of, is_empty_row};
 
-use crate::has_id::HasId;
+use ft_base::HasId;
 
 /// A thing, or the id of one that is gone: so ids that followed one another still do, and the
 /// place of a thing is known from its id.

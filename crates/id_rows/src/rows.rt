@@ -10,12 +10,11 @@ ghost use Rattle.std.specs.Map.{keys_of, lookup, remove_entry, values_of};
 ghost use Rattle.ft_base.specs.Rows.{Below};
 ghost use Rattle.id_rows.specs.IdRows.{full_rows, Rise, place_id, row_at_place, is_empty_row, IsPlace};
 
-use crate::has_id::HasId;
 use crate::near::place_near;
 use crate::places::{id_at, place_of};
 use crate::row::Row;
 use crate::walk::RowWalk;
-use ft_base::NoMemory;
+use ft_base::{HasId, NoMemory};
 use std::alloc::Global;
 use std::marker::Model;
 use std::mem;

@@ -2,8 +2,8 @@
 ghost use Rattle.std.specs.Prelude.{◌≡◌};
 ghost use Rattle.id_rows.specs.Walk.{things, IsNext};
 
-use crate::has_id::HasId;
 use crate::row::Row;
+use ft_base::HasId;
 use std::marker::Model;
 
 /// The things that are left, in order of their ids, which a contract sees as a list.
