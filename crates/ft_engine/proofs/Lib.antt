@@ -1,3 +1,8 @@
+mod BehindLaws
 pub mod EngineLaws
+mod PlainLaws
+mod PreparedLaws
+mod ReadLaws
+mod RemovalLaws
 mod SteppingLaws
 mod WritingLaws

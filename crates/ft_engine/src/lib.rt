@@ -7,6 +7,7 @@
 #![tactic(auto)]
 
 mod engine;
+mod hashes;
 mod laws;
 mod machine;
 mod plain;

@@ -8,9 +8,14 @@ ghost use Rattle.ft_machine.specs.Step.{last_number};
 ghost use Rattle.index_commands.specs.Exactness.{TellsExactly};
 ghost use Rattle.indexed_store.specs.Preparing.{OnlyReads, Prepares};
 
+use crate::hashes::deleting::hdel;
+use crate::hashes::incrementing::hincrby;
+use crate::hashes::reads::answer_plain;
+use crate::hashes::removals::{del, flush};
+use crate::hashes::renaming::rename;
+use crate::hashes::setting::{hset, hsetnx};
 use cmd_parse::Verb;
 use ft_base::Words;
-use hash_commands::{answer_plain, del, flush, hdel, hincrby, hset, hsetnx, rename};
 use index_commands::{answer_info, answer_names, answer_tag_vals, drop_named};
 use indexed_store::{Change, IndexedStore};
 use reply_buffer::ReplyBuffer;

@@ -1,0 +1,12 @@
+use Rattle.std.proofs.Common.{◌<◌, sym, subst, length}
+use Rattle.ft_base.specs.Hash.{Hash}
+use Rattle.ft_meaning.specs.Meaning.{ValuesFit}
+use Rattle.indexed_store.proofs.WritesLaws.{set-filled, set-fits}
+use Rattle.ft_engine.proofs.hashes.incrementing.set_number.Goals as goal
+
+pub prepare_hash-requires-clause-filled : goal.prepare_hash-requires-clause-filled
+prepare_hash-requires-clause-filled c = subst (λ (hash : Hash). 0 < length hash) (sym c.in_ok-set_to.ensures.set.set) (set-filled c.in_ok-hash.hash c.args.field.now _)
+
+pub prepare_hash-requires-clause-values : goal.prepare_hash-requires-clause-values
+prepare_hash-requires-clause-values c =
+    subst ValuesFit (sym c.in_ok-set_to.ensures.set.set) (set-fits c.in_ok-hash.hash c.args.field.now _ c.in_ok-hash.ensures.fits c.in_ok-set_to.ensures.set.short)
