@@ -1,8 +1,18 @@
+pub mod AggregateLaws
+pub mod AnsweringLaws
 mod BehindLaws
+pub mod CursorLaws
 pub mod EngineLaws
+pub mod ExactLaws
+pub mod FilterLaws
+pub mod IndexCommandLaws
+pub mod InfoLaws
+pub mod OpeningLaws
 mod PlainLaws
 mod PreparedLaws
 mod ReadLaws
 mod RemovalLaws
+pub mod SearchLaws
 mod SteppingLaws
+pub mod TagLaws
 mod WritingLaws

@@ -10,10 +10,10 @@ use Rattle.cmd_parse.specs.declared.command.Command.{Command}
 use Rattle.ft_base.specs.Reply.{spelling}
 use Rattle.ft_base.specs.declared.reply.Reply.TheVariants.{Fault}
 pub use Rattle.ft_base.specs.Words.{KeepsLimits}
-use Rattle.ft_engine.specs.Quiet.{IsQuiet}
+use Rattle.ft_engine.specs.Quiet.{IsQuietFor}
 use Rattle.ft_index.specs.Index.{Index}
 use Rattle.ft_machine.specs.Step.{last_event, last_number}
-use Rattle.index_commands.specs.Exactness.{ReadsFew, TellsExactly}
+use Rattle.ft_engine.specs.Exactness.{ReadsFew, TellsExactly}
 use Rattle.indexed_store.specs.Holding.{Holding}
 use Rattle.indexed_store.specs.Preparing.{Prepares}
 use Rattle.indexed_store.specs.declared.change.Change.{Change}
@@ -40,7 +40,7 @@ TellsAsAsked command indexes written = TellsExactly (command_of command) indexes
 
 -- where it asks for no change of documents and definitions, it makes none
 abbrev pub IsQuietAsAsked : Command → Change → Type 0
-IsQuietAsAsked command change = IsQuiet (command_of command) change
+IsQuietAsAsked command change = IsQuietFor (command_of command) change
 
 -- what words ask at this number reads as many documents, and no more
 abbrev pub WordsRead : ℕ → List (List ℕ) → List ℕ → ℕ → ℕ → Type 0

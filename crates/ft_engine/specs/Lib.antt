@@ -1,7 +1,12 @@
 pub mod Commands
+pub mod Exactness
+pub mod Found
 pub mod Hashes
+pub mod Kinds
+pub mod Parts
 pub mod Preparing
 pub mod Quiet
-pub mod Reads
+pub mod Reading
 pub mod Stands
 pub mod Stepping
+pub mod Told

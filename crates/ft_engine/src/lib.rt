@@ -6,8 +6,10 @@
 //! first, then `engine.rt`, `step.rt`, `plain.rt` and `searching.rt`.
 #![tactic(auto)]
 
+mod connection;
 mod engine;
 mod hashes;
+mod indexes;
 mod laws;
 mod machine;
 mod plain;

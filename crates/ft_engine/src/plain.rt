@@ -3,20 +3,24 @@ ghost use Rattle.std.specs.Prelude.{◌≡◌, ◌≤◌, ◌<◌, None};
 ghost use Rattle.cmd_parse.specs.Asking.{AreWords};
 ghost use Rattle.cmd_parse.specs.Lawful.{Lawful};
 ghost use Rattle.cmd_parse.specs.Asked.{Plain};
-ghost use Rattle.ft_engine.specs.Quiet.{AnswersOnly, ChangesNothing};
+ghost use Rattle.ft_engine.specs.Quiet.{ChangesNothing};
 ghost use Rattle.ft_machine.specs.Step.{last_number};
-ghost use Rattle.index_commands.specs.Exactness.{TellsExactly};
+ghost use Rattle.ft_engine.specs.Exactness.{TellsExactly};
+ghost use Rattle.ft_engine.specs.Reading.{IsAnswered};
 ghost use Rattle.indexed_store.specs.Preparing.{OnlyReads, Prepares};
 
+use crate::connection::answer_connection;
 use crate::hashes::deleting::hdel;
 use crate::hashes::incrementing::hincrby;
-use crate::hashes::reads::answer_plain;
+use crate::hashes::reads::{answer_count, answer_values};
 use crate::hashes::removals::{del, flush};
 use crate::hashes::renaming::rename;
 use crate::hashes::setting::{hset, hsetnx};
+use crate::indexes::definitions::drop_named;
+use crate::indexes::index_reads::{answer_names, answer_tag_vals};
+use crate::indexes::info::answer_info;
 use cmd_parse::Verb;
 use ft_base::Words;
-use index_commands::{answer_info, answer_names, answer_tag_vals, drop_named};
 use indexed_store::{Change, IndexedStore};
 use reply_buffer::ReplyBuffer;
 
@@ -57,7 +61,7 @@ fn answer(held: &mut IndexedStore, verb: Verb, args: &Words<'_>, reply: &mut Rep
     requires number { held.old.next < last_number }
     requires lawful { Lawful verb args.now }
     requires none { held.old.opens ≡ None }
-    ensures does { AnswersOnly verb args.now held.old reply.new.bytes }
+    ensures does { IsAnswered (Plain verb args.now) held.old reply.new.bytes }
     ensures records { TellsExactly (Plain verb args.now) held.old.indexes reply.new.bytes }
     ensures stays { OnlyReads held.old held.new }
     ensures room { reply.old.room ≤ reply.new.room }
@@ -66,6 +70,12 @@ fn answer(held: &mut IndexedStore, verb: Verb, args: &Words<'_>, reply: &mut Rep
         Verb::ListIndexes => answer_names(held, args, reply),
         Verb::Info => answer_info(held, args, reply),
         Verb::TagVals => answer_tag_vals(held, args, reply),
-        _ => answer_plain(held, verb, args, reply),
+        Verb::Ping | Verb::Echo | Verb::Select | Verb::Quit => answer_connection(
+            held, verb, args, reply,
+        ),
+        Verb::Hget | Verb::Hmget | Verb::Hgetall | Verb::Hkeys | Verb::Hvals => {
+            answer_values(held, verb, args, reply)
+        }
+        _ => answer_count(held, verb, args, reply),
     }
 }

@@ -4,12 +4,12 @@ ghost use Rattle.cmd_parse.specs.Asked.{Search};
 ghost use Rattle.cmd_parse.specs.Seen.{search_of};
 ghost use Rattle.ft_base.specs.declared.limits.TheConstants.{MAX_WORD_BYTES};
 ghost use Rattle.ft_machine.specs.Step.{last_number};
-ghost use Rattle.index_commands.specs.Exactness.{ReadsRows};
+ghost use Rattle.ft_engine.specs.Exactness.{ReadsRows};
 ghost use Rattle.indexed_store.specs.Changing.{is_write};
 ghost use Rattle.indexed_store.specs.Preparing.{Prepares};
 
+use crate::indexes::search::answer_search;
 use cmd_parse::SearchSpec;
-use index_commands::answer_search;
 use indexed_store::{Change, IndexedStore};
 use reply_buffer::ReplyBuffer;
 

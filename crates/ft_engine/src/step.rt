@@ -6,10 +6,12 @@ ghost use Rattle.ft_machine.specs.Step.{last_number};
 ghost use Rattle.indexed_store.specs.Holding.{begun};
 ghost use Rattle.indexed_store.specs.Standing.{AreWritten};
 
+use crate::indexes::aggregation::aggregate;
+use crate::indexes::cursors::{delete_cursor, read_cursor};
+use crate::indexes::definitions::{alter, create};
 use crate::plain::prepare_plain;
 use crate::searching::prepare_search;
 use cmd_parse::Command;
-use index_commands::{aggregate, alter, create, delete_cursor, read_cursor};
 use indexed_store::{Change, IndexedStore};
 use reply_buffer::ReplyBuffer;
 

@@ -27,10 +27,26 @@ impl Answer {
         Ok(self.text)
     }
 
-    /// Keeps in mind whether memory ran out.
-    pub fn note(&mut self, done: Result<(), NoMemory>) {
+    /// Keeps in mind that memory ran out.
+    pub fn fail(&mut self) {
+        self.wanting = true;
+    }
+
+    /// Keeps in mind whether it did.
+    pub fn note<T: Drop, E: Drop>(&mut self, done: Result<T, E>) {
         if done.is_err() {
             self.wanting = true;
+        }
+    }
+
+    /// A copy of bytes; none of them where memory runs out, which is kept in mind.
+    pub fn bytes(&mut self, alloc: Global, bytes: &[u8]) -> Bytes {
+        match Bytes::from_slice(alloc, bytes) {
+            Ok(bytes) => bytes,
+            Err(NoMemory) => {
+                self.fail();
+                Bytes::new(alloc)
+            }
         }
     }
 

@@ -2,7 +2,8 @@
 ghost use Rattle.std.specs.Prelude.{◌↔◌, IsTrue};
 ghost use Rattle.ft_base.specs.Spans.{LieIn};
 
-use ft_base::{Bytes, Frame, HashRec, ListOf, NoMemory, Span};
+use crate::answer::Answer;
+use ft_base::{Bytes, Frame, HashRec, ListOf, Span};
 use std::alloc::Global;
 
 /// The word at a place, empty where there is none.
@@ -41,43 +42,37 @@ pub fn halves(word: &[u8]) -> (&[u8], &[u8]) {
 }
 
 /// The hash to which each `field=value` is set in turn.
-pub fn hash_of(alloc: Global, pairs: &[Vec<u8>]) -> Result<HashRec, NoMemory> {
+pub fn hash_of(alloc: Global, pairs: &[Vec<u8>], out: &mut Answer) -> HashRec {
     let mut hash = HashRec::new(alloc);
     for pair in pairs {
         let (field, value) = halves(pair.as_slice());
-        hash.set(field, Bytes::from_slice(alloc, value)?)?;
+        let value = out.bytes(alloc, value);
+        out.note(hash.set(field, value));
     }
-    Ok(hash)
+    hash
 }
 
 /// Copies of words.
-pub fn list_of_words(alloc: Global, words: &[Vec<u8>]) -> Result<ListOf<Bytes>, NoMemory> {
+pub fn list_of_words(alloc: Global, words: &[Vec<u8>], out: &mut Answer) -> ListOf<Bytes> {
     let mut list = ListOf::new(alloc);
     for word in words {
-        list.push(Bytes::from_slice(alloc, word.as_slice())?)?;
+        let word = out.bytes(alloc, word.as_slice());
+        out.note(list.push(word));
     }
-    Ok(list)
+    list
 }
 
 /// The words of a command, one behind another. It is none in no case that comes.
-pub fn frame_of(alloc: Global, words: &[Vec<u8>]) -> Result<Option<Frame>, NoMemory> {
+pub fn frame_of(alloc: Global, words: &[Vec<u8>], out: &mut Answer) -> Option<Frame> {
     let mut bytes = Vec::new(alloc);
-    for word in words {
-        bytes.extend_from_slice(word.as_slice())?;
-    }
-    Ok(framed(bytes, spans_of(alloc, words)?))
-}
-
-// Where each word begins and ends.
-fn spans_of(alloc: Global, words: &[Vec<u8>]) -> Result<Vec<Span>, NoMemory> {
     let mut spans = Vec::new(alloc);
-    let mut from: usize = 0;
     for word in words {
-        let to = from.saturating_add(word.len());
-        spans.push(Span { from, to })?;
-        from = to;
+        let from = bytes.len();
+        out.note(bytes.extend_from_slice(word.as_slice()));
+        let to = bytes.len();
+        out.note(spans.push(Span { from, to }));
     }
-    Ok(spans)
+    framed(bytes, spans)
 }
 
 // Bytes and the spans of words in them; none where one does not lie in them.

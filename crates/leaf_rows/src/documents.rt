@@ -33,8 +33,8 @@ pub fn put(alloc: Global, call: &str, words: &[Vec<u8>], out: &mut Answer) -> bo
     let done = match call {
         "field_tokens" => put_all_tokens(alloc, words, out),
         "member" => put_member(alloc, words, out),
-        "matches" => put_matches(alloc, words, text_query(alloc, words), out),
-        "matches_tree" => put_matches(alloc, words, tree_query(alloc, words), out),
+        "matches" => put_matches(alloc, words, text_query(alloc, words, out), out),
+        "matches_tree" => put_matches(alloc, words, tree_query(alloc, words, out), out),
         _ => return false,
     };
     out.note(done);
@@ -48,15 +48,11 @@ fn case_of(
     fields: &[u8],
     key: &[u8],
     pairs: &[Vec<u8>],
+    out: &mut Answer,
 ) -> Result<Case, NoMemory> {
-    Ok(Case {
-        def: index_of(alloc, options, fields)?,
-        doc: doc_of(alloc, key, pairs)?,
-    })
-}
-
-fn doc_of(alloc: Global, key: &[u8], pairs: &[Vec<u8>]) -> Result<Doc, NoMemory> {
-    Doc::new(alloc, 5, key, hash_of(alloc, pairs)?)
+    let def = index_of(alloc, options, fields, out)?;
+    let doc = Doc::new(alloc, 5, key, hash_of(alloc, pairs, out))?;
+    Ok(Case { def, doc })
 }
 
 fn values_fit(hash: &HashView<'_>) -> bool
@@ -73,7 +69,7 @@ fn values_fit(hash: &HashView<'_>) -> bool
 // The tokens of each field of a document.
 fn put_all_tokens(alloc: Global, words: &[Vec<u8>], out: &mut Answer) -> Result<(), NoMemory> {
     let (options, fields) = (word(words, 0), word(words, 1));
-    let case = case_of(alloc, options, fields, b"book:1", rest(words, 2))?;
+    let case = case_of(alloc, options, fields, b"book:1", rest(words, 2), out)?;
     put_each(alloc, &case.def, &case.doc, out)
 }
 
@@ -110,7 +106,8 @@ fn put_tokens(field: &Field, found: &TextTokens, out: &mut Answer) {
 
 // What a document is to an index with these prefixes.
 fn put_member(alloc: Global, words: &[Vec<u8>], out: &mut Answer) -> Result<(), NoMemory> {
-    let case = case_of(alloc, word(words, 0), PENS, word(words, 1), rest(words, 2))?;
+    let (options, key) = (word(words, 0), word(words, 1));
+    let case = case_of(alloc, options, PENS, key, rest(words, 2), out)?;
     out.put(judged(&case.def, &case.doc));
     Ok(())
 }
@@ -124,14 +121,15 @@ fn judged(def: &IndexDef, doc: &Doc) -> &'static [u8] {
     }
 }
 
-fn text_query(alloc: Global, words: &[Vec<u8>]) -> Result<Query, QueryFault> {
+fn text_query(alloc: Global, words: &[Vec<u8>], out: &mut Answer) -> Result<Query, QueryFault> {
     let no_params = ListOf::new(alloc);
-    query_of(alloc, NO_STOPS, word(words, 0), word(words, 1), &no_params)
+    let (fields, text) = (word(words, 0), word(words, 1));
+    query_of(alloc, NO_STOPS, fields, text, &no_params, out)
 }
 
 // A tree that no text gives.
-fn tree_query(alloc: Global, words: &[Vec<u8>]) -> Result<Query, QueryFault> {
-    Ok(tree_of(alloc, word(words, 1))?)
+fn tree_query(alloc: Global, words: &[Vec<u8>], out: &mut Answer) -> Result<Query, QueryFault> {
+    Ok(tree_of(alloc, word(words, 1), out)?)
 }
 
 // Whether a document meets a query.
@@ -156,7 +154,8 @@ fn put_met(
     query: &Query,
     out: &mut Answer,
 ) -> Result<(), NoMemory> {
-    let case = case_of(alloc, NO_STOPS, word(words, 0), b"book:1", rest(words, 2))?;
+    let fields = word(words, 0);
+    let case = case_of(alloc, NO_STOPS, fields, b"book:1", rest(words, 2), out)?;
     put_truth_of(alloc, &case.def, &case.doc, query, out)
 }
 

@@ -8,7 +8,7 @@ use crate::answer::Answer;
 use crate::arguments::{halves, hash_of, rest, word};
 use crate::schemas::index_of;
 use expr_eval::{Expr, ExprFault, Func, LentRow, Op, eval, parse_expr};
-use ft_base::{Bytes, Cell, Doc, ListOf, NoMemory, Row, Value, read_int};
+use ft_base::{Cell, Doc, ListOf, NoMemory, Row, Value, read_int};
 use std::alloc::Global;
 
 /// The fields of an index of which nothing is asked.
@@ -38,7 +38,7 @@ fn put_fault(fault: ExprFault, out: &mut Answer) {
     match fault {
         ExprFault::Syntax { at } => out.put_at(b"Syntax", at),
         ExprFault::TooDeep { at } => out.put_at(b"TooDeep", at),
-        ExprFault::NoMemory => out.note(Err(NoMemory)),
+        ExprFault::NoMemory => out.fail(),
     }
 }
 
@@ -50,7 +50,7 @@ fn put_worth(
     words: &[Vec<u8>],
     out: &mut Answer,
 ) -> Result<(), NoMemory> {
-    let row = row_of(alloc, words)?;
+    let row = row_of(alloc, words, out)?;
     put_in(alloc, tree, &row, fields, out)
 }
 
@@ -62,7 +62,7 @@ fn put_in(
     out: &mut Answer,
 ) -> Result<(), NoMemory> {
     let fields = if fields.is_empty() { NO_FIELDS } else { fields };
-    let def = index_of(alloc, b"", fields)?;
+    let def = index_of(alloc, b"", fields, out)?;
     let value = eval(alloc, tree, LentRow::of(row), &def)?;
     put_value(&value, out);
     Ok(())
@@ -147,57 +147,60 @@ fn put_list(values: &[Value], out: &mut Answer) {
 
 // ---- the row that words make
 
-fn row_of(alloc: Global, words: &[Vec<u8>]) -> Result<Row, NoMemory> {
+fn row_of(alloc: Global, words: &[Vec<u8>], out: &mut Answer) -> Result<Row, NoMemory> {
     let of_hash = words.iter().position(|word| !word.starts_with(b"."));
     let (cells, fields) = words.split_at(of_hash.unwrap_or(words.len()).min(words.len()));
-    let cells = cells_of(alloc, cells)?;
-    let doc = doc_of(alloc, fields)?;
+    let cells = cells_of(alloc, cells, out);
+    let doc = doc_of(alloc, fields, out)?;
     Ok(Row { doc, cells })
 }
 
-fn doc_of(alloc: Global, fields: &[Vec<u8>]) -> Result<Option<Doc>, NoMemory> {
+fn doc_of(alloc: Global, fields: &[Vec<u8>], out: &mut Answer) -> Result<Option<Doc>, NoMemory> {
     if fields.is_empty() {
         return Ok(None);
     }
-    Ok(Some(Doc::new(alloc, 1, b"", hash_of(alloc, fields)?)?))
+    let doc = Doc::new(alloc, 1, b"", hash_of(alloc, fields, out))?;
+    Ok(Some(doc))
 }
 
-fn cells_of(alloc: Global, words: &[Vec<u8>]) -> Result<ListOf<Cell>, NoMemory> {
+fn cells_of(alloc: Global, words: &[Vec<u8>], out: &mut Answer) -> ListOf<Cell> {
     let mut cells = ListOf::new(alloc);
     for word in words {
-        cells.push(cell_of(alloc, word.as_slice())?)?;
+        let cell = cell_of(alloc, word.as_slice(), out);
+        out.note(cells.push(cell));
     }
-    Ok(cells)
+    cells
 }
 
 // The cell of a dot, a name, an equals sign and a value.
-fn cell_of(alloc: Global, word: &[u8]) -> Result<Cell, NoMemory> {
+fn cell_of(alloc: Global, word: &[u8], out: &mut Answer) -> Cell {
     let (name, value) = halves(word);
-    let name = Bytes::from_slice(alloc, &name[1.min(name.len())..])?;
-    let value = value_of(alloc, value)?;
-    Ok(Cell { name, value })
+    let name = out.bytes(alloc, &name[1.min(name.len())..]);
+    let value = value_of(alloc, value, out);
+    Cell { name, value }
 }
 
-fn value_of(alloc: Global, text: &[u8]) -> Result<Value, NoMemory> {
+fn value_of(alloc: Global, text: &[u8], out: &mut Answer) -> Value {
     match text {
-        b"null" => Ok(Value::Null),
-        [b'[', items @ ..] => Ok(Value::List(items_of(alloc, items)?)),
-        _ => item_of(alloc, text),
+        b"null" => Value::Null,
+        [b'[', items @ ..] => Value::List(items_of(alloc, items, out)),
+        _ => item_of(alloc, text, out),
     }
 }
 
-fn item_of(alloc: Global, text: &[u8]) -> Result<Value, NoMemory> {
+fn item_of(alloc: Global, text: &[u8], out: &mut Answer) -> Value {
     match read_int(text) {
-        Some(number) => Ok(Value::Num(number)),
-        None => Ok(Value::Text(Bytes::from_slice(alloc, text)?)),
+        Some(number) => Value::Num(number),
+        None => Value::Text(out.bytes(alloc, text)),
     }
 }
 
 // Values with a blank between each two.
-fn items_of(alloc: Global, text: &[u8]) -> Result<ListOf<Value>, NoMemory> {
+fn items_of(alloc: Global, text: &[u8], out: &mut Answer) -> ListOf<Value> {
     let mut items = ListOf::new(alloc);
     for item in text.split(|byte| *byte == b' ') {
-        items.push(item_of(alloc, item)?)?;
+        let item = item_of(alloc, item, out);
+        out.note(items.push(item));
     }
-    Ok(items)
+    items
 }

@@ -12,54 +12,52 @@ use std::sync::ledger::{Blank, Ledger};
 /// Writes the answer of a call, and tells whether it is of this file.
 pub fn put(alloc: Global, call: &str, words: &[Vec<u8>], out: &mut Answer) -> bool {
     let first = word(words, 0);
-    let done = match call {
+    match call {
         "boxed" => put_boxed(alloc, first, out),
         "bytes" => put_bytes(alloc, first, word(words, 1), out),
         "list_of" => put_list(alloc, words, out),
-        "steps" => put_steps(out),
+        "steps" => out.put_count(bytes_of_steps()),
         _ => return false,
-    };
-    out.note(done);
+    }
     true
 }
 
 // A word as its box lends it and hands it out.
-fn put_boxed(alloc: Global, word: &[u8], out: &mut Answer) -> Result<(), NoMemory> {
-    let boxed = Boxed::new(alloc, Bytes::from_slice(alloc, word)?)?;
+fn put_boxed(alloc: Global, word: &[u8], out: &mut Answer) {
+    let Ok(boxed) = Boxed::new(alloc, out.bytes(alloc, word)) else {
+        return out.fail();
+    };
     out.put_word(boxed.get().as_slice());
     out.put(b" ");
     out.put_word(boxed.into_inner().as_slice());
-    Ok(())
 }
 
 // Bytes with others pushed, and how many they are as they are handed over.
-fn put_bytes(alloc: Global, first: &[u8], more: &[u8], out: &mut Answer) -> Result<(), NoMemory> {
-    let bytes = pushed(alloc, first, more)?;
-    out.put_word(bytes.clone()?.as_slice());
+fn put_bytes(alloc: Global, first: &[u8], more: &[u8], out: &mut Answer) {
+    let bytes = pushed(alloc, first, more, out);
+    let Ok(copy) = bytes.clone() else {
+        return out.fail();
+    };
+    out.put_word(copy.as_slice());
     out.put(b" ");
     out.put_count(Bytes::from_vec(bytes.into_vec()).len());
-    Ok(())
 }
 
-fn pushed(alloc: Global, first: &[u8], more: &[u8]) -> Result<Bytes, NoMemory> {
-    let mut bytes = begun(alloc, first)?;
-    for byte in more {
-        bytes.push(*byte)?;
-    }
-    Ok(bytes)
-}
-
-fn begun(alloc: Global, first: &[u8]) -> Result<Bytes, NoMemory> {
-    if first.is_empty() {
-        Ok(Bytes::new(alloc))
+fn pushed(alloc: Global, first: &[u8], more: &[u8], out: &mut Answer) -> Bytes {
+    let mut bytes = if first.is_empty() {
+        Bytes::new(alloc)
     } else {
-        Bytes::from_slice(alloc, first)
+        out.bytes(alloc, first)
+    };
+    for byte in more {
+        out.note(bytes.push(*byte));
     }
+    bytes
 }
 
 // Numbers with the one at a place changed, and how many they are as they are handed over.
-fn put_list(alloc: Global, words: &[Vec<u8>], out: &mut Answer) -> Result<(), NoMemory> {
-    let mut list = numbers_of(alloc, rest(words, 2))?;
+fn put_list(alloc: Global, words: &[Vec<u8>], out: &mut Answer) {
+    let mut list = numbers_of(alloc, rest(words, 2), out);
     let place = count_of(word(words, 0));
     if place < list.len() {
         *list.get_mut(place) = count_of(word(words, 1));
@@ -70,23 +68,17 @@ fn put_list(alloc: Global, words: &[Vec<u8>], out: &mut Answer) -> Result<(), No
     }
     out.put(b"of ");
     out.put_count(ListOf::from_vec(list.into_vec()).len());
-    Ok(())
 }
 
-fn numbers_of(alloc: Global, words: &[Vec<u8>]) -> Result<ListOf<usize>, NoMemory> {
+fn numbers_of(alloc: Global, words: &[Vec<u8>], out: &mut Answer) -> ListOf<usize> {
     let mut list = ListOf::new(alloc);
     for word in words {
-        list.push(count_of(word.as_slice()))?;
+        out.note(list.push(count_of(word.as_slice())));
     }
-    Ok(list)
+    list
 }
 
 // The bytes that a count of steps takes.
-fn put_steps(out: &mut Answer) -> Result<(), NoMemory> {
-    out.put_count(bytes_of_steps());
-    Ok(())
-}
-
 fn bytes_of_steps() -> usize {
     count_twice::<Brand>(Blank::new(1))
 }

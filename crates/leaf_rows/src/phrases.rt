@@ -30,7 +30,7 @@ fn put_within(alloc: Global, words: &[Vec<u8>], out: &mut Answer) {
         let (slop, in_order) = nearness(word(words, 2), word(words, 3));
         match asked(alloc, document, word(words, 1), slop, in_order) {
             Ok(found) => out.put_truth(found),
-            Err(wanting) => out.note(Err(wanting)),
+            Err(_) => out.fail(),
         }
     }
 }

@@ -3,7 +3,7 @@ use crate::answer::Answer;
 use crate::arguments::{halves, rest, word};
 use crate::schemas::index_of;
 use crate::trees::{put_fault, put_query};
-use ft_base::{Bytes, IndexDef, ListOf, MAX_WORD_BYTES, NoMemory, Param, Query};
+use ft_base::{IndexDef, ListOf, MAX_WORD_BYTES, Param, Query};
 use query_parse::{QueryFault, parse};
 use std::alloc::Global;
 
@@ -18,16 +18,12 @@ pub fn put(alloc: Global, call: &str, words: &[Vec<u8>], out: &mut Answer) -> bo
     if call != "parse" {
         return false;
     }
-    match parsed_with(alloc, word(words, 0), rest(words, 1)) {
+    let params = params_of(alloc, rest(words, 1), out);
+    match query_of(alloc, OPTIONS, FIELDS, word(words, 0), &params, out) {
         Ok(query) => put_query(&query, out),
         Err(fault) => put_fault(fault, out),
     }
     true
-}
-
-fn parsed_with(alloc: Global, text: &[u8], params: &[Vec<u8>]) -> Result<Query, QueryFault> {
-    let params = params_of(alloc, params)?;
-    query_of(alloc, OPTIONS, FIELDS, text, &params)
 }
 
 /// The tree of a text over an index with these options and fields.
@@ -37,8 +33,9 @@ pub fn query_of(
     fields: &[u8],
     text: &[u8],
     params: &ListOf<Param>,
+    out: &mut Answer,
 ) -> Result<Query, QueryFault> {
-    let def = index_of(alloc, options, fields)?;
+    let def = index_of(alloc, options, fields, out)?;
     parsed(alloc, text, &def, params)
 }
 
@@ -56,18 +53,12 @@ fn parsed(
 }
 
 // The parameters that words write as `name=value`.
-fn params_of(alloc: Global, words: &[Vec<u8>]) -> Result<ListOf<Param>, NoMemory> {
+fn params_of(alloc: Global, words: &[Vec<u8>], out: &mut Answer) -> ListOf<Param> {
     let mut params = ListOf::new(alloc);
     for word in words {
-        params.push(param(alloc, word.as_slice())?)?;
+        let (name, value) = halves(word.as_slice());
+        let (name, value) = (out.bytes(alloc, name), out.bytes(alloc, value));
+        out.note(params.push(Param { name, value }));
     }
-    Ok(params)
-}
-
-fn param(alloc: Global, word: &[u8]) -> Result<Param, NoMemory> {
-    let (name, value) = halves(word);
-    Ok(Param {
-        name: Bytes::from_slice(alloc, name)?,
-        value: Bytes::from_slice(alloc, value)?,
-    })
+    params
 }

@@ -15,10 +15,10 @@ const DEFAULT_STOPS: usize = 33;
 /// Writes the answer of a call, and tells whether it is of this file.
 pub fn put(alloc: Global, call: &str, words: &[Vec<u8>], out: &mut Answer) -> bool {
     match call {
-        "create" => put_created(created(alloc, words), out),
-        "serial_and_stops" => put_rest(created(alloc, words), out),
-        "alter" => put_altered(altered(alloc, words), out),
-        "extend" => put_created(extended(alloc, word(words, 0), word(words, 1)), out),
+        "create" => put_created(created(alloc, words, out), out),
+        "serial_and_stops" => put_rest(created(alloc, words, out), out),
+        "alter" => put_altered(altered(alloc, words, out), out),
+        "extend" => put_created(extended(alloc, word(words, 0), word(words, 1), out), out),
         _ => return false,
     }
     true
@@ -26,25 +26,30 @@ pub fn put(alloc: Global, call: &str, words: &[Vec<u8>], out: &mut Answer) -> bo
 
 /// The index with these options and fields, as FT.CREATE has them. Where they define none it is answered
 /// as if memory ran out.
-pub fn index_of(alloc: Global, options: &[u8], fields: &[u8]) -> Result<IndexDef, NoMemory> {
-    let text = create_text(alloc, options, fields)?;
-    match created_by(alloc, text.as_slice()) {
+pub fn index_of(
+    alloc: Global,
+    options: &[u8],
+    fields: &[u8],
+    out: &mut Answer,
+) -> Result<IndexDef, NoMemory> {
+    let mut text = Vec::new(alloc);
+    for part in [
+        b"FT.CREATE ix ".as_slice(),
+        options,
+        b" SCHEMA ".as_slice(),
+        fields,
+    ] {
+        out.note(text.extend_from_slice(part));
+    }
+    match created_by(alloc, text.as_slice(), out) {
         Ok(index) => Ok(index),
         Err(_) => Err(NoMemory),
     }
 }
 
-fn create_text(alloc: Global, options: &[u8], fields: &[u8]) -> Result<Vec<u8>, NoMemory> {
-    let mut text = Vec::from_slice(alloc, b"FT.CREATE ix ")?;
-    text.extend_from_slice(options)?;
-    text.extend_from_slice(b" SCHEMA ")?;
-    text.extend_from_slice(fields)?;
-    Ok(text)
-}
-
 // The answer to the words of FT.CREATE. Fewer than 5 are answered as if memory ran out.
-fn created(alloc: Global, words: &[Vec<u8>]) -> Result<IndexDef, SchemaFault> {
-    match frame_of(alloc, words)? {
+fn created(alloc: Global, words: &[Vec<u8>], out: &mut Answer) -> Result<IndexDef, SchemaFault> {
+    match frame_of(alloc, words, out) {
         Some(frame) => read_index(alloc, frame.words()),
         None => Err(SchemaFault::NoMemory),
     }
@@ -57,14 +62,18 @@ fn read_index(alloc: Global, words: Words<'_>) -> Result<IndexDef, SchemaFault> 
     read_create(alloc, words, SERIAL)
 }
 
-fn created_by(alloc: Global, text: &[u8]) -> Result<IndexDef, SchemaFault> {
+fn created_by(alloc: Global, text: &[u8], out: &mut Answer) -> Result<IndexDef, SchemaFault> {
     let words = split_words(alloc, text)?;
-    created(alloc, words.as_slice())
+    created(alloc, words.as_slice(), out)
 }
 
 // The answer to the words of FT.ALTER. Fewer than 6 are answered as if memory ran out.
-fn altered(alloc: Global, words: &[Vec<u8>]) -> Result<ListOf<Field>, SchemaFault> {
-    match frame_of(alloc, words)? {
+fn altered(
+    alloc: Global,
+    words: &[Vec<u8>],
+    out: &mut Answer,
+) -> Result<ListOf<Field>, SchemaFault> {
+    match frame_of(alloc, words, out) {
         Some(frame) => read_fields(alloc, frame.words()),
         None => Err(SchemaFault::NoMemory),
     }
@@ -78,15 +87,16 @@ fn read_fields(alloc: Global, words: Words<'_>) -> Result<ListOf<Field>, SchemaF
 }
 
 // An index with the fields of FT.ALTER, both commands as texts.
-fn extended(alloc: Global, text: &[u8], more: &[u8]) -> Result<IndexDef, SchemaFault> {
-    let index = created_by(alloc, text)?;
-    let fields = altered_by(alloc, more)?;
+fn extended(
+    alloc: Global,
+    text: &[u8],
+    more: &[u8],
+    out: &mut Answer,
+) -> Result<IndexDef, SchemaFault> {
+    let index = created_by(alloc, text, out)?;
+    let words = split_words(alloc, more)?;
+    let fields = altered(alloc, words.as_slice(), out)?;
     extend(alloc, &index, &fields)
-}
-
-fn altered_by(alloc: Global, text: &[u8]) -> Result<ListOf<Field>, SchemaFault> {
-    let words = split_words(alloc, text)?;
-    altered(alloc, words.as_slice())
 }
 
 fn put_created(created: Result<IndexDef, SchemaFault>, out: &mut Answer) {

@@ -35,31 +35,33 @@ fn put_repeated(
     words: &[Vec<u8>],
     out: &mut Answer,
 ) -> Result<(), NoMemory> {
-    let mut bytes = Vec::from_slice(alloc, word(words, 0))?;
+    let mut bytes = Vec::new(alloc);
+    out.note(bytes.extend_from_slice(word(words, 0)));
     for _ in 0..count_of(word(words, 1)) {
-        bytes.extend_from_slice(word(words, 2))?;
+        out.note(bytes.extend_from_slice(word(words, 2)));
     }
-    bytes.extend_from_slice(word(words, 3))?;
+    out.note(bytes.extend_from_slice(word(words, 3)));
     put_whole(alloc, size, bytes.as_slice(), out)
 }
 
 // A text behind a command of 16 MiB that lacks its last word.
 fn put_full(alloc: Global, last: &[u8], out: &mut Answer) -> Result<(), NoMemory> {
-    let mut bytes = Vec::from_slice(alloc, b"*17\r\n")?;
+    let mut bytes = Vec::new(alloc);
+    out.note(bytes.extend_from_slice(b"*17\r\n"));
     for _ in 0..16 {
-        put_long_word(&mut bytes)?;
+        put_long_word(&mut bytes, out);
     }
-    bytes.extend_from_slice(last)?;
+    out.note(bytes.extend_from_slice(last));
     put_whole(alloc, 0, bytes.as_slice(), out)
 }
 
 // A word of 1 MiB.
-fn put_long_word(bytes: &mut Vec<u8>) -> Result<(), NoMemory> {
-    bytes.extend_from_slice(b"$1048576\r\n")?;
+fn put_long_word(bytes: &mut Vec<u8>, out: &mut Answer) {
+    out.note(bytes.extend_from_slice(b"$1048576\r\n"));
     for _ in 0..1_048_576 {
-        bytes.push(b'a')?;
+        out.note(bytes.push(b'a'));
     }
-    bytes.extend_from_slice(b"\r\n")
+    out.note(bytes.extend_from_slice(b"\r\n"));
 }
 
 fn put_whole(alloc: Global, size: usize, bytes: &[u8], out: &mut Answer) -> Result<(), NoMemory> {
@@ -188,9 +190,10 @@ fn put_kind(kind: WireFault, out: &mut Answer) {
 
 // A word of so many bytes, up to those that fill a new decoder but for one byte, and what room there is behind it.
 fn put_room(alloc: Global, count: usize, out: &mut Answer) -> Result<(), NoMemory> {
-    let mut bytes = Vec::from_slice(alloc, b"*1\r\n$65523\r\n")?;
+    let mut bytes = Vec::new(alloc);
+    out.note(bytes.extend_from_slice(b"*1\r\n$65523\r\n"));
     for _ in 0..count.min(65_523) {
-        bytes.push(b'a')?;
+        out.note(bytes.push(b'a'));
     }
     put_room_behind(alloc, bytes.as_slice(), out)
 }

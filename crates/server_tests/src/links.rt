@@ -21,7 +21,7 @@ pub const NOT_BUILT: &[u8] = b"*2\r\n$8\r\nFT.DEBUG\r\n$2\r\nix\r\n";
 
 pub const QUIT: &[u8] = b"*1\r\n$4\r\nqUIt\r\n";
 
-/// Which calls of a link fail, counted from 1, and the most bytes that it takes at once.
+/// Which calls of a link fail, counted from 1 (a call 0 never comes), and the most bytes that it takes at once.
 #[derive(Clone, Copy)]
 pub struct Faults<'a> {
     pub reads: &'a [u64],

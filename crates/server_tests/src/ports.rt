@@ -87,14 +87,16 @@ fn reads_give_a_piece_each_or_fail(rt: HostRuntime) {
 
 const PIECE: &str = "abcdefgh";
 
-/// The most bytes at once, the write that fails, the piece, whether all of it is written, and the front that is.
+/// The most bytes at once, the write that fails (0: none), the piece, whether all of it is written, and the front that is.
 type Write = (usize, u64, &'static str, bool, &'static str);
 
 const WRITES: &[Write] = &[
+    // Three writes take it all; what comes before a write that fails is written, and a fourth write never comes.
     (3, 0, PIECE, true, PIECE),
     (3, 2, PIECE, false, "abc"),
     (3, 1, PIECE, false, ""),
     (3, 4, PIECE, true, PIECE),
+    // One write takes it all, and a link that takes nothing ends it.
     (8, 0, PIECE, true, PIECE),
     (0, 0, PIECE, false, ""),
     (0, 0, "", true, ""),

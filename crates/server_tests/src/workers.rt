@@ -135,10 +135,13 @@ const BOTH: &[u8] = b":1\r\n|$1\r\nx\r\n|$1\r\nx\r\n|+OK\r\n|";
 const SERVE: [&str; 3] = ["serve", "7777", "2"];
 
 const WAYS: &[Way] = &[
+    // Nothing fails; then the second link of the second door cannot be accepted.
     (&SERVE, (0, 0), (Exit::Done, 2, BOTH)),
     (&SERVE, (0, 2), (Exit::DoorFault, 2, CUT)),
+    // The first and the second worker cannot be started.
     (&SERVE, (1, 2), (Exit::NoThread, 0, b"")),
     (&SERVE, (2, 2), (Exit::NoThread, 1, FIRST)),
+    // The words are not those of `serve`.
     (&["script"], (0, 0), (Exit::Usage, 0, b"")),
 ];
 

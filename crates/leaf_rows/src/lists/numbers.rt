@@ -1,7 +1,6 @@
 //! Numbers and markers in rows.
 use crate::answer::Answer;
 use crate::arguments::word;
-use ft_base::NoMemory;
 use inverted_list::Marker;
 use itoa::Buffer;
 use std::alloc::Global;
@@ -20,12 +19,12 @@ pub fn number_at(words: &[Vec<u8>], i: usize) -> u64 {
 }
 
 /// The number that each word spells.
-pub fn numbers_of(alloc: Global, words: &[Vec<u8>]) -> Result<Vec<u64>, NoMemory> {
+pub fn numbers_of(alloc: Global, words: &[Vec<u8>], out: &mut Answer) -> Vec<u64> {
     let mut numbers = Vec::new(alloc);
     for word in words {
-        numbers.push(number(word.as_slice()))?;
+        out.note(numbers.push(number(word.as_slice())));
     }
-    Ok(numbers)
+    numbers
 }
 
 /// The signed number of the word at a place, and 0 where it spells none.
@@ -58,6 +57,13 @@ pub fn put_found(number: Option<u64>, out: &mut Answer) {
     match number {
         Some(number) => put_number(number, out),
         None => out.put(b"none"),
+    }
+}
+
+/// Writes numbers with a blank before each.
+pub fn put_numbers(numbers: &[u64], out: &mut Answer) {
+    for number in numbers {
+        put_found(Some(*number), out);
     }
 }
 

@@ -36,7 +36,20 @@ fn put_planned(
     by_parts: bool,
     out: &mut Answer,
 ) -> Result<(), NoMemory> {
-    match planned(alloc, word(words, 0), rest(words, 1))? {
+    match filled(alloc, rest(words, 1), out)? {
+        Some(index) => put_plan_over(alloc, &index, word(words, 0), by_parts, out),
+        None => Ok(()),
+    }
+}
+
+fn put_plan_over(
+    alloc: Global,
+    index: &FtIndex,
+    text: &[u8],
+    by_parts: bool,
+    out: &mut Answer,
+) -> Result<(), NoMemory> {
+    match plan_over(alloc, index, text)? {
         Some(iter) => put_plan(&iter, by_parts, out),
         None => out.put(b"no query"),
     }
@@ -53,13 +66,6 @@ fn put_plan(iter: &Iter, by_parts: bool, out: &mut Answer) {
 }
 
 // The plan of a query over documents.
-fn planned(alloc: Global, text: &[u8], documents: &[Vec<u8>]) -> Result<Option<Iter>, NoMemory> {
-    let Some(index) = filled(alloc, documents)? else {
-        return Ok(None);
-    };
-    plan_over(alloc, &index, text)
-}
-
 fn plan_over(alloc: Global, index: &FtIndex, text: &[u8]) -> Result<Option<Iter>, NoMemory> {
     match query_of(alloc, text, index.def())? {
         Some(query) => Ok(Some(plan_of::<Brand>(alloc, index, &query, Blank::new(1))?)),
@@ -68,11 +74,15 @@ fn plan_over(alloc: Global, index: &FtIndex, text: &[u8]) -> Result<Option<Iter>
 }
 
 // An index of every key, with the TEXT field `t`.
-fn begin(alloc: Global, markers: &mut Markers) -> Result<Option<FtIndex>, NoMemory>
+fn begin(
+    alloc: Global,
+    markers: &mut Markers,
+    out: &mut Answer,
+) -> Result<Option<FtIndex>, NoMemory>
     ensures last { IfOk result (λ begun. IfSome begun (λ index. index.table.last ≡ 0)) }
     ensures before { IfOk result (λ begun. IfSome begun (λ index. AreBefore markers.new index.lists)) }
 {
-    let def = index_of(alloc, b"STOPWORDS 0", b"t TEXT")?;
+    let def = index_of(alloc, b"STOPWORDS 0", b"t TEXT", out)?;
     if 5 < def.fields.len() {
         return Ok(None);
     }
@@ -114,9 +124,9 @@ fn write(index: &mut FtIndex, markers: &mut Markers, doc: &Doc) -> Result<(), No
 }
 
 // The documents of the row, with the ids from 1 on.
-fn filled(alloc: Global, words: &[Vec<u8>]) -> Result<Option<FtIndex>, NoMemory> {
+fn filled(alloc: Global, words: &[Vec<u8>], out: &mut Answer) -> Result<Option<FtIndex>, NoMemory> {
     let mut markers = Markers { event: 1, next: 0 };
-    let Some(mut index) = begin(alloc, &mut markers)? else {
+    let Some(mut index) = begin(alloc, &mut markers, out)? else {
         return Ok(None);
     };
     let mut last = 0;
@@ -220,7 +230,7 @@ fn put_leaf(leaf: &Leaf, out: &mut Answer) {
 
 // `plan_hints`: the lists of a plan's leaves, each with the number of the block in which it is to be opened behind an id.
 fn put_hints(alloc: Global, words: &[Vec<u8>], out: &mut Answer) -> Result<(), NoMemory> {
-    match filled(alloc, rest(words, 2))? {
+    match filled(alloc, rest(words, 2), out)? {
         Some(index) => put_hints_over(alloc, &index, number_at(words, 0), word(words, 1), out),
         None => Ok(()),
     }

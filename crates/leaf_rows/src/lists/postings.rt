@@ -3,7 +3,9 @@ ghost use Rattle.std.specs.Prelude.{◌≡◌, ◌<◌, IfSome, IsSome};
 ghost use Rattle.inverted_list.specs.Listing.{hit_of};
 ghost use Rattle.inverted_list.specs.Places.{IsSound};
 
-use super::numbers::{number, number_at, numbers_of, put_found, put_marker, put_number};
+use super::numbers::{
+    number, number_at, numbers_of, put_found, put_marker, put_number, put_numbers,
+};
 use crate::answer::Answer;
 use crate::arguments::rest;
 use ft_base::{NoMemory, Steps};
@@ -15,50 +17,40 @@ use std::sync::ledger::{Blank, Ledger};
 
 /// Writes the answer of a call, and tells whether it is of this file.
 pub fn put(alloc: Global, call: &str, words: &[Vec<u8>], out: &mut Answer) -> bool {
-    let done = match call {
+    match call {
         "push_places" => put_pushed(alloc, words, out),
         "take_places" => put_taken(alloc, words, out),
         "walk" => put_walk(alloc, words, out),
-        "take_markers" => {
-            put_markers(number_at(words, 0), number_at(words, 1), out);
-            Ok(())
-        }
+        "take_markers" => put_markers(number_at(words, 0), number_at(words, 1), out),
         _ => return false,
-    };
-    out.note(done);
+    }
     true
 }
 
 // How many places there are, and their codes.
-fn put_pushed(alloc: Global, words: &[Vec<u8>], out: &mut Answer) -> Result<(), NoMemory> {
+fn put_pushed(alloc: Global, words: &[Vec<u8>], out: &mut Answer) {
     let mut places = ListOfPlaces::new(alloc);
     for word in words {
-        places.push(number(word.as_slice()))?;
+        out.note(places.push(number(word.as_slice())));
     }
     out.put_count(places.len());
-    put_codes(places.as_slice(), out);
-    Ok(())
+    put_numbers(places.as_slice(), out);
 }
 
 // Places that were taken over.
-fn put_taken(alloc: Global, words: &[Vec<u8>], out: &mut Answer) -> Result<(), NoMemory> {
-    let codes = numbers_of(alloc, words)?;
-    put_codes(ListOfPlaces::from_vec(codes).as_slice(), out);
-    Ok(())
-}
-
-fn put_codes(codes: &[u64], out: &mut Answer) {
-    for code in codes {
-        put_found(Some(*code), out);
-    }
+fn put_taken(alloc: Global, words: &[Vec<u8>], out: &mut Answer) {
+    let codes = numbers_of(alloc, words, out);
+    put_numbers(ListOfPlaces::from_vec(codes).as_slice(), out);
 }
 
 // In the list of some ids, each with its negative, the place behind one number, and what a seek from another finds.
-fn put_walk(alloc: Global, words: &[Vec<u8>], out: &mut Answer) -> Result<(), NoMemory> {
-    let ids = numbers_of(alloc, rest(words, 2))?;
-    let list = list_of(alloc, ids.as_slice())?;
-    put_between(&list, number_at(words, 0), number_at(words, 1), out);
-    Ok(())
+fn put_walk(alloc: Global, words: &[Vec<u8>], out: &mut Answer) {
+    let ids = numbers_of(alloc, rest(words, 2), out);
+    let (after, from) = (number_at(words, 0), number_at(words, 1));
+    match list_of(alloc, ids.as_slice()) {
+        Ok(list) => put_between(&list, after, from, out),
+        Err(_) => out.fail(),
+    }
 }
 
 fn put_between(list: &List<NumHit>, after: u64, from: u64, out: &mut Answer) {
@@ -111,7 +103,7 @@ fn put_value(list: &List<NumHit>, id: u64, out: &mut Answer)
     out.put(b" with ");
     match list.hit(id) {
         Ok(hit) => out.put_int(hit.value),
-        Err(fault) => out.note(Err(fault)),
+        Err(_) => out.fail(),
     }
 }
 

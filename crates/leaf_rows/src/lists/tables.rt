@@ -8,7 +8,7 @@
 ghost use Rattle.std.specs.Prelude.{◌≡◌, ◌<◌, Some};
 ghost use Rattle.std.specs.Option.{option_map};
 
-use super::numbers::{number, parted, put_found, put_truth};
+use super::numbers::{number, parted, put_found, put_numbers, put_truth};
 use crate::answer::Answer;
 use crate::arguments::{count_of, number_of};
 use doc_table::{DocTable, SortingVector};
@@ -30,12 +30,11 @@ pub fn put(alloc: Global, call: &str, words: &[Vec<u8>], out: &mut Answer) -> bo
     if call != "table" {
         return false;
     }
-    let done = put_steps(alloc, words, out);
-    out.note(done);
+    put_steps(alloc, words, out);
     true
 }
 
-fn put_steps(alloc: Global, words: &[Vec<u8>], out: &mut Answer) -> Result<(), NoMemory> {
+fn put_steps(alloc: Global, words: &[Vec<u8>], out: &mut Answer) {
     let mut documents = Documents {
         table: DocTable::new(alloc),
         last: 0,
@@ -44,45 +43,25 @@ fn put_steps(alloc: Global, words: &[Vec<u8>], out: &mut Answer) -> Result<(), N
     // Where the number before was found: one walk goes through all that are asked for.
     let mut near = 0;
     for word in words {
-        step(alloc, word.as_slice(), &mut documents, &mut near, out)?;
+        step(alloc, word.as_slice(), &mut documents, &mut near, out);
     }
-    Ok(())
 }
 
-fn step(
-    alloc: Global,
-    word: &[u8],
-    documents: &mut Documents,
-    near: &mut usize,
-    out: &mut Answer,
-) -> Result<(), NoMemory> {
+fn step(alloc: Global, word: &[u8], documents: &mut Documents, near: &mut usize, out: &mut Answer) {
     let (verb, rest) = parted(word);
-    let verb = std::str::from_utf8(verb).unwrap_or("");
-    change(alloc, documents, verb, rest, out)?;
-    ask(&documents.table, verb, rest, near, out)
-}
-
-fn change(
-    alloc: Global,
-    documents: &mut Documents,
-    verb: &str,
-    rest: &[u8],
-    out: &mut Answer,
-) -> Result<(), NoMemory> {
     let (id, numbers) = parted(rest);
-    let id = number(id);
+    let (verb, id) = (std::str::from_utf8(verb).unwrap_or(""), number(id));
     match verb {
         "put" => {
-            prepare(alloc, documents, id, numbers)?;
+            out.note(prepare(alloc, documents, id, numbers));
             commit(documents);
         }
-        "wait" => prepare(alloc, documents, id, numbers)?,
+        "wait" => out.note(prepare(alloc, documents, id, numbers)),
         "commit" => commit(documents),
         "compact" => compact(documents),
         "kill" => put_truth(documents.table.kill(id), out),
-        _ => {}
+        _ => ask(&documents.table, verb, id, count_of(numbers), near, out),
     }
-    Ok(())
 }
 
 fn prepare(
@@ -127,35 +106,23 @@ fn compact(documents: &mut Documents) {
     documents.table.compact();
 }
 
-fn ask(
-    table: &DocTable,
-    verb: &str,
-    rest: &[u8],
-    near: &mut usize,
-    out: &mut Answer,
-) -> Result<(), NoMemory> {
-    let (id, place) = parted(rest);
-    let id = number(id);
+fn ask(table: &DocTable, verb: &str, id: u64, place: usize, near: &mut usize, out: &mut Answer) {
     match verb {
         "live" => put_truth(table.is_live(id), out),
-        "number" => put_number_near(table, id, count_of(place), near, out),
+        "number" => {
+            out.put(b" ");
+            out.put_number(table.number_near(id, place, near));
+        }
         "next" => put_found(table.next_live(id), out),
-        "ids" => put_ids(table, out)?,
+        "ids" => put_ids(table, out),
         _ => {}
     }
-    Ok(())
 }
 
-fn put_number_near(table: &DocTable, id: u64, place: usize, near: &mut usize, out: &mut Answer) {
-    out.put(b" ");
-    out.put_number(table.number_near(id, place, near));
-}
-
-fn put_ids(table: &DocTable, out: &mut Answer) -> Result<(), NoMemory> {
+fn put_ids(table: &DocTable, out: &mut Answer) {
     put_found(Some(table.len() as u64), out);
-    let ids = table.live_ids()?;
-    for id in ids.as_slice() {
-        put_found(Some(*id), out);
+    match table.live_ids() {
+        Ok(ids) => put_numbers(ids.as_slice(), out),
+        Err(_) => out.fail(),
     }
-    Ok(())
 }

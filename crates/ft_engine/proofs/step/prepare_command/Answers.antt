@@ -2,8 +2,8 @@ use Rattle.std.proofs.Common.{subst, sym}
 use Rattle.cmd_parse.specs.Aggregating.{aggregate_of}
 use Rattle.cmd_parse.specs.Reading.{command_of}
 use Rattle.cmd_parse.specs.declared.command.Command.{Command}
-use Rattle.index_commands.proofs.ExactLaws.{reads-all}
-use Rattle.index_commands.specs.Exactness.{ReadsFew}
+use Rattle.ft_engine.proofs.ExactLaws.{reads-all}
+use Rattle.ft_engine.specs.Exactness.{ReadsFew}
 use Rattle.ft_engine.proofs.step.prepare_command.Goals as goal
 
 pub returns-in-Aggregate-clause-reads : goal.returns-in-Aggregate-clause-reads

@@ -1,5 +1,0 @@
-use Rattle.index_commands.proofs.aggregation.answer_parsed.Given as goal
-
--- the steps are counted in a ledger of their own
-abbrev pub ghosts-rows_in : goal.ghosts-rows_in
-ghosts-rows_in a = record { name = a.blank.name; parts = a.blank.parts }

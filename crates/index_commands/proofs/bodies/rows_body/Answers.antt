@@ -1,6 +1,0 @@
-use Rattle.std.proofs.Common.{arith}
-use Rattle.std.proofs.lemmas.Grind.{common_steps}
-use Rattle.index_commands.proofs.bodies.rows_body.Goals as goal
-
-pub returns-clause-body : goal.returns-clause-body
-returns-clause-body c = grind (arith, common_steps)

@@ -1,6 +1,0 @@
-use Rattle.index_commands.proofs.IndexCommandLaws.{names-fit}
-use Rattle.indexed_store.specs.DefinitionsOf.{definitions_of}
-use Rattle.index_commands.proofs.index_reads.names_of_indexes.Goals as goal
-
-pub returns-clause-fits : goal.returns-clause-fits
-returns-clause-fits c = names-fit (definitions_of c.args.indexes.now) c.in_ok-names.names c.in_ok-names.ensures

@@ -1,5 +1,0 @@
-use Rattle.std.proofs.Common.{refl}
-use Rattle.index_commands.proofs.info_tree.push_fields.Goals as goal
-
-pub returns-clause-pushed : goal.returns-clause-pushed
-returns-clause-pushed c = simp (c.in_ok-push_pair.ensures, c.in_ok-fields.ensures.reply, c.as_slice.ensures) refl

@@ -1,5 +1,0 @@
-use Rattle.index_commands.proofs.part.read_found.Given as goal
-
--- the steps are counted in a ledger of their own
-abbrev pub ghosts-next_rows : goal.ghosts-next_rows
-ghosts-next_rows a = record { name = a.blank.name; parts = a.blank.parts }

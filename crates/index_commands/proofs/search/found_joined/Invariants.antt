@@ -1,5 +1,0 @@
-use Rattle.index_commands.proofs.search.found_joined.Given as goal
-
--- the steps are counted in a ledger of their own
-abbrev pub ghosts-found_in : goal.ghosts-found_in
-ghosts-found_in a = record { name = a.blank.name; parts = a.blank.parts }

@@ -1,6 +1,0 @@
-use Rattle.std.proofs.Common.{arith}
-use Rattle.std.proofs.lemmas.Grind.{common_steps}
-use Rattle.index_commands.proofs.tag_walk.tag_values.Goals as goal
-
-pub walking-preserved : goal.walking-preserved
-walking-preserved c = grind (arith, common_steps)

@@ -1,5 +1,0 @@
-pub mod Exactness
-pub mod Found
-pub mod Parts
-pub mod Reading
-pub mod Told
