@@ -1,5 +1,5 @@
 //! The words that name parts and reducers of FT.AGGREGATE, read in any case.
-ghost use Rattle.std.specs.Prelude.{◌≡◌, List, ℕ};
+ghost use Rattle.std.specs.Prelude.{◌≡◌};
 ghost use Rattle.cmd_parse.specs.AggregateNames.{is_reducer_left_out, part_of, reducer_name, reducer_of};
 
 use crate::option_names::is_left_out;

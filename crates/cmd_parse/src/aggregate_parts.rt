@@ -11,7 +11,7 @@ use crate::aggregate_words::{CursorSpec, cursor};
 use crate::option_words::dialect;
 use crate::options::is_at_end;
 use crate::params::params;
-use crate::reading::{fault, first, number};
+use crate::reading::{fault, number};
 use crate::stop::{Cause, Stop};
 use agg_pipeline::{Load, Step};
 use ft_base::{ListOf, Param, Words};
@@ -67,7 +67,7 @@ fn part<'a>(alloc: Global, parts: &mut Parts, words: &Words<'a>) -> Result<Words
     ensures read { Gives (λ x. (parts.new, x)) result (part_at parts.old words.now) }
     ensures shorter { IfOk result (λ x. length x < length words.now) }
 {
-    let Some((word, rest)) = first(words) else {
+    let Some((word, rest)) = words.split_first() else {
         return Err(fault(Cause::Syntax, words));
     };
     let name = part_of(word);

@@ -1,15 +1,15 @@
 //! The words of LOAD and of each step of FT.AGGREGATE, with one reader for each of
 //! `specs/AggregateSteps.antt`.
-ghost use Rattle.std.specs.Prelude.{◌≡◌, ◌<◌, ◌≤◌, ◌++◌, ◌∷◌, [], length, IfOk, None};
+ghost use Rattle.std.specs.Prelude.{◌≡◌, ◌<◌, ◌≤◌, ◌++◌, ◌∷◌, length, IfOk, None};
 ghost use Rattle.std.specs.Option.{option_copied};
-ghost use Rattle.cmd_parse.specs.AggregateSteps.{apply_at, argument_at, argument_with, cell_at, direction_before, group_at, is_count, is_no_reduce, is_star, keep_at, key_at, keys_up_to, kind_at, limit_at, load_at, max_at, reduce_at, reducer_at, reducers_at, sorted_at, step_at, usual_name};
+ghost use Rattle.cmd_parse.specs.AggregateSteps.{apply_at, argument_at, argument_with, cell_at, direction_before, group_at, is_count, is_no_reduce, keep_at, key_at, keys_up_to, kind_at, limit_at, load_at, max_at, reduce_at, reducer_at, reducers_at, sorted_at, step_at, usual_name};
 ghost use Rattle.cmd_parse.specs.Gives.{Gives};
 ghost use Rattle.cmd_parse.specs.Words.{word_at};
 
 use crate::aggregate_names::{NameForm, StepName, reducer_name, reducer_of};
 use crate::aggregate_words::{are_behind, count, counted_names, expression, name_behind_as, named};
 use crate::option_words::{direction, window};
-use crate::reading::{fault, first, number, word};
+use crate::reading::{fault, number, word};
 use crate::stop::{Cause, Stop};
 use agg_pipeline::{Load, ReduceKind, Reducer, SortKey, Step};
 use ft_base::{Bytes, ListOf, NoMemory, Words, is_name};
@@ -21,7 +21,7 @@ pub fn load<'a>(alloc: Global, words: &Words<'a>) -> Result<(Load, Words<'a>), S
     ensures read { Gives (λ x. x) result (load_at words.now) }
     ensures shorter { IfOk result (λ x. length x.1 < length words.now) }
 {
-    let Some((word, rest)) = first(words) else {
+    let Some((word, rest)) = words.split_first() else {
         return Err(fault(Cause::Syntax, words));
     };
     if is_name(word, b"*") {
@@ -83,7 +83,7 @@ fn reducers<'a>(alloc: Global, words: &Words<'a>) -> Result<(ListOf<Reducer>, Wo
 fn is_no_reduce(words: &Words<'_>) -> bool
     ensures { result ≡ is_no_reduce words.now }
 {
-    match first(words) {
+    match words.split_first() {
         Some((word, _)) => !is_name(word, b"REDUCE"),
         None => true,
     }
@@ -99,7 +99,7 @@ fn reducer<'a>(
     ensures read { Gives (λ x. (list.new, x)) result (reducer_at list.old words.now) }
     ensures shorter { IfOk result (λ x. length x < length words.now) }
 {
-    let Some((_, behind)) = first(words) else {
+    let Some((_, behind)) = words.split_first() else {
         return Err(fault(Cause::Syntax, words));
     };
     let (reducer, rest) = match reduce(alloc, &behind) {
@@ -136,7 +136,7 @@ fn kind<'a>(words: &Words<'a>) -> Result<(ReduceKind, Words<'a>), Stop>
     ensures read { Gives (λ x. x) result (kind_at words.now) }
     ensures shorter { IfOk result (λ x. length x.1 < length words.now) }
 {
-    let Some((word, rest)) = first(words) else {
+    let Some((word, rest)) = words.split_first() else {
         return Err(fault(Cause::Syntax, words));
     };
     match reducer_of(word) {
@@ -193,7 +193,7 @@ fn cell<'a>(
     ensures read { Gives (λ x. x) result (cell_at kind (option_copied property.entry) words.now) }
     ensures within { IfOk result (λ x. length x.1 ≤ length words.now) }
 {
-    match first(words) {
+    match words.split_first() {
         Some((found, behind)) if is_name(found, b"AS") => named_cell(alloc, &behind),
         _ => Ok((usual_name(alloc, kind, property)?, words.rest(0))),
     }
@@ -318,7 +318,7 @@ fn max<'a>(words: &Words<'a>) -> Result<(Option<u64>, Words<'a>), Stop>
     ensures read { Gives (λ x. x) result (max_at words.now) }
     ensures within { IfOk result (λ x. length x.1 ≤ length words.now) }
 {
-    match first(words) {
+    match words.split_first() {
         Some((word, behind)) if is_name(word, b"MAX") => match number(&behind) {
             Ok((max, rest)) => Ok((Some(max as u64), rest)),
             Err(stop) => Err(stop),

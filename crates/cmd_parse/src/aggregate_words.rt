@@ -1,13 +1,12 @@
 //! The words of properties, expressions and cursors in FT.AGGREGATE, with one reader for each of
 //! `specs/AggregateWords.antt`.
-ghost use Rattle.std.specs.Prelude.{◌≡◌, ◌≢◌, ◌<◌, ◌≤◌, ◌++◌, ◌∷◌, [], length, nat_le, Err, IfOk};
+ghost use Rattle.std.specs.Prelude.{◌≡◌, ◌≢◌, ◌<◌, ◌≤◌, [], length, Err, IfOk};
 ghost use Rattle.cmd_parse.specs.AggregateWords.{are_behind, as_at, bare_name, count_at, counted_names, cursor_at, expression_at, expression_stop, limited_at, name_at, name_of, named_at, names_up_to, number_or, property_name, some_name};
 ghost use Rattle.cmd_parse.specs.Gives.{Gives, IsSeen};
-ghost use Rattle.cmd_parse.specs.Options.{is_as};
 ghost use Rattle.cmd_parse.specs.declared.stop.Stop.TheVariants.{NoMemory};
 
 use crate::aggregate_names::NameForm;
-use crate::reading::{fault, first, number, word};
+use crate::reading::{fault, number, word};
 use crate::stop::{Cause, Stop};
 use expr_eval::{Expr, ExprFault, parse_expr};
 use ft_base::{Bytes, ListOf, Words, is_name};
@@ -75,7 +74,7 @@ pub fn named<'a>(form: NameForm, words: &Words<'a>) -> Result<(&'a [u8], Words<'
     ensures read { Gives (λ x. (x.0.now, x.1)) result (named_at form words.now) }
     ensures shorter { IfOk result (λ x. length x.1 < length words.now) }
 {
-    let Some((word, rest)) = first(words) else {
+    let Some((word, rest)) = words.split_first() else {
         return Err(fault(Cause::Syntax, words));
     };
     match name_of(form, word) {
@@ -167,7 +166,7 @@ pub fn expression<'a>(alloc: Global, words: &Words<'a>) -> Result<(Expr, Words<'
     ensures read { Gives (λ x. x) result (expression_at words.now) }
     ensures shorter { IfOk result (λ x. length x.1 < length words.now) }
 {
-    let Some((text, rest)) = first(words) else {
+    let Some((text, rest)) = words.split_first() else {
         return Err(fault(Cause::Syntax, words));
     };
     match parse_expr(alloc, text) {
@@ -191,7 +190,7 @@ pub fn name_behind_as<'a>(words: &Words<'a>) -> Result<(&'a [u8], Words<'a>), St
     ensures read { Gives (λ x. (x.0.now, x.1)) result (as_at words.now) }
     ensures shorter { IfOk result (λ x. length x.1 < length words.now) }
 {
-    let Some((found, rest)) = first(words) else {
+    let Some((found, rest)) = words.split_first() else {
         return Err(fault(Cause::Syntax, words));
     };
     if !is_name(found, b"AS") {
@@ -229,7 +228,7 @@ fn number_or<'a>(
     ensures limit { IfOk result (λ x. x.0 ≤ most) }
     ensures within { IfOk result (λ x. length x.1 ≤ length words.now) }
 {
-    match first(words) {
+    match words.split_first() {
         Some((word, rest)) if is_name(word, name) => limited(most, &rest),
         _ => Ok((other, words.rest(0))),
     }

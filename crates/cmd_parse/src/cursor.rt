@@ -12,7 +12,7 @@ ghost use Rattle.ft_base.specs.declared.limits.TheConstants.{MAX_WORDS};
 use crate::aggregate_words::{MAX_COUNT, limited};
 use crate::command::{CmdFault, Command};
 use crate::options::is_at_end;
-use crate::reading::{fault, first, number};
+use crate::reading::{fault, number};
 use crate::search::placed;
 use crate::stop::{Cause, Stop};
 use ft_base::{Words, is_name};
@@ -105,7 +105,7 @@ fn rows<'a>(words: &Words<'a>) -> Result<(Option<u32>, Words<'a>), Stop>
     ensures read { Gives (λ x. x) result (rows_at words.now) }
     ensures memory { result ≢ Err NoMemory }
 {
-    match first(words) {
+    match words.split_first() {
         Some((word, rest)) if is_name(word, b"COUNT") => {
             let (count, behind) = match limited(MAX_COUNT, &rest) {
                 Ok(read) => read,

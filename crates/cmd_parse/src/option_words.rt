@@ -1,6 +1,6 @@
 //! The words behind an option's name, with one reader for each of `specs/Options.antt` and of
 //! `specs/Filters.antt`.
-ghost use Rattle.std.specs.Prelude.{◌≡◌, ◌<◌, ◌≤◌, ◌+◌, ◌∷◌, [], nat_le, length, drop, IfOk, IfSome};
+ghost use Rattle.std.specs.Prelude.{◌≡◌, ◌<◌, ◌≤◌, ◌+◌, [], nat_le, length, IfOk, IfSome};
 ghost use Rattle.std.specs.List.{position_from};
 ghost use Rattle.cmd_parse.specs.Filters.{end_of, end_at, filter_at};
 ghost use Rattle.cmd_parse.specs.Gives.{Gives};
@@ -8,7 +8,7 @@ ghost use Rattle.cmd_parse.specs.Options.{dialect_at, direction_at, is_as, keys_
 ghost use Rattle.cmd_parse.specs.Seen.{filter_of, sort_of};
 ghost use Rattle.ft_base.specs.declared.limits.TheConstants.{MAX_WORDS};
 
-use crate::reading::{counted, fault, first, number, word};
+use crate::reading::{counted, fault, number, word};
 use crate::stop::{Cause, Stop};
 use field_text::{Bound, interval, read_bound};
 use ft_base::{Words, is_name};
@@ -116,7 +116,7 @@ fn end<'a>(words: &Words<'a>) -> Result<((bool, Bound), Words<'a>), Stop>
     ensures read { Gives (λ x. x) result (end_at words.now) }
     ensures shorter { IfOk result (λ x. length x.1 < length words.now) }
 {
-    let Some((word, rest)) = first(words) else {
+    let Some((word, rest)) = words.split_first() else {
         return Err(fault(Cause::Syntax, words));
     };
     match end_of(word) {
@@ -162,7 +162,7 @@ pub fn direction<'a>(words: &Words<'a>) -> (bool, Words<'a>)
     ensures read { result ≡ direction_at words.now }
     ensures within { length result.1 ≤ length words.now }
 {
-    match first(words) {
+    match words.split_first() {
         Some((word, rest)) if is_name(word, b"ASC") => (false, rest),
         Some((word, rest)) if is_name(word, b"DESC") => (true, rest),
         _ => (false, words.rest(0)),

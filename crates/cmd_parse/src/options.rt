@@ -1,5 +1,5 @@
 //! The options of FT.SEARCH one after another, with one reader for each of `specs/Search.antt`.
-ghost use Rattle.std.specs.Prelude.{◌≡◌, ◌<◌, ◌≤◌, ◌∷◌, length, true, Err, IfOk};
+ghost use Rattle.std.specs.Prelude.{◌≡◌, ◌<◌, ◌≤◌, length, true, Err, IfOk};
 ghost use Rattle.cmd_parse.specs.Gives.{Gives};
 ghost use Rattle.cmd_parse.specs.Given.{is_given, nothing_given};
 ghost use Rattle.cmd_parse.specs.Search.{in_keys_at, is_at_end, limit_at, option_at, option_with, options_at, return_at, sort_by_at, timeout_at, with_dialect_at, with_filter_at, with_params_at};
@@ -10,7 +10,7 @@ ghost use Rattle.ft_base.specs.declared.limits.TheConstants.{MAX_WORDS};
 use crate::option_names::{SearchOption, option_of};
 use crate::option_words::{FilterSpec, SortSpec, dialect, filter, keys, names, sort, window};
 use crate::params::params;
-use crate::reading::{fault, first, number};
+use crate::reading::{fault, number};
 use crate::stop::{Cause, Stop};
 use ft_base::{ListOf, Param, Words};
 use std::alloc::Global;
@@ -86,7 +86,7 @@ fn option<'a>(
         (option_at total (given_of given.old) words.now) }
     ensures shorter { IfOk result (λ x. length x < length words.now) }
 {
-    let Some((word, rest)) = first(words) else {
+    let Some((word, rest)) = words.split_first() else {
         return Err(fault(Cause::Syntax, words));
     };
     let option = option_of(word);

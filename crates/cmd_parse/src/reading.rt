@@ -1,6 +1,6 @@
 //! Readers over words, one for each reader of `specs/Words.antt`: what was read and the words after
 //! it, or why reading stops.
-ghost use Rattle.std.specs.Prelude.{◌≡◌, ◌≢◌, ◌<◌, ◌≤◌, ◌+◌, ◌^◌, ◌∷◌, [], length, Err, IfOk, MatchOption};
+ghost use Rattle.std.specs.Prelude.{◌≡◌, ◌≢◌, ◌<◌, ◌+◌, ◌^◌, length, Err, IfOk};
 ghost use Rattle.cmd_parse.specs.Gives.{Gives};
 ghost use Rattle.cmd_parse.specs.Words.{word_at, number_at, counted_at};
 ghost use Rattle.cmd_parse.specs.declared.stop.Stop.TheVariants.{Fault, NoMemory};
@@ -18,22 +18,12 @@ pub fn fault(cause: Cause, words: &Words<'_>) -> Stop
     }
 }
 
-/// The first word and those behind it.
-pub fn first<'a>(words: &Words<'a>) -> Option<(&'a [u8], Words<'a>)>
-    ensures { MatchOption result (words.now ≡ []) (λ x. words.now ≡ x.0.now ∷ x.1) }
-{
-    if words.len() == 0 {
-        return None;
-    }
-    Some((words.word(0), words.rest(1)))
-}
-
 /// The next word.
 pub fn word<'a>(words: &Words<'a>) -> Result<(&'a [u8], Words<'a>), Stop>
     ensures read { Gives (λ x. (x.0.now, x.1)) result (word_at words.now) }
     ensures shorter { IfOk result (λ x. length x.1 < length words.now) }
 {
-    match first(words) {
+    match words.split_first() {
         Some(found) => Ok(found),
         None => Err(fault(Cause::Syntax, words)),
     }
@@ -47,7 +37,7 @@ pub fn number<'a>(words: &Words<'a>) -> Result<(usize, Words<'a>), Stop>
     ensures bits { IfOk result (λ x. x.0 < 2 ^ 63) }
     ensures shorter { IfOk result (λ x. length x.1 < length words.now) }
 {
-    let Some((word, rest)) = first(words) else {
+    let Some((word, rest)) = words.split_first() else {
         return Err(fault(Cause::Syntax, words));
     };
     let Some(number) = read_int(word) else {

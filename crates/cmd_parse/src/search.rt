@@ -1,6 +1,6 @@
 //! What FT.SEARCH asks: an index, a query, and which of the documents found are shown, and how.
-ghost use Rattle.std.specs.Prelude.{◌≡◌, ◌≢◌, ◌<◌, ◌≤◌, ◌^◌, length, Err, Ok, IfOk, MatchResult, unwrap_or};
-ghost use Rattle.cmd_parse.specs.Searching.{fault_at, first_ten, names_none, placed, search, searching_of};
+ghost use Rattle.std.specs.Prelude.{◌≡◌, ◌≢◌, ◌<◌, ◌≤◌, ◌^◌, length, Err, Ok, MatchResult, unwrap_or};
+ghost use Rattle.cmd_parse.specs.Searching.{fault_at, names_none, placed, search, searching_of};
 ghost use Rattle.cmd_parse.specs.Seen.{given_of, search_of};
 ghost use Rattle.cmd_parse.specs.declared.command.CmdFault.TheVariants.{NoMemory};
 ghost use Rattle.ft_base.specs.declared.limits.TheConstants.{MAX_WORDS};

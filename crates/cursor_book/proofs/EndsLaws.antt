@@ -1,7 +1,5 @@
 -- A moment up to which no cursor is idle.
-use Rattle.std.proofs.Common.{◌≡◌, ℕ, zero, suc, ◌+◌, ◌-◌, ◌≤◌, ◌<◌, true, false, not, List, [], ◌∷◌, ◌++◌, length, get_or, take, refl, sym, ap, subst, ◌∙◌, add-one, arith}
-use Rattle.std.specs.Prelude.{filter, nat_lt}
-use Rattle.std.specs.List.{AllByRecursion}
+use Rattle.std.proofs.Common.{◌≡◌, ℕ, zero, suc, ◌+◌, ◌-◌, ◌≤◌, ◌<◌, true, not, List, [], ◌∷◌, length, get_or, take, ap, subst, add-one, arith}
 use Rattle.std.proofs.lemmas.Bool.{le-ltb}
 use Rattle.cursor_book.specs.declared.cursor.Cursor.{Cursor}
 use Rattle.cursor_book.specs.Cursors.{is_live, live}

@@ -1,17 +1,17 @@
 -- The cursors of each index together: what is done to the shelf of an index is done to all cursors.
-use Rattle.std.proofs.Common.{◌≡◌, ℕ, ◌+◌, ◌≤◌, ◌<◌, Bool, true, false, not, ◌&&◌, List, [], ◌∷◌, ◌++◌, map, length, Option, Some, None, refl, sym, ap, subst, ◌∙◌, inl, inr, arith}
-use Rattle.std.specs.Prelude.{filter, nat_eq, nat_lt}
+use Rattle.std.proofs.Common.{◌≡◌, ℕ, ◌+◌, ◌≤◌, ◌<◌, Bool, true, false, not, ◌&&◌, List, [], ◌∷◌, ◌++◌, map, length, refl, sym, ap, subst, ◌∙◌, inl, inr}
+use Rattle.std.specs.Prelude.{filter, nat_eq}
 use Rattle.std.specs.List.{AllByRecursion, find}
-use Rattle.std.proofs.lemmas.Bool.{cases_Bool, eq-eqb, eqb-false, eqb-true, le-ltb, ne_eqb}
+use Rattle.std.proofs.lemmas.Bool.{cases_Bool, eq-eqb, eqb-false, eqb-true, ne_eqb}
 use Rattle.std.proofs.lemmas.List.{append_assoc, append-nil, map-append}
 use Rattle.std.proofs.lemmas.List.Elements.{filter-append}
 use Rattle.cursor_book.specs.declared.cursor.Cursor.{Cursor}
 use Rattle.cursor_book.specs.declared.cursor.Taken.{Taken}
-use Rattle.cursor_book.specs.Cursors.{IdsRise, cursor_of, cursor_read, cursors_of, has_id, is_cursor, is_idle, is_live, is_of, live, read, read_one, without, without_index}
-use Rattle.cursor_book.specs.Ends.{AllEndFrom, EndsFrom}
-use Rattle.cursor_book.specs.Shelved.{AreShelved, Shelved, all_of, by_id, changed, cursors_in, delete_in, has_serial, kept, pushed, read_if_id, read_in, shelf_of}
+use Rattle.cursor_book.specs.Cursors.{IdsRise, cursor_of, cursors_of, has_id, is_cursor, is_live, is_of, live, read, read_one, without, without_index}
+use Rattle.cursor_book.specs.Ends.{AllEndFrom}
+use Rattle.cursor_book.specs.Shelved.{AreShelved, Shelved, all_of, by_id, changed, delete_in, has_serial, kept, pushed, read_if_id, read_in, shelf_of}
 use Rattle.cursor_book.proofs.EndsLaws.{none-idle}
-use Rattle.cursor_book.proofs.EachLaws.{each-append, each-filter, each-left, each-map, each-right, each-weaker, filter-all, filter-filter, filter-none, filter-same, find-filter, map-none, map-same}
+use Rattle.cursor_book.proofs.EachLaws.{each-append, each-filter, each-left, each-map, each-right, each-weaker, filter-all, filter-none, filter-same, find-filter, map-none, map-same}
 use Rattle.cursor_book.proofs.RisingLaws.{rise-append, rise-filter, rise-map}
 use Rattle.cursor_book.proofs.OrderLaws.{each-from-order, each-in-order, filter-by-id, find-by-id, last-behind, length-by-id, map-by-id, placed-last}
 

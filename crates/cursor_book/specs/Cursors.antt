@@ -1,5 +1,5 @@
 -- The cursors that are open, as a list in rising order of ids, and what each call makes of it (RediSearch, FT.CURSOR).
-use Rattle.std.specs.Prelude.{ℕ, ◌-◌, ◌<◌, ◌&&◌, ⊤, Bool, not, nat_eq, nat_lt, List, [], ◌∷◌, drop, filter, length, map, Option, if◌then◌else◌}
+use Rattle.std.specs.Prelude.{ℕ, ◌-◌, ◌<◌, ◌&&◌, ⊤, Bool, not, nat_eq, nat_lt, List, [], ◌∷◌, drop, filter, map, Option, if◌then◌else◌}
 use Rattle.std.specs.List.{AllByRecursion, find}
 use Rattle.cursor_book.specs.declared.cursor.Cursor.{Cursor}
 use Rattle.cursor_book.specs.declared.cursor.Body.{Body}

@@ -20,9 +20,10 @@ use Rattle.ft_machine.specs.Machine.{Outcome, State, answered, at_moment, wantin
 use Rattle.ft_machine.specs.Opening.{aggregate_gives, most_cursors, new_cursor, opened, opened_by}
 use Rattle.ft_machine.specs.Parts.{Part, last_id, part_of, part_reply}
 use Rattle.ft_machine.specs.Step.{Answers, last_number, outcomes, read_gives, words_give}
+use Rattle.ft_machine.proofs.DeterminedLaws.{as-fault}
 use Rattle.query_grammar.specs.Answer.{Answers as Told, IsFault, IsMeaning}
 use Rattle.query_grammar.specs.declared.fault.QueryFault.{QueryFault}
-use Rattle.query_grammar.specs.declared.fault.QueryFault.TheVariants.{Syntax, UnknownField, WrongKind, NoParam, TooDeep, OutOfScope, NoMemory}
+use Rattle.query_grammar.specs.declared.fault.QueryFault.TheVariants.{NoMemory}
 use Rattle.query_lex.specs.Lexemes.{lexemes}
 use Rattle.query_lex.specs.declared.fault.LexFault.{LexFault}
 use Rattle.query_lex.specs.declared.lexeme.Lexeme.{Lexeme}
@@ -42,18 +43,6 @@ use Rattle.cursor_law.proofs.StepLaws.{left-by, moment-sound, shows}
 pub record Laws : Type 0 where
   pub tree : (def : IndexDef) (params : List Param) (ts : List Lexeme) (q r : Query) → IsMeaning def params ts q → IsMeaning def params ts r → q ≡ r
   pub never_both : (def : IndexDef) (params : List Param) (end : ℕ) (ts : List Lexeme) (q : Query) (f : QueryFault) → IsMeaning def params ts q → IsFault def params end ts f → ⊥
-
-abbrev IsKnown : QueryFault → Type 0
-IsKnown f = let answer : Result Query QueryFault = Err f in answer ≢ Err NoMemory
-
-as-fault : (def : IndexDef) (params : List Param) (end : ℕ) (ts : List Lexeme) (f : QueryFault) → IsKnown f → Told def params end (Ok ts) (Err f) → IsFault def params end ts f
-as-fault def params end ts (Syntax at) known told = told
-as-fault def params end ts (UnknownField at) known told = told
-as-fault def params end ts (WrongKind at) known told = told
-as-fault def params end ts (NoParam at) known told = told
-as-fault def params end ts (TooDeep at) known told = told
-as-fault def params end ts (OutOfScope at) known told = told
-as-fault def params end ts NoMemory known told = absurd (known refl)
 
 -- a text that is a query is no other, and has no fault
 one-told : Laws → (def : IndexDef) (params : List Param) (end : ℕ) (lexed : Result (List Lexeme) LexFault) (answer : Result Query QueryFault) (q : Query)

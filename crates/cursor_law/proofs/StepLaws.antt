@@ -7,7 +7,7 @@ use Rattle.std.proofs.lemmas.Slice.Eq.{bytes_eq-Decides}
 use Rattle.cmd_parse.specs.Asked.{Asked, Plain, CreateIndex, AlterIndex, Search, Aggregate, CursorRead, CursorDel}
 use Rattle.cmd_parse.specs.Read.{read}
 use Rattle.cmd_parse.specs.declared.command.CmdFault.{CmdFault}
-use Rattle.cursor_book.specs.Cursors.{cursor_of, is_cursor, is_live, live, without}
+use Rattle.cursor_book.specs.Cursors.{cursor_of, is_cursor, without}
 use Rattle.cursor_book.specs.declared.cursor.Cursor.{Cursor}
 use Rattle.ft_base.proofs.SpellingLaws.{spelling-Fault}
 use Rattle.ft_base.specs.Memory.{out_of_memory, want_of_memory}

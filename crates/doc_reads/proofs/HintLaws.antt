@@ -1,13 +1,12 @@
 -- Hints that fit the leaves of an iterator are open in their lists.
-use Rattle.std.proofs.Common.{◌≡◌, ℕ, List, [], ◌∷◌, sym, subst}
+use Rattle.std.proofs.Common.{ℕ, List, [], ◌∷◌, sym, subst}
 use Rattle.std.specs.List.{AllByRecursion}
 use Rattle.std.proofs.lemmas.List.Elements.{All-from_recursion}
-use Rattle.id_iters.specs.Fitting.{HintsFit, IsOpenAt}
+use Rattle.id_iters.specs.Fitting.{AreOpenBehind, HintsFit, IsOpenAt}
 use Rattle.id_iters.specs.Held.{Held}
 use Rattle.id_iters.specs.declared.hint.Hint.{Hint}
 use Rattle.id_iters.specs.declared.leaf.Leaf.{Leaf}
 use Rattle.id_iters.specs.declared.list_name.ListName.{ListName}
-use Rattle.doc_reads.specs.Ids.{AreOpenBehind}
 
 module _ (held : Held) (after : ℕ) where
   each-open : (leaves : List Leaf) (hints : List Hint) → HintsFit held after leaves hints → AllByRecursion (λ (hint : Hint). IsOpenAt held hint.list after hint.place) hints

@@ -16,7 +16,8 @@ use Rattle.ft_base.specs.Docs.{Doc}
 use Rattle.ft_machine.specs.Counted.{num_or_null}
 use Rattle.ft_meaning.specs.Holds.{field_number, value_number}
 use Rattle.ft_meaning.specs.Sortable.{keeps_number, number_at}
-use Rattle.doc_reads.specs.Ids.{AreNumbered, reads_to_sort, sort_field}
+use Rattle.doc_reads.specs.Ids.{AreNumbered}
+use Rattle.doc_reads.specs.Pages.{reads_to_sort, sort_field}
 use Rattle.doc_reads.specs.Shapes.{AreSeen, IsShapeOf, column_for, column_named, key_for, key_of_field, key_seen, value_seen}
 use Rattle.doc_reads.specs.declared.shape.Shape.{Shape}
 use Rattle.doc_reads.specs.declared.shape.SortKey.{SortKey}

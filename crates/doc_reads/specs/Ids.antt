@@ -1,21 +1,12 @@
--- What the ids of a set find among documents, what has to be known of these, and how many of them are read.
-use Rattle.std.specs.Prelude.{◌≡◌, ◌+◌, ℕ, ℤ, min, nat_eq, not, Bool, true, false, List, filter, find, Option, None, Some, IsSome, ◌-◌, ◌==◌, if◌then◌else◌}
-use Rattle.std.specs.List.{All}
-use Rattle.std.specs.Str.{bytes_eq}
-use Rattle.cmd_parse.specs.Options.{Sort}
-use Rattle.cmd_parse.specs.Searching.{Searching}
-use Rattle.ft_base.specs.declared.definition.Field.{Field}
+-- What the ids of a set find among documents, and what has to be known of these.
+use Rattle.std.specs.Prelude.{◌≡◌, ◌+◌, ℕ, ℤ, nat_eq, Bool, true, List, filter, find, Option, Some, IsSome}
 use Rattle.ft_base.specs.declared.definition.IndexDef.{IndexDef}
 use Rattle.ft_base.specs.Docs.{Doc}
-use Rattle.ft_base.specs.declared.reply.Reply.{Reply}
-use Rattle.ft_machine.specs.Counted.{in_order, is_among}
-use Rattle.ft_machine.specs.Shown.{found_reply}
-use Rattle.ft_meaning.specs.Sortable.{keeps_number, number_at, sorting_vector}
-use Rattle.id_iters.specs.Fitting.{IsOpenAt}
+use Rattle.ft_machine.specs.Counted.{is_among}
+use Rattle.ft_meaning.specs.Sortable.{number_at, sorting_vector}
 use Rattle.id_iters.specs.Held.{AreLists, Held}
 use Rattle.id_iters.specs.Ready.{Ready}
 use Rattle.id_iters.specs.Sets.{in_set}
-use Rattle.id_iters.specs.declared.hint.Hint.{Hint}
 use Rattle.id_iters.specs.declared.iter.Iter.{Iter}
 
 -- the documents whose ids a set has
@@ -56,28 +47,3 @@ pub record IsAskable (held : Held) (iter : Iter) (after : ℕ) : Type 0 where
 pub record IsWalkable (held : Held) (iter : Iter) (after : ℕ) (docs : List Doc) : Type 0 where
   pub asked : IsAskable held iter after
   pub known : AreKnown (in_set held iter) docs
-
--- what a search answers where these documents count
-abbrev pub answer_over : Searching → IndexDef → List Doc → Reply
-answer_over what def docs = found_reply what def (in_order what.sort def docs)
-
--- the field that a search is sorted by
-abbrev pub sort_field : Option Sort → IndexDef → Option Field
-sort_field None def = None
-sort_field (Some sort) def = find (λ (field : Field). bytes_eq sort.field field.alias) def.fields
-
--- whether documents are read to be sorted: by a field whose numbers the index does not keep
-abbrev pub reads_to_sort : Option Field → Bool
-reads_to_sort None = false
-reads_to_sort (Some field) = not (keeps_number field)
-
--- How many documents are read where so many count. Where they are read to be sorted, each is read once, unless none is shown;
--- else only those that are shown with their fields.
-abbrev pub reads_for : Searching → IndexDef → ℕ → ℕ
-reads_for what def count =
-    if reads_to_sort (sort_field what.sort def) then (if what.num == 0 then 0 else count)
-    else (if what.no_content then 0 else min what.num (count - what.offset))
-
--- each hint is a place that is opened in its list behind the ids up to `after`
-abbrev pub AreOpenBehind : Held → ℕ → List Hint → Type 0
-AreOpenBehind held after hints = All (λ (hint : Hint). IsOpenAt held hint.list after hint.place) hints

@@ -1,6 +1,6 @@
 //! The places that a read of a stream ends at, for the read that goes on from there.
 ghost use Rattle.std.specs.Prelude.{◌≡◌, ◌≤◌, []};
-ghost use Rattle.doc_reads.specs.Ids.{AreOpenBehind};
+ghost use Rattle.id_iters.specs.Fitting.{AreOpenBehind};
 
 use ft_base::{ListOf, Steps};
 use id_iters::{Hints, Iter, Lists};

@@ -1,12 +1,12 @@
 //! A read of a stream: the rows of the next documents that an iterator finds.
 ghost use Rattle.std.specs.Prelude.{◌≡◌, ◌≤◌, ◌+◌, ◌++◌, [], length, option_to_list, IfOk, IfSome, IsSome, OnOk};
-ghost use Rattle.std.specs.List.{filter_map};
 ghost use Rattle.std.specs.Option.{ForSome};
-ghost use Rattle.ft_machine.specs.Parts.{last_id, stream_row, stream_taken};
+ghost use Rattle.ft_machine.specs.Parts.{last_id, stream_row, stream_rows, stream_taken};
 ghost use Rattle.hash_store.specs.Store.{reads_after};
+ghost use Rattle.id_iters.specs.Fitting.{AreOpenBehind};
 ghost use Rattle.id_iters.specs.Least.{IsLeast};
 ghost use Rattle.id_iters.specs.Sets.{about, in_set};
-ghost use Rattle.doc_reads.specs.Ids.{AreOpenBehind, IsAskable, IsWalkable, doc_at, docs_found};
+ghost use Rattle.doc_reads.specs.Ids.{IsAskable, IsWalkable, doc_at, docs_found};
 
 use crate::facts::tell;
 use crate::hints::hints_behind;
@@ -41,7 +41,7 @@ pub fn read_stream<T: Lists, L: Ledger>(
     counter: &mut Steps<L>,
 ) -> Result<StreamRead, NoMemory>
     requires walkable { IsWalkable (T.held lists.now) iter after store.old.space }
-    ensures rows { IfOk result (λ read. read.rows.items ≡ filter_map (stream_row def.now steps.now)
+    ensures rows { IfOk result (λ read. read.rows.items ≡ stream_rows def.now steps.now
         (stream_taken def.now steps.now after count (docs_found (T.held lists.now) iter store.old.space))) }
     ensures after { IfOk result (λ read. read.after ≡ last_id after
         (stream_taken def.now steps.now after count (docs_found (T.held lists.now) iter store.old.space))) }
@@ -96,7 +96,7 @@ fn take_docs<T: Lists, L: Ledger>(
 ) -> Result<u64, NoMemory>
     requires walkable { IsWalkable (T.held lists.now) iter.old after store.old.space }
     requires none { rows.old.items ≡ [] }
-    ensures rows { OnOk result (rows.new.items ≡ filter_map (stream_row def.now steps.now)
+    ensures rows { OnOk result (rows.new.items ≡ stream_rows def.now steps.now
         (stream_taken def.now steps.now after count (docs_found (T.held lists.now) iter.old store.old.space))) }
     ensures after { IfOk result (λ last. last ≡ last_id after
         (stream_taken def.now steps.now after count (docs_found (T.held lists.now) iter.old store.old.space))) }

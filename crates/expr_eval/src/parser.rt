@@ -1,10 +1,10 @@
 //! The tree of an expression's text, read from the left.
 
-ghost use Rattle.std.specs.Prelude.{◌≡◌, ◌<◌, length, ℕ, List, ◌≤◌, ◌-◌, IfOk, IfSome, suc, [], Some, Ok};
+ghost use Rattle.std.specs.Prelude.{◌≡◌, ◌<◌, length, ◌≤◌, ◌-◌, IfOk, IfSome, suc, [], Some, Ok};
 ghost use Rattle.expr_eval.specs.declared.tree.Expr.TheVariants.{Binary, Prop, Text};
 ghost use Rattle.expr_eval.specs.Grammar.{IsExpr, operand, joins, compares, Chained, Negation, Comparison, Signed, Item};
 ghost use Rattle.expr_eval.specs.Answer.{Answers, Answered, IsAnswer, IsTree, place};
-ghost use Rattle.expr_eval.specs.Tokens.{kinds, tokens_of};
+ghost use Rattle.expr_eval.specs.Tokens.{kinds};
 ghost use Rattle.expr_eval.specs.declared.tree.Expr.{Expr};
 ghost use Rattle.expr_eval.specs.Reading.{whole_at, Gives, GivesSign, Whole, sort_at, deeper, sign_at, others_at, closed_at, group_at, parens_at, call_at, compared_at, sum_at};
 

@@ -12,7 +12,7 @@ use Rattle.ft_base.specs.declared.reply.Reply.{Reply}
 use Rattle.ft_base.specs.declared.reply.Reply.TheVariants.{Fault}
 use Rattle.ft_index.specs.Index.{Index}
 use Rattle.ft_machine.proofs.Stepping.{gives, wants}
-use Rattle.ft_machine.specs.Answering.{IsAnswered, queried}
+use Rattle.ft_machine.specs.Answering.{IsOutcomeOf, queried}
 use Rattle.ft_machine.specs.Definitions.{Defined, index_of}
 use Rattle.ft_machine.specs.Indexes.{unknown_index}
 use Rattle.ft_machine.specs.Machine.{Outcome, State, answered}
@@ -64,7 +64,7 @@ module _ (what : Queried) (number : ℕ) (state : State) (is : IsQuery what numb
       (is.gives outcome (subst (λ (i : Option Defined). Given i outcome) (sym (named indexes state what.name None same none)) refl)) said refl
 
   -- an index is there, and this is given by the query's text in it
-  queries-index : (index : Index) (outcome : Outcome) → Found index → IsAnswered index.def what.params what.query (what.outcome number state index.def) state outcome → given what.asks number state outcome
+  queries-index : (index : Index) (outcome : Outcome) → Found index → IsOutcomeOf index.def what.params what.query (what.outcome number state index.def) state outcome → given what.asks number state outcome
   queries-index index outcome there answer =
       is.gives outcome (subst (λ (i : Option Defined). Given i outcome) (sym (named indexes state what.name (Some index) same there)) answer)
 

@@ -27,7 +27,8 @@ use Rattle.indexed_store.specs.Named.{is_named}
 use Rattle.indexed_store.specs.Standing.{IndexStands, InStep, markers_at}
 use Rattle.ft_engine.specs.Exactness.{Shows}
 use Rattle.ft_engine.specs.Reading.{AreReadable, IsReadable}
-use Rattle.doc_reads.specs.Ids.{docs_of, reads_for}
+use Rattle.doc_reads.specs.Ids.{docs_of}
+use Rattle.doc_reads.specs.Pages.{reads_for}
 use Rattle.ft_engine.proofs.AnsweringLaws.{IsQuery, Queried}
 
 -- a search, as a command that has a query

@@ -15,14 +15,13 @@ use Rattle.ft_base.specs.declared.reply.Reply.TheVariants.{Fault}
 use Rattle.ft_index.specs.Index.{Index}
 use Rattle.ft_base.specs.Words.{first}
 use Rattle.ft_machine.specs.Aggregating.{aggregate_rows, rows_reply}
-use Rattle.ft_machine.specs.Counted.{in_order}
 use Rattle.ft_machine.specs.Info.{info_reply}
-use Rattle.ft_machine.specs.Shown.{found_reply}
+use Rattle.ft_machine.specs.Searching.{counted_reply}
 use Rattle.ft_machine.specs.declared.counts.Counts.{Counts}
 use Rattle.hash_store.specs.Store.{reads_after}
 use Rattle.ft_index.specs.Records.{all_entries}
 use Rattle.indexed_store.specs.Named.{is_named}
-use Rattle.doc_reads.specs.Ids.{reads_for}
+use Rattle.doc_reads.specs.Pages.{reads_for}
 
 -- a refusal is written, or out of memory
 abbrev pub IsRefusal : List ℕ → Type 0
@@ -30,7 +29,7 @@ IsRefusal written = (text : List ℕ) × (written ≡ spelling (Fault text))
 
 -- A reply shows the documents that count, and fits the wire; as many were read as are told of a search that counts so many.
 pub record Shows (what : Searching) (def : IndexDef) (found : List Doc) (old new : ℕ) (reply : Reply) : Type 0 where
-  pub shown : reply ≡ found_reply what def (in_order what.sort def found)
+  pub shown : reply ≡ counted_reply what def found
   pub fits : IsTrue (fits_wire reply)
   pub reads : new ≡ reads_after old (reads_for what def (length found))
 
@@ -39,7 +38,7 @@ pub record ReadsShown (what : Searching) (written : List ℕ) (old new : ℕ) : 
   pub def : IndexDef
   -- the documents that count
   pub found : List Doc
-  pub shown : written ≡ spelling (found_reply what def (in_order what.sort def found))
+  pub shown : written ≡ spelling (counted_reply what def found)
   pub reads : new ≡ reads_after old (reads_for what def (length found))
 
 -- A search has read just what it shows, or what it must read to sort; where it is refused, nothing.

@@ -1,4 +1,5 @@
--- What a command needs of an index to read its documents, what it tells of those that it finds, and what it leaves of the store.
+-- How a command that changes nothing is answered. What one of indexes needs of an index to read its documents, what it tells of
+-- those that it finds, and what it leaves of the store.
 use Rattle.std.specs.Prelude.{◌≡◌, ◌<◌, ◌≤◌, ◌^◌, ◌⊎◌, ℕ, List, All, length, None, IsTrue}
 use Rattle.cmd_parse.specs.Aggregating.{Aggregating}
 use Rattle.cmd_parse.specs.Asked.{Asked}
@@ -24,6 +25,21 @@ use Rattle.indexed_store.specs.DefinitionsOf.{definitions_of}
 use Rattle.indexed_store.specs.Holding.{Holding, state_of}
 use Rattle.indexed_store.specs.Standing.{InStep}
 use Rattle.doc_reads.specs.Ids.{docs_of}
+
+-- A reply is written, or memory ran out.
+abbrev pub IsReplied : Reply → List ℕ → Type 0
+IsReplied reply written = (written ≡ spelling reply) ⊎ (written ≡ spelling out_of_memory)
+
+-- A command that changes nothing is answered over documents and indexes, whatever the number of its event.
+abbrev pub IsAnsweredOver : Asked → List Doc → List Index → List ℕ → Type 0
+IsAnsweredOver asks space indexes written =
+    (number : ℕ) (state : State) → state.space ≡ space → state.definitions ≡ definitions_of indexes → Does asks number state written state
+
+-- The same over all that is held, in the next event.
+abbrev pub IsAnswered : Asked → Holding → List ℕ → Type 0
+IsAnswered asks held written = Does asks held.next (state_of held) written (state_of held)
+
+-- ---- what is needed of an index
 
 -- a text is no longer than a word may be
 abbrev pub IsWord : List ℕ → Type 0
@@ -70,18 +86,3 @@ ShowsCounted what query def old new = Shows what def (counted what query def old
 -- the same of a query that its FILTERs have joined already
 abbrev pub ShowsNamed : Searching → Query → IndexDef → Store → Store → Reply → Type 0
 ShowsNamed what query def old new = Shows what def (docs_of what.keys (found_of query def old.space)) old.reads new.reads
-
--- ---- how a command is answered
-
--- A reply is written, or memory ran out.
-abbrev pub IsReplied : Reply → List ℕ → Type 0
-IsReplied reply written = (written ≡ spelling reply) ⊎ (written ≡ spelling out_of_memory)
-
--- A command that changes nothing is answered over documents and indexes, whatever the number of its event.
-abbrev pub IsAnsweredOver : Asked → List Doc → List Index → List ℕ → Type 0
-IsAnsweredOver asks space indexes written =
-    (number : ℕ) (state : State) → state.space ≡ space → state.definitions ≡ definitions_of indexes → Does asks number state written state
-
--- The same over all that is held, in the next event.
-abbrev pub IsAnswered : Asked → Holding → List ℕ → Type 0
-IsAnswered asks held written = Does asks held.next (state_of held) written (state_of held)

@@ -1,13 +1,11 @@
 //! The commands of the connection, which read nothing: PING, ECHO, SELECT and QUIT.
-ghost use Rattle.std.specs.Prelude.{◌≡◌, ◌≤◌, ◌⊎◌};
+ghost use Rattle.std.specs.Prelude.{◌≤◌};
 ghost use Rattle.cmd_parse.specs.Asked.{Plain};
 ghost use Rattle.cmd_parse.specs.Lawful.{Lawful};
-ghost use Rattle.ft_base.specs.Memory.{out_of_memory};
-ghost use Rattle.ft_base.specs.Reply.{spelling};
-ghost use Rattle.ft_base.specs.declared.reply.Reply.TheVariants.{Bulk};
 ghost use Rattle.ft_engine.specs.Kinds.{IsConnection};
 ghost use Rattle.ft_engine.specs.Reading.{IsAnswered};
 ghost use Rattle.indexed_store.specs.Preparing.{OnlyReads};
+ghost use Rattle.reply_buffer.specs.Written.{IsEchoed};
 
 use cmd_parse::Verb;
 use ft_base::Words;
@@ -39,8 +37,7 @@ pub fn answer_connection(
 
 /// Answers with a message as it came.
 fn answer_message(held: &IndexedStore, message: &[u8], reply: &mut ReplyBuffer)
-    ensures bytes { (reply.new.bytes ≡ spelling (Bulk message.now))
-        ⊎ (reply.new.bytes ≡ spelling out_of_memory) }
+    ensures bytes { IsEchoed message.now reply.new.bytes }
     ensures room { reply.old.room ≤ reply.new.room }
 {
     reply.set_message(held.alloc, message);

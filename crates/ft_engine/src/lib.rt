@@ -3,7 +3,8 @@
 //! The crate `ft_machine` says what a command does over plain lists. `Engine` stands for a state of that machine, and
 //! `exec` takes its step: it reads the words, gives what they ask to the call that does it, and commits what that
 //! prepared. Over it `history_core::run` makes legal histories (`machine.rt`, `laws.rt`). Read `specs/Stands.antt`
-//! first, then `engine.rt`, `step.rt`, `plain.rt` and `searching.rt`.
+//! first, then `engine.rt`, `step.rt`, `plain.rt` and `searching.rt`. The commands of the connection are in
+//! `connection.rt`, those of hashes and keys in `hashes`, those of indexes in `indexes`.
 #![tactic(auto)]
 
 mod connection;

@@ -1,11 +1,11 @@
 //! The plain commands, each given to the call that does it.
 ghost use Rattle.std.specs.Prelude.{◌≡◌, ◌≤◌, ◌<◌, None};
+ghost use Rattle.cmd_parse.specs.Asked.{Plain};
 ghost use Rattle.cmd_parse.specs.Asking.{AreWords};
 ghost use Rattle.cmd_parse.specs.Lawful.{Lawful};
-ghost use Rattle.cmd_parse.specs.Asked.{Plain};
-ghost use Rattle.ft_engine.specs.Quiet.{ChangesNothing};
 ghost use Rattle.ft_machine.specs.Step.{last_number};
 ghost use Rattle.ft_engine.specs.Exactness.{TellsExactly};
+ghost use Rattle.ft_engine.specs.Quiet.{ChangesNothing};
 ghost use Rattle.ft_engine.specs.Reading.{IsAnswered};
 ghost use Rattle.indexed_store.specs.Preparing.{OnlyReads, Prepares};
 
@@ -49,14 +49,14 @@ pub fn prepare_plain<'a>(
         Verb::Flushall => flush(held, args, reply),
         Verb::DropIndex => drop_named(held, args, reply),
         _ => {
-            answer(held, verb, args, reply);
+            answer_plain(held, verb, args, reply);
             Change::Nothing
         }
     }
 }
 
 /// Answers a plain command that changes nothing, and writes the reply.
-fn answer(held: &mut IndexedStore, verb: Verb, args: &Words<'_>, reply: &mut ReplyBuffer)
+fn answer_plain(held: &mut IndexedStore, verb: Verb, args: &Words<'_>, reply: &mut ReplyBuffer)
     requires read { ChangesNothing verb }
     requires number { held.old.next < last_number }
     requires lawful { Lawful verb args.now }

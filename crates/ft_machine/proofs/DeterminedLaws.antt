@@ -1,14 +1,13 @@
 -- A command that is answered so leads to one state, and has one reply where memory did not run out.
-use Rattle.std.specs.Prelude.{◌≡◌, ◌≢◌, ◌<◌, ◌⊎◌, ◌+ℤ◌, ℕ, ℤ, nat_le, length, List, [], ◌∷◌, ◌++◌, Bool, true, false, Option, None, Some, Result, Ok, Err, drop, is_some, slice_index_or, map, refl, if◌then◌else◌, codes}
+use Rattle.std.specs.Prelude.{◌≡◌, ◌≢◌, ◌<◌, ◌⊎◌, ◌+ℤ◌, ℕ, ℤ, nat_le, length, List, [], ◌∷◌, ◌++◌, Bool, true, false, Option, None, Some, Result, Ok, Err, drop, is_some, slice_index_or, refl, if◌then◌else◌, codes}
 use denote.Hole.Carrier.{out}
-use Rattle.std.specs.Fmt.{decimal}
 use Rattle.std.proofs.Common.{sym, ap, subst, ◌∙◌, inl, inr, arith}
 use Rattle.ft_base.proofs.SpellingLaws.{spelling-Fault, spelling-Line, spelling-Number}
 use Rattle.ft_base.specs.Memory.{out_of_memory, want_of_memory}
 use Rattle.ft_base.specs.Hash.{get_field}
 use Rattle.ft_base.specs.Number.{int_of, is_i64}
 use Rattle.ft_base.specs.Space.{doc_of}
-use Rattle.ft_base.specs.Reply.{joined, line, spelling, spelling_step}
+use Rattle.ft_base.specs.Reply.{spelling, spelling_step}
 use Rattle.ft_base.specs.declared.reply.Reply.TheFolds.{fold_out-Reply}
 use Rattle.ft_base.specs.declared.reply.Reply.TheViews.{out-Reply}
 use Rattle.ft_base.specs.declared.definition.Field.{Field}
@@ -37,7 +36,7 @@ use Rattle.query_grammar.specs.declared.fault.QueryFault.TheVariants.{Syntax, Un
 use Rattle.ft_schema.specs.Schema.{extended}
 use Rattle.ft_schema.specs.declared.fault.SchemaFault.{SchemaFault}
 use Rattle.ft_base.specs.Words.{first, second, third}
-use Rattle.ft_machine.specs.Answering.{IsAnswered, query_gives, queried}
+use Rattle.ft_machine.specs.Answering.{query_gives, queried}
 use Rattle.ft_machine.specs.Cursors.{cursor_deleted, cursor_read, deleted_of, read_of}
 use Rattle.ft_machine.specs.Definitions.{Defined, index_of}
 use Rattle.ft_machine.specs.Determined.{DifferInRecords}
@@ -210,10 +209,11 @@ pub record Laws : Type 0 where
   pub fault : (def : IndexDef) (params : List Param) (end : ℕ) (ts : List Lexeme) (f g : QueryFault) → IsFault def params end ts f → IsFault def params end ts g → f ≡ g
   pub never_both : (def : IndexDef) (params : List Param) (end : ℕ) (ts : List Lexeme) (q : Query) (f : QueryFault) → IsMeaning def params ts q → IsFault def params end ts f → ⊥
 
-abbrev IsKnown : QueryFault → Type 0
+-- a fault of the text, and not of memory
+abbrev pub IsKnown : QueryFault → Type 0
 IsKnown f = let answer : Result Query QueryFault = Err f in answer ≢ Err NoMemory
 
-as-fault : (def : IndexDef) (params : List Param) (end : ℕ) (ts : List Lexeme) (f : QueryFault) → IsKnown f → Told def params end (Ok ts) (Err f) → IsFault def params end ts f
+pub as-fault : (def : IndexDef) (params : List Param) (end : ℕ) (ts : List Lexeme) (f : QueryFault) → IsKnown f → Told def params end (Ok ts) (Err f) → IsFault def params end ts f
 as-fault def params end ts (Syntax at) known told = told
 as-fault def params end ts (UnknownField at) known told = told
 as-fault def params end ts (WrongKind at) known told = told

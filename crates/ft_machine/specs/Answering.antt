@@ -19,7 +19,7 @@ query_gives given state (Ok query) = given query
 query_gives given state (Err fault) = answered (Fault (query_refusal fault)) state
 
 -- An outcome is that of a query's text, with these parameters, in an index.
-pub record IsAnswered (def : IndexDef) (params : List Param) (query : List ℕ) (given : Query → Outcome) (state : State) (outcome : Outcome) : Type 0 where
+pub record IsOutcomeOf (def : IndexDef) (params : List Param) (query : List ℕ) (given : Query → Outcome) (state : State) (outcome : Outcome) : Type 0 where
   pub answer : Result Query QueryFault
   pub read : answer ≢ Err NoMemory
   pub text : IsAnswer def params query answer
@@ -28,4 +28,4 @@ pub record IsAnswered (def : IndexDef) (params : List Param) (query : List ℕ) 
 -- what may be given, where there is the index or none
 abbrev pub queried : Option Defined → List Param → List ℕ → (IndexDef → Query → Outcome) → State → Outcome → Type 0
 queried None params query given state outcome = just (answered (Fault unknown_index) state) outcome
-queried (Some index) params query given state outcome = IsAnswered index.def params query (given index.def) state outcome
+queried (Some index) params query given state outcome = IsOutcomeOf index.def params query (given index.def) state outcome

@@ -10,7 +10,6 @@ use Rattle.cursor_book.specs.declared.cursor.Taken.{Taken}
 use Rattle.cursor_book.specs.declared.cursor.Taken.TheVariants as taken
 use Rattle.ft_base.specs.declared.definition.IndexDef.{IndexDef}
 use Rattle.ft_base.specs.Docs.{Doc}
-use Rattle.ft_base.specs.declared.query.Query.{Query}
 use Rattle.ft_base.specs.declared.reply.Reply.{Reply}
 use Rattle.ft_base.specs.declared.reply.Reply.TheVariants.{Array, Number}
 use Rattle.ft_base.specs.declared.row.Row.{Row}
@@ -52,6 +51,10 @@ behind id docs = filter (λ (doc : Doc). nat_lt id doc.id) docs
 abbrev pub stream_row : IndexDef → Stream → Doc → Option Row
 stream_row def stream doc = row_made stream.0 stream.1 def doc
 
+-- the rows that it makes of documents
+abbrev pub stream_rows : IndexDef → Stream → List Doc → List Row
+stream_rows def stream docs = filter_map (stream_row def stream) docs
+
 -- the documents that a read of so many rows takes of those that are found
 abbrev pub stream_taken : IndexDef → Stream → ℕ → ℕ → List Doc → List Doc
 stream_taken def stream after n found = docs_taken (stream_row def stream) n (behind after found)
@@ -59,7 +62,7 @@ stream_taken def stream after n found = docs_taken (stream_row def stream) n (be
 -- their rows, and how far it is read
 abbrev pub stream_part : IndexDef → Stream → ℕ → ℕ → List Doc → Part
 stream_part def stream after n docs =
-    part n (filter_map (stream_row def stream) docs) (taken.UpTo (last_id after docs))
+    part n (stream_rows def stream docs) (taken.UpTo (last_id after docs))
 
 -- ---- any cursor
 

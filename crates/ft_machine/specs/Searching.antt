@@ -22,10 +22,14 @@ abbrev pub unless_unknown : Option ℕ → Reply → Reply
 unless_unknown None reply = reply
 unless_unknown (Some at) reply = Fault (unknown_field at)
 
+-- the reply where these documents count: they are shown in the order that SORTBY asks for
+abbrev pub counted_reply : Searching → IndexDef → List Doc → Reply
+counted_reply what def docs = found_reply what def (in_order what.sort def docs)
+
 -- What a query finds is shown. A fault of the query comes before an unknown field.
 abbrev pub search_reply : Searching → List Doc → IndexDef → Query → Reply
 search_reply what docs def query =
-    unless_unknown (first_unknown def.fields what) (found_reply what def (in_order what.sort def (counted what query def docs)))
+    unless_unknown (first_unknown def.fields what) (counted_reply what def (counted what query def docs))
 
 -- what a search may give, where there is the index or none
 abbrev pub searched : Option Defined → Searching → State → Outcome → Type 0

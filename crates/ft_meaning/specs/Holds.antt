@@ -1,5 +1,5 @@
 -- What a query asks of one document (RediSearch, query dialect 2), from its definition and its plain hash alone.
-use Rattle.std.specs.Prelude.{ℕ, ℤ, List, [], ◌∷◌, map, Bool, true, false, ◌&&◌, ◌||◌, not, filter, eqb, int_le, Option, Some, None, slice_get, if◌then◌else◌}
+use Rattle.std.specs.Prelude.{ℕ, ℤ, List, [], map, Bool, true, false, ◌&&◌, not, filter, eqb, int_le, Option, Some, None, slice_get, if◌then◌else◌}
 use Rattle.std.specs.List.{filter_map, list_all, list_any, starts_with}
 use Rattle.std.specs.Str.{bytes_eq}
 use Rattle.ft_base.specs.Hash.{get_field}

@@ -2,7 +2,6 @@
 ghost use Rattle.std.specs.Prelude.{◌≡◌, ◌||◌, ◌++◌, List, ℕ, Ok, IfOk, IfErr, OnOk, bytes_eq};
 ghost use Rattle.std.specs.List.{list_any};
 ghost use Rattle.ft_base.specs.declared.definition.Field.{Field};
-ghost use Rattle.ft_schema.specs.FieldAliases.{field_aliases};
 ghost use Rattle.ft_schema.specs.Fields.{has_alias, text_count};
 ghost use Rattle.ft_schema.specs.Gives.{IsFaultOf};
 ghost use Rattle.ft_schema.specs.Lawful.{IsLawful};

@@ -7,7 +7,7 @@ ghost use Rattle.ft_schema.specs.Fields.{is_past_options, field_options_at, weig
 
 use crate::fault::{Cause, Stop};
 use crate::names::{FieldOption, field_option_of};
-use crate::reading::{fault, first, weight};
+use crate::reading::{fault, weight};
 use ft_base::{FieldKind, Words};
 
 /// The options that were there so far.
@@ -60,7 +60,7 @@ fn no_options() -> FieldOptions
 fn is_past(kind: FieldKind, words: &Words<'_>) -> bool
     ensures { result ≡ is_past_options kind words.now }
 {
-    match first(words) {
+    match words.split_first() {
         Some((word, _)) => field_option_of(kind, word).is_none(),
         None => true,
     }
@@ -76,7 +76,7 @@ fn option<'a>(
     ensures read { Gives (λ x. x) result (field_option_at kind given words.now) }
     ensures shorter { IfOk result (λ x. length x.1 < length words.now) }
 {
-    let Some((word, rest)) = first(words) else {
+    let Some((word, rest)) = words.split_first() else {
         return Err(fault(Cause::BadOption, words));
     };
     let Some(option) = field_option_of(kind, word) else {
@@ -181,7 +181,7 @@ fn separator<'a>(words: &Words<'a>) -> Result<(u8, Words<'a>), Stop>
     ensures read { Gives (λ x. x) result (separator_at words.now) }
     ensures within { IfOk result (λ x. length x.1 ≤ length words.now) }
 {
-    let Some((word, rest)) = first(words) else {
+    let Some((word, rest)) = words.split_first() else {
         return Err(fault(Cause::BadOption, words));
     };
     match word {
@@ -210,7 +210,7 @@ fn sortable<'a>(given: FieldOptions, words: &Words<'a>) -> (FieldOptions, Words<
 fn is_at_unf(words: &Words<'_>) -> bool
     ensures { result ≡ is_at_unf words.now }
 {
-    match first(words) {
+    match words.split_first() {
         Some((word, _)) => word.eq_ignore_ascii_case(b"UNF"),
         None => false,
     }

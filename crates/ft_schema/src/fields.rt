@@ -1,7 +1,7 @@
 //! The fields of a schema, one reader for each of `specs/Fields.antt`.
 ghost use Rattle.std.specs.Prelude.{◌≡◌, ◌<◌, ◌≤◌, [], false, length, Err, None, IfOk, IfSome};
 ghost use Rattle.ft_schema.specs.Gives.{Gives, GivesSome};
-ghost use Rattle.ft_schema.specs.Fields.{has_alias, alias_at, admitted, kind_with, kind_at, kind_admitted};
+ghost use Rattle.ft_schema.specs.Fields.{has_alias, alias_at, admitted, kind_at, kind_admitted};
 ghost use Rattle.ft_base.specs.Reading.{parts_at};
 ghost use Rattle.ft_schema.specs.Fields.{kind_by, field_by, field_at, next_field_at, is_at_end, fields_at};
 
@@ -9,8 +9,8 @@ use crate::fault::{Cause, Stop};
 use crate::field_list::FieldList;
 use crate::field_options::{FieldOptions, options};
 use crate::names::{Kind, kind_of};
-use crate::reading::{fault, first};
-use ft_base::{Bytes, Field, FieldKind, ListOf, NoMemory, Words};
+use crate::reading::fault;
+use ft_base::{Bytes, Field, FieldKind, NoMemory, Words};
 use std::alloc::Global;
 
 /// The fields up to the end of the words, at least one.
@@ -44,7 +44,7 @@ fn fields_behind<'a>(alloc: Global, words: &Words<'a>) -> Result<(FieldList, Wor
 fn is_at_end(words: &Words<'_>) -> bool
     ensures { result ≡ is_at_end words.now }
 {
-    first(words).is_none()
+    words.split_first().is_none()
 }
 
 /// The fields with one more, and the words behind it.
@@ -75,7 +75,7 @@ fn field<'a>(
     ensures new { IfOk result (λ x. has_alias before.now x.0.alias ≡ false) }
     ensures shorter { IfOk result (λ x. length x.1 < length words.now) }
 {
-    let Some((name, rest)) = first(words) else {
+    let Some((name, rest)) = words.split_first() else {
         return Err(fault(Cause::BadOption, words));
     };
     let (alias, rest) = match new_alias(before, words, name, &rest) {
@@ -137,10 +137,10 @@ fn alias<'a>(name: &'a [u8], words: &Words<'a>) -> Option<(&'a [u8], Words<'a>)>
     ensures read { GivesSome (λ x. (x.0.now, x.1)) result (alias_at name.now words.now) }
     ensures within { IfSome result (λ x. length x.1 ≤ length words.now) }
 {
-    match first(words) {
+    match words.split_first() {
         Some((word, rest)) => {
             if word.eq_ignore_ascii_case(b"AS") {
-                first(&rest)
+                rest.split_first()
             } else {
                 Some((name, words.rest(0)))
             }
@@ -174,7 +174,7 @@ fn kind<'a>(words: &Words<'a>) -> Result<(FieldKind, Words<'a>), Stop>
     ensures read { Gives (λ x. x) result (kind_at words.now) }
     ensures shorter { IfOk result (λ x. length x.1 < length words.now) }
 {
-    let Some((word, rest)) = first(words) else {
+    let Some((word, rest)) = words.split_first() else {
         return Err(fault(Cause::BadOption, words));
     };
     match kind_of(word) {

@@ -1,5 +1,5 @@
 //! The options of an index, one reader for each of `specs/Options.antt`.
-ghost use Rattle.std.specs.Prelude.{◌≡◌, ◌<◌, ◌≤◌, ◌∷◌, length, IfOk};
+ghost use Rattle.std.specs.Prelude.{◌≡◌, ◌<◌, ◌≤◌, length, IfOk};
 ghost use Rattle.ft_schema.specs.Gives.{Gives};
 ghost use Rattle.ft_schema.specs.Options.{no_options, has_option, on_at, prefixes_with, prefixes_at, stops_with, stops_at, score_at};
 ghost use Rattle.ft_schema.specs.Options.{option_with, option_at};
@@ -7,7 +7,7 @@ ghost use Rattle.ft_schema.specs.Options.{is_at_schema, options_at};
 
 use crate::fault::{Cause, Stop};
 use crate::names::{IndexOption, index_option_of};
-use crate::reading::{copies, count, fault, first, weight, word};
+use crate::reading::{copies, count, fault, weight, word};
 use ft_base::{Bytes, ListOf, Words};
 use std::alloc::Global;
 
@@ -57,7 +57,7 @@ fn no_options() -> IndexOptions
 fn is_at_schema(words: &Words<'_>) -> bool
     ensures { result ≡ is_at_schema words.now }
 {
-    match first(words) {
+    match words.split_first() {
         Some((word, _)) => word.eq_ignore_ascii_case(b"SCHEMA"),
         None => false,
     }
@@ -73,7 +73,7 @@ fn option<'a>(
     ensures read { Gives (λ x. x) result (option_at given words.now) }
     ensures shorter { IfOk result (λ x. length x.1 < length words.now) }
 {
-    let Some((word, rest)) = first(words) else {
+    let Some((word, rest)) = words.split_first() else {
         return Err(fault(Cause::BadOption, words));
     };
     let option = index_option_of(word);

@@ -1,6 +1,6 @@
 //! Readers over words, one for each reader of `specs/Reading.antt`: what was read and the words after
 //! it, or why reading stops.
-ghost use Rattle.std.specs.Prelude.{◌≡◌, ◌<◌, ◌≤◌, ◌∷◌, [], length, take, map, IfOk, MatchOption};
+ghost use Rattle.std.specs.Prelude.{◌≡◌, ◌<◌, ◌≤◌, length, take, map, IfOk};
 ghost use Rattle.ft_schema.specs.Gives.{Gives};
 ghost use Rattle.ft_schema.specs.declared.fault.Stop.TheVariants.{Fault};
 ghost use Rattle.ft_schema.specs.Reading.{word_at, count_at, weight_at, spelled};
@@ -19,22 +19,12 @@ pub fn fault(cause: Cause, words: &Words<'_>) -> Stop
     }
 }
 
-/// The first word and those behind it.
-pub fn first<'a>(words: &Words<'a>) -> Option<(&'a [u8], Words<'a>)>
-    ensures { MatchOption result (words.now ≡ []) (λ x. words.now ≡ x.0.now ∷ x.1) }
-{
-    if words.len() == 0 {
-        return None;
-    }
-    Some((words.word(0), words.rest(1)))
-}
-
 /// The next word.
 pub fn word<'a>(words: &Words<'a>) -> Result<(&'a [u8], Words<'a>), Stop>
     ensures read { Gives (λ x. (x.0.now, x.1)) result (word_at words.now) }
     ensures shorter { IfOk result (λ x. length x.1 < length words.now) }
 {
-    match first(words) {
+    match words.split_first() {
         Some(found) => Ok(found),
         None => Err(fault(Cause::BadOption, words)),
     }
@@ -47,7 +37,7 @@ pub fn count<'a>(least: usize, words: &Words<'a>) -> Result<(usize, Words<'a>), 
     ensures shorter { IfOk result (λ x. length x.1 < length words.now) }
     ensures within { IfOk result (λ x. x.0 ≤ length x.1) }
 {
-    let Some((word, rest)) = first(words) else {
+    let Some((word, rest)) = words.split_first() else {
         return Err(fault(Cause::BadOption, words));
     };
     let Some(number) = read_int(word) else {
@@ -70,7 +60,7 @@ pub fn weight<'a>(words: &Words<'a>) -> Result<Words<'a>, Stop>
     ensures read { Gives (λ x. x) result (weight_at words.now) }
     ensures shorter { IfOk result (λ x. length x < length words.now) }
 {
-    let Some((word, rest)) = first(words) else {
+    let Some((word, rest)) = words.split_first() else {
         return Err(fault(Cause::BadOption, words));
     };
     if is_weight(word) {

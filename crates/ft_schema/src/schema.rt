@@ -9,7 +9,7 @@ ghost use Rattle.ft_schema.specs.Schema.{fault_at, placed_fault, create, alter};
 use crate::fault::{Cause, SchemaFault, Stop};
 use crate::fields::fields;
 use crate::index_options::{IndexOptions, options};
-use crate::reading::{fault, first};
+use crate::reading::fault;
 use ft_base::{Bytes, Field, IndexDef, ListOf, NoMemory, StopWords, Words};
 use std::alloc::Global;
 
@@ -73,7 +73,7 @@ fn fault_at(cause: Cause, at: u32) -> SchemaFault
 fn index(alloc: Global, serial: u64, words: &Words<'_>) -> Result<IndexDef, Stop>
     ensures { Gives (λ x. x) result (index_at serial words.now) }
 {
-    let Some((name, rest)) = first(words) else {
+    let Some((name, rest)) = words.split_first() else {
         return Err(fault(Cause::BadOption, words));
     };
     match options(alloc, &rest) {
@@ -187,7 +187,7 @@ fn added(alloc: Global, words: &Words<'_>) -> Result<ListOf<Field>, Stop>
 fn keyword<'a>(name: &[u8], words: &Words<'a>) -> Result<Words<'a>, Stop>
     ensures { Gives (λ x. x) result (keyword_at name.now words.now) }
 {
-    match first(words) {
+    match words.split_first() {
         Some((word, rest)) => {
             if word.eq_ignore_ascii_case(name) {
                 Ok(rest)

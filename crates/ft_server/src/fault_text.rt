@@ -1,5 +1,5 @@
 //! What a client is told of a fault of the wire. It takes no memory.
-ghost use Rattle.std.specs.Prelude.{◌≡◌, ◌≤◌, OnOk, OnErr};
+ghost use Rattle.std.specs.Prelude.{◌≡◌, OnOk, OnErr};
 ghost use Rattle.std.specs.Io.KnownBytes.{Appends, Keeps};
 ghost use Rattle.fs_ports.specs.Causes.{HasCause, WritesFront};
 ghost use Rattle.resp_wire.specs.declared.fault.WireFault.TheVariants.{NoDollar};

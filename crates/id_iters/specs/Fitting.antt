@@ -37,6 +37,10 @@ pub record IsOpenAt (held : Held) (list : ListName) (after : ℕ) (place : Place
   pub sound : FitsList held list place
   pub opened : IsOpened held list after place
 
+-- each hint is a place that is opened in its list behind the ids up to `after`
+abbrev pub AreOpenBehind : Held → ℕ → List Hint → Type 0
+AreOpenBehind held after hints = All (λ (hint : Hint). IsOpenAt held hint.list after hint.place) hints
+
 -- A hint fits a leaf: it names the leaf's list, and its place is the one that is opened there behind the ids up to
 -- `after`. So it has the list's marker, `after` is its last id, and it stands where it says.
 pub record FitsLeaf (held : Held) (after : ℕ) (leaf : Leaf) (hint : Hint) : Type 0 where

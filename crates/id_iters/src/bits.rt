@@ -1,5 +1,5 @@
 //! Ids that a union has read ahead, a bit for each.
-ghost use Rattle.std.specs.Prelude.{◌≡◌, ◌<◌, ◌≤◌, ◌+◌, ◌-◌, ◌*◌, ◌/◌, ◌%◌, ◌^◌, ◌&&◌, ◌||◌, ℕ, false, length, nat_eq, nat_le, slice_index, IfSome, OnOk};
+ghost use Rattle.std.specs.Prelude.{◌≡◌, ◌<◌, ◌≤◌, ◌+◌, ◌-◌, ◌*◌, ◌/◌, ◌%◌, ◌^◌, ◌&&◌, ◌||◌, ℕ, false, length, nat_eq, nat_le, IfSome, OnOk};
 ghost use Rattle.doc_table.specs.Pages.{bit_of};
 ghost use Rattle.id_iters.specs.Least.{IsLeast};
 ghost use Rattle.id_iters.specs.Stretch.{base_of, is_in, limit_of};

@@ -2,7 +2,6 @@
 ghost use Rattle.std.specs.Prelude.{◌≡◌, ◌==◌, true, filter, map, IfOk};
 ghost use Rattle.std.specs.List.{All, list_any};
 ghost use Rattle.id_iters.specs.Entries.{field_of, looks_in, place_of, places_in, stand_in, stand_together};
-ghost use Rattle.phrase_match.specs.Phrase.{rises};
 ghost use Rattle.phrase_match.specs.Places.{AllEqualOrApart, AllRise};
 
 use ft_base::{Fields, ListOf, NoMemory};

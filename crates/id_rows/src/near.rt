@@ -4,7 +4,7 @@
 //! mostly goes on to one of the next two rows. Else the row is looked at where the id stands if none is missing in between,
 //! and then rows twice as far each time, of which only those that the last leap passed over are halved. A row that is far
 //! away is searched for as by who knows no place.
-ghost use Rattle.std.specs.Prelude.{◌≡◌, ◌<◌, ◌≤◌, ◌+◌, ◌-◌, ℕ, length};
+ghost use Rattle.std.specs.Prelude.{◌<◌, ◌≤◌, ◌+◌, ◌-◌, ℕ, length};
 ghost use Rattle.id_rows.specs.IdRows.{Rise, place_id, IsPlace};
 
 use crate::places::{id_at, place_of};

@@ -4,7 +4,7 @@
 //! their ids are apart: where no id is missing before it, or none behind it, its place is known at
 //! once. Else the search looks first where it would stand if ids were missing evenly, and halves what
 //! is left after a few steps.
-ghost use Rattle.std.specs.Prelude.{◌≡◌, ◌<◌, ◌≤◌, ◌+◌, ◌-◌, ℕ, length, min};
+ghost use Rattle.std.specs.Prelude.{◌≡◌, ◌<◌, ◌≤◌, ◌+◌, ◌-◌, length, min};
 ghost use Rattle.id_rows.specs.IdRows.{Rise, place_id, IsPlace, IsSpan};
 
 use crate::row::Row;

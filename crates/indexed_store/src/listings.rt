@@ -1,5 +1,5 @@
 //! What is in a whole hash.
-ghost use Rattle.std.specs.Prelude.{◌≡◌, ◌++◌, ◌∷◌, [], length, IfOk, IsTrue, OnOk};
+ghost use Rattle.std.specs.Prelude.{◌≡◌, length, IfOk, IsTrue};
 ghost use Rattle.ft_base.specs.Reply.{fits_wire};
 ghost use Rattle.ft_base.specs.Space.{doc_of};
 ghost use Rattle.ft_base.specs.declared.reply.Reply.TheVariants.{Array, Bulk};

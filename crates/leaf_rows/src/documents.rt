@@ -1,5 +1,5 @@
 //! What a document is to an index, and whether it meets a query.
-ghost use Rattle.std.specs.Prelude.{◌≡◌, IsTrue};
+ghost use Rattle.std.specs.Prelude.{IsTrue};
 ghost use Rattle.ft_meaning.specs.Meaning.{ValuesFit};
 
 use crate::answer::Answer;

@@ -11,23 +11,9 @@ use crate::known::place_of;
 use crate::size::{Planned, add_planned, list_size};
 use crate::sources::{Sources, Wanted};
 use crate::union::some_of;
-use ft_base::{Fields, ListOf, NoMemory, Steps};
+use ft_base::{NoMemory, Steps};
 use id_iters::{Iter, Leaf, ListName, Lists};
-use std::alloc::Global;
 use std::sync::ledger::Ledger;
-
-/// A copy of the fields.
-pub fn copy_of(alloc: Global, fields: &Fields) -> Result<Fields, NoMemory>
-    ensures { IfOk result (λ copy. copy ≡ fields.now) }
-{
-    match fields {
-        Fields::All => Ok(Fields::All),
-        Fields::Named(numbers) => {
-            let copy = Vec::from_slice(alloc, numbers.as_slice())?;
-            Ok(Fields::Named(ListOf::from_vec(copy)))
-        }
-    }
-}
 
 /// The leaf of a list, behind the ids up to the one that the sources name.
 pub fn leaf_of<T: Lists, L: Ledger>(
@@ -57,7 +43,7 @@ pub fn leaf_of<T: Lists, L: Ledger>(
 {
     let hint = place_of(sources.known, &list);
     let place = list.open_at(sources.lists, hint, sources.after, steps);
-    let fields = copy_of(sources.alloc, wanted.fields)?;
+    let fields = wanted.fields.copy(sources.alloc)?;
     Ok(Leaf::new(sources.alloc, list, place, fields, wanted.low, wanted.high))
 }
 

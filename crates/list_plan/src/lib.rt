@@ -14,7 +14,7 @@ mod union;
 /// Places that a reader knows.
 pub use known::{Known, known_places};
 /// Lists that are opened.
-pub use leaves::{copy_of, leaf_of, plan_list, plan_lists};
+pub use leaves::{leaf_of, plan_list, plan_lists};
 /// Parts, and how many ids each has at most.
 pub use size::{Planned, add_planned, word_size};
 /// What a plan is made from.

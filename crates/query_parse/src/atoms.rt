@@ -114,7 +114,7 @@ fn word_part(parser: &Parser<'_>, fields: &Fields, word: &[u8]) -> Result<Option
         return Ok(None);
     }
     let text = Bytes::from_vec(text);
-    let fields = copy_of(parser.alloc, fields)?;
+    let fields = fields.copy(parser.alloc)?;
     Ok(Some(Query::Word { fields, text }))
 }
 
@@ -134,21 +134,8 @@ fn prefix_part(alloc: Global, fields: &Fields, word: &[u8]) -> Result<Option<Que
         option_to_list part ≡ tree.Prefix fields.now (lowered word.now) ∷ []) }
 {
     let text = Bytes::from_vec(word.to_ascii_lowercase(alloc)?);
-    let fields = copy_of(alloc, fields)?;
+    let fields = fields.copy(alloc)?;
     Ok(Some(Query::Prefix { fields, text }))
-}
-
-/// A copy of the fields that are asked.
-pub fn copy_of(alloc: Global, fields: &Fields) -> Result<Fields, NoMemory>
-    ensures { IfOk result (λ copy. copy ≡ fields.now) }
-{
-    match fields {
-        Fields::All => Ok(Fields::All),
-        Fields::Named(numbers) => {
-            let numbers = Vec::from_slice(alloc, numbers.as_slice())?;
-            Ok(Fields::Named(ListOf::from_vec(numbers)))
-        }
-    }
 }
 
 /// The words of a quote.
@@ -184,13 +171,13 @@ fn quoted(alloc: Global, fields: &Fields, words: Vec<Bytes>) -> Result<Option<Qu
         return match words.pop() {
             None => Ok(None),
             Some(text) => {
-                let fields = copy_of(alloc, fields)?;
+                let fields = fields.copy(alloc)?;
                 Ok(Some(Query::Word { fields, text }))
             }
         };
     }
     Ok(Some(Query::Phrase {
-        fields: copy_of(alloc, fields)?,
+        fields: fields.copy(alloc)?,
         words: ListOf::from_vec(words),
         slop: Some(0),
         in_order: true,

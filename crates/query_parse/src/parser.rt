@@ -1,6 +1,6 @@
 //! All that may hold one another: unions, the parts side by side in them, the signs before these,
 //! groups and fields.
-ghost use Rattle.std.specs.Prelude.{◌≡◌, ◌≤◌, ◌<◌, length, IfOk};
+ghost use Rattle.std.specs.Prelude.{◌≤◌, ◌<◌, length, IfOk};
 ghost use Rattle.query_grammar.specs.Grammar.{Atom, Inter, Part, Unary, Union};
 ghost use Rattle.query_grammar.specs.Meaning.{denied, optional};
 ghost use Rattle.query_grammar.specs.Reading.{deeper, field_at, group_at, next_sign, part_target, signed_at, target_with};

@@ -6,7 +6,6 @@ ghost use Rattle.query_grammar.specs.Shape.{same_fields, shape_of, together};
 ghost use Rattle.query_parse.specs.Words.{alike, fields_in, fields_of, is_one, word_in};
 ghost use Rattle.ft_base.specs.declared.query.Query.TheVariants as tree;
 
-use crate::atoms::copy_of;
 use ft_base::{Boxed, Bytes, Fields, ListOf, NoMemory, Query};
 use std::alloc::Global;
 
@@ -172,7 +171,7 @@ fn fields_in(alloc: Global, part: &Query) -> Result<Fields, NoMemory>
     ensures { IfOk result (λ fields. fields ≡ fields_in (shape_of part.now)) }
 {
     match fields_of(part) {
-        Some(fields) => copy_of(alloc, fields),
+        Some(fields) => fields.copy(alloc),
         None => Ok(Fields::All),
     }
 }

@@ -10,7 +10,7 @@ ghost use Rattle.query_plan.specs.Plans.{AllKnown, AllOpen, AlwaysReady, Gains, 
 
 use ft_base::{Bytes, Field, Fields, IndexDef, ListOf, NoMemory, Steps};
 use id_iters::{Iter, Leaf, ListName, Lists, PhraseIter};
-use list_plan::{Planned, Sources, Wanted, copy_of, leaf_of, word_size};
+use list_plan::{Planned, Sources, Wanted, leaf_of, word_size};
 use std::sync::ledger::Ledger;
 
 /// What is asked of a phrase.
@@ -73,7 +73,7 @@ fn phrase_iter<T: Lists, L: Ledger>(
     ensures counts { steps.old ≤ steps.new }
 {
     let words = phrase_leaves(sources, phrase, steps)?;
-    let fields = copy_of(sources.alloc, phrase.fields)?;
+    let fields = phrase.fields.copy(sources.alloc)?;
     Ok(PhraseIter {
         alloc: sources.alloc,
         words,

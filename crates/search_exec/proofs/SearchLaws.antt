@@ -10,8 +10,7 @@ use Rattle.ft_machine.specs.Shown.{found_reply}
 use Rattle.hash_store.specs.Store.{reads_after}
 use Rattle.doc_reads.proofs.KeyLaws.{column-reads, same-reads, sorts-field}
 use Rattle.doc_reads.proofs.ShapeLaws.{order-length, sorted-page, unsorted, unsorted-page}
-use Rattle.doc_reads.specs.Ids.{reads_for}
-use Rattle.doc_reads.specs.Pages.{ordered_by, reads_by, reads_of}
+use Rattle.doc_reads.specs.Pages.{ordered_by, reads_by, reads_for, reads_of}
 use Rattle.doc_reads.specs.Shapes.{IsShapeOf, SortsBy, page_by}
 use Rattle.doc_reads.specs.declared.shape.Shape.{Shape}
 use Rattle.doc_reads.specs.declared.shape.SortKey.{SortKey}

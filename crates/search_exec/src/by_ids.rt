@@ -1,10 +1,7 @@
 //! A search that isn't sorted: its documents in order of their ids. All are counted, and those of the window are shown.
-ghost use Rattle.std.specs.Prelude.{◌≡◌, ◌<◌, ◌≤◌, ◌+◌, ◌^◌, ◌∷◌, ◌++◌, [], ℕ, Some, List, IfOk, IsSome, OnOk, length};
-ghost use Rattle.std.specs.Option.{ForSome};
-ghost use Rattle.ft_base.specs.Docs.{Doc};
+ghost use Rattle.std.specs.Prelude.{◌≡◌, ◌<◌, ◌≤◌, ◌+◌, ◌^◌, [], Some, IfOk, OnOk, length};
 ghost use Rattle.hash_store.specs.Store.{reads_after};
 ghost use Rattle.search_exec.specs.Candidates.{AreWalkable, docs_counted};
-ghost use Rattle.doc_reads.specs.Ids.{doc_at};
 ghost use Rattle.doc_reads.specs.Pages.{Shows, reads_of};
 ghost use Rattle.doc_reads.specs.Shapes.{page_by};
 

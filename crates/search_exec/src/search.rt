@@ -2,10 +2,11 @@
 ghost use Rattle.std.specs.Prelude.{◌≡◌, ◌<◌, ◌≤◌, ◌+◌, ◌^◌, IfOk, IfSome, IsTrue, OnOk, length};
 ghost use Rattle.cmd_parse.specs.Seen.{search_of};
 ghost use Rattle.ft_base.specs.Reply.{fits_wire};
+ghost use Rattle.ft_machine.specs.Searching.{counted_reply};
 ghost use Rattle.hash_store.specs.Store.{reads_after};
 ghost use Rattle.search_exec.specs.Candidates.{in_candidates, AreWalkable, docs_counted};
-ghost use Rattle.doc_reads.specs.Ids.{AreNumbered, FindsNumbered, IsWalkable, answer_over, docs_found, docs_of, reads_for};
-ghost use Rattle.doc_reads.specs.Pages.{ordered_by, reads_by, reads_sorted};
+ghost use Rattle.doc_reads.specs.Ids.{AreNumbered, FindsNumbered, IsWalkable, docs_found, docs_of};
+ghost use Rattle.doc_reads.specs.Pages.{ordered_by, reads_by, reads_for, reads_sorted};
 ghost use Rattle.doc_reads.specs.Shapes.{AreSeen, SortsBy, order_by, page_by};
 
 use crate::by_column::page_by_column;
@@ -35,7 +36,7 @@ pub fn search_reply<T: Lists, L: Ledger>(
     requires walkable { IsWalkable (T.held lists.now) iter 0 store.old.space }
     requires numbered { FindsNumbered (T.held lists.now) iter (T.named lists.now).numbers def.now store.old.space }
     requires sorts { SortsBy def.now.fields (search_of search.now) }
-    ensures reply { IfOk result (λ reply. reply ≡ answer_over (search_of search.now) def.now
+    ensures reply { IfOk result (λ reply. reply ≡ counted_reply (search_of search.now) def.now
         (docs_of (search_of search.now).keys (docs_found (T.held lists.now) iter store.old.space))) }
     ensures fits { IfOk result (λ reply. IsTrue (fits_wire reply)) }
 
@@ -65,7 +66,7 @@ fn reply_of<T: Lists, L: Ledger>(
     requires walkable { AreWalkable (T.held lists.now) candidates.old store.old.space }
     requires numbered { AreNumbered (in_candidates (T.held lists.now) candidates.old) (T.named lists.now).numbers def.now store.old.space }
     requires sorts { SortsBy def.now.fields (search_of search.now) }
-    ensures reply { IfOk result (λ reply. reply ≡ answer_over (search_of search.now) def.now
+    ensures reply { IfOk result (λ reply. reply ≡ counted_reply (search_of search.now) def.now
         (docs_counted (T.held lists.now) candidates.old store.old.space)) }
     ensures fits { IfOk result (λ reply. IsTrue (fits_wire reply)) }
 

@@ -1,6 +1,6 @@
 //! Callers of one server: what one writes or opens another finds, also where the first could not read its reply, and also
 //! from another thread.
-ghost use Rattle.std.specs.Prelude.{◌≡◌, ◌≤◌, vec_capacity};
+ghost use Rattle.std.specs.Prelude.{◌≤◌, vec_capacity};
 ghost use Rattle.ft_server.specs.Passes.{IsOf};
 
 use crate::links::{Faults, NONE, link_of, serve_as, server_of};

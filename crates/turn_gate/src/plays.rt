@@ -2,7 +2,7 @@
 //!
 //! A step sees neither its seat's number nor an argument of its call. So what it has to name of these is picked by each
 //! call, as the ghost members of a type parameter.
-ghost use Rattle.std.specs.Prelude.{◌≡◌, ℕ, List, []};
+ghost use Rattle.std.specs.Prelude.{ℕ, List, []};
 ghost use Rattle.turn_gate.specs.Rule.{Kept};
 ghost use Rattle.turn_gate.specs.Steps.{tried, logged, gave_back, counted, compared, checked};
 ghost use Rattle.turn_gate.specs.Views.{newcomer, not_alone, another, joined, nobody};

@@ -1,9 +1,9 @@
 //! A read of a cursor: the next of the rows that it kept, or those of the next documents that its query finds now.
-ghost use Rattle.std.specs.Prelude.{◌≡◌, ◌<◌, ◌≤◌, ◌∷◌, ◌^◌, [], if◌then◌else◌, pos, filter_map, take, IfOk, IsTrue};
+ghost use Rattle.std.specs.Prelude.{◌≡◌, ◌<◌, ◌≤◌, ◌∷◌, ◌^◌, [], if◌then◌else◌, pos, take, IfOk, IsTrue};
 ghost use Rattle.cursor_book.specs.declared.cursor.Taken.TheVariants as taken;
 ghost use Rattle.ft_base.specs.Reply.{fits_wire};
 ghost use Rattle.ft_base.specs.declared.reply.Reply.TheVariants.{Array, Number};
-ghost use Rattle.ft_machine.specs.Parts.{Part, last_id, part, part_of, stream_part, stream_row, stream_taken};
+ghost use Rattle.ft_machine.specs.Parts.{Part, last_id, part, part_of, stream_part, stream_rows, stream_taken};
 ghost use Rattle.ft_meaning.specs.Holds.{found_of};
 ghost use Rattle.ft_engine.specs.Parts.{IsRead, IsTold};
 ghost use Rattle.ft_engine.specs.Reading.{HandsOut, IsReadable};
@@ -134,7 +134,7 @@ fn next_rows<L: Ledger>(
     requires parts { blank.parts ≡ L.parts }
     requires some { 0 < L.parts }
     requires readable { IsReadable index.now store.old.space }
-    ensures rows { IfOk result (λ read. read.rows.items ≡ filter_map (stream_row index.now.def steps.now)
+    ensures rows { IfOk result (λ read. read.rows.items ≡ stream_rows index.now.def steps.now
         (stream_taken index.now.def steps.now after count (found_of query.now index.now.def store.old.space))) }
     ensures after { IfOk result (λ read. read.after ≡ last_id after
         (stream_taken index.now.def steps.now after count (found_of query.now index.now.def store.old.space))) }

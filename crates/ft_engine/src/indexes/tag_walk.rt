@@ -1,5 +1,5 @@
 //! The walk over the documents of a store, which gathers the tags of their values.
-ghost use Rattle.std.specs.Prelude.{◌≡◌, ◌≤◌, [], length, map, IfOk, OnOk, if◌then◌else◌};
+ghost use Rattle.std.specs.Prelude.{◌≡◌, ◌≤◌, length, map, IfOk, OnOk, if◌then◌else◌};
 ghost use Rattle.ft_base.specs.declared.reply.Reply.TheVariants.{Bulk};
 ghost use Rattle.ft_meaning.specs.Holds.{field_tags};
 ghost use Rattle.ft_meaning.specs.Member.{member};

@@ -5,7 +5,7 @@ use Rattle.ft_base.specs.Docs.{Doc}
 use Rattle.ft_machine.specs.Counted.{in_order}
 use Rattle.ft_machine.specs.Shown.{found_reply}
 use Rattle.hash_store.specs.Store.{reads_after}
-use Rattle.doc_reads.specs.Ids.{reads_for}
+use Rattle.doc_reads.specs.Pages.{reads_for}
 use Rattle.search_exec.proofs.search.search_reply.Goals as goal
 
 pub returns-clause-reply : goal.returns-clause-reply

@@ -1,7 +1,7 @@
 use Rattle.cmd_parse.specs.declared.command.Verb.TheVariants.{Info, ListIndexes, TagVals}
 use Rattle.indexed_store.specs.Holding.{state_of}
 use Rattle.ft_engine.proofs.PlainLaws.{of_verb}
-use Rattle.ft_engine.proofs.plain.answer.Goals as goal
+use Rattle.ft_engine.proofs.plain.answer_plain.Goals as goal
 
 pub returns-in-ListIndexes-clause-does : goal.returns-in-ListIndexes-clause-does
 returns-in-ListIndexes-clause-does c =
