@@ -99,6 +99,7 @@ fn behind_first(reducers: &[Reducer]) -> &[Reducer]
     }
 }
 
+/// Each state takes the row in by its reducer. States behind the last reducer stay.
 fn step_all(
     states: &mut [State],
     def: &IndexDef,
@@ -108,14 +109,10 @@ fn step_all(
 ) -> Result<(), NoMemory>
     ensures { OnOk result (states.new ≡ states_step def.now reduce.now states.old (row_of row.entry)) }
 {
-    let Some((reducer, reducers)) = reduce.split_first() else {
-        return Ok(());
-    };
-    let Some((state, states)) = states.split_first_mut() else {
-        return Ok(());
-    };
-    step_one(state, def, reducer, row, room)?;
-    step_all(states, def, reducers, row, room)
+    for at in 0..reduce.len().min(states.len()) {
+        step_one(&mut states[at], def, &reduce[at], row, room)?;
+    }
+    Ok(())
 }
 
 fn step_one(
