@@ -8,3 +8,4 @@ pub mod OneAnswer
 pub mod Lexing
 pub mod LentLaws
 mod Examples
+pub mod ChainLaws

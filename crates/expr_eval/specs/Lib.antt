@@ -6,3 +6,4 @@ pub mod Values
 pub mod Properties
 pub mod Meaning
 pub mod Lending
+pub mod RightSides

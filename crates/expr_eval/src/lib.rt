@@ -6,6 +6,7 @@
 //! worked out a row at a time, so looking at a value copies nothing.
 #![tactic(auto)]
 
+mod chain;
 mod evaluator;
 mod fault;
 mod functions;

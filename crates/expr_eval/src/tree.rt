@@ -46,19 +46,23 @@ pub enum Expr {
     },
 }
 
-// Written out, it is one step for whoever drops an expression, where a derived one has an arm for each form.
+// Written out, it is one step for whoever drops an expression, where a derived one has an arm for each form. A chain is
+// as deep on its left as it is long, so the left is gone down in a loop: calls nest for right sides and arguments alone,
+// whose depth the levels bound.
 impl Drop for Expr {
-    fn drop(self) {
-        match self {
-            Expr::Num(_) => {}
-            Expr::Text(text) => drop(text),
-            Expr::Prop(name) => drop(name),
-            Expr::Call { func: _, arg } => drop(arg),
-            Expr::Not(arg) => drop(arg),
-            Expr::Neg(arg) => drop(arg),
-            Expr::Binary { op: _, left, right } => {
-                drop(left);
-                drop(right);
+    fn drop(mut self) {
+        'down: loop {
+            match self {
+                Expr::Num(_) => return,
+                Expr::Text(text) => return drop(text),
+                Expr::Prop(name) => return drop(name),
+                Expr::Call { func: _, arg } => return drop(arg),
+                Expr::Not(arg) => return drop(arg),
+                Expr::Neg(arg) => return drop(arg),
+                Expr::Binary { op: _, left, right } => {
+                    drop(right);
+                    self = left.into_inner();
+                }
             }
         }
     }
