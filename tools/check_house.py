@@ -4,9 +4,9 @@
 Of each crate of crates.txt: it stands behind those that it names, and has a README, a `//!` head in its root file, and a
 row of docs/ARCHITECTURE.md with the same first sentence. Of each clause that a README or docs/PROMISES.md names: that the
 named source has it. Of docs/DEFINITIONS.md: that it says to believe just the definitions that the program's clause
-reaches. Of docs/WRONG_BODIES.md: that it is what tools/wrong_bodies.py writes. Of the gate: that it keeps within its
-budget of wrong bodies and proved tests, since each costs it 10 to 40 seconds. Of the sources: the lengths of files and
-functions. Prints the figures, then each fault.
+reaches. Of docs/DECISIONS.md: that its table of what calls itself has just what does. Of docs/WRONG_BODIES.md: that it is
+what tools/wrong_bodies.py writes. Of the gate: that it keeps within its budget of wrong bodies and proved tests, since
+each costs it 10 to 40 seconds. Of the sources: the lengths of files and functions. Prints the figures, then each fault.
 """
 import pathlib
 import re
@@ -185,9 +185,8 @@ def check_budget(sources, faults):
 STARTS = re.compile(r"^(\s*)(?:pub(?:\([a-z]+\))? )?(?:final |const )*fn (\w+)")
 
 
-def functions(text):
-    """Each function of a source that rt fmt laid out, with the lines of its body."""
-    lines = text.split("\n")
+def functions(lines):
+    """Each function of a source that rt fmt laid out: its name, its first line, and where its body begins and ends."""
     for at, line in enumerate(lines):
         found = STARTS.match(line)
         if not found:
@@ -197,7 +196,96 @@ def functions(text):
             opened += 1
         if opened < len(lines) and lines[opened].endswith("{"):
             ends = (end for end in range(opened, len(lines)) if lines[end] == margin + "}")
-            yield found[2], next(ends, opened) - opened - 1
+            yield found[2], at, opened + 1, next(ends, opened + 1)
+
+
+# A cycle of functions has a name, `#[cycle(NAME)]`, without which the check refuses it. A proof has a folder `+NAME` where it
+# shows what gets smaller from call to call; a call of oneself on a part of a value needs none, and is told by its form.
+CYCLE = re.compile(r"#\[cycle\((\w+)\)\]")
+OWNER = re.compile(r"(\s*)(?:pub(?:\([a-z]+\))? )?(impl|trait|mod)\b(.*)")
+TYPE = re.compile(r"^(?:pub(?:\([a-z]+\))? )?(struct|enum|type) (\w+)(.*?)(?:^\}|;$|\{\}$)", re.M | re.S)
+TOLD = re.compile(r"//.*|\"(?:[^\"\\]|\\.)*\"")
+ROW = re.compile(r"`(\w+::[\w-]+)`")
+
+
+def without_text(line):
+    """The line without its comment and its strings."""
+    return TOLD.sub("", line)
+
+
+def types_of(sources):
+    """The types of a crate that contain themselves, by one another too."""
+    parts, aliases = {}, set()
+    for path in sources:
+        code = "\n".join(map(without_text, path.read_text().split("\n")))
+        for kind, name, body in TYPE.findall(code):
+            parts.setdefault(name, set()).update(re.findall(r"\w+", body))
+            aliases |= {name} if kind == "type" else set()
+    found = set()
+    for name in parts.keys() - aliases:
+        left, seen = [name], set()
+        while left:
+            inner = (parts[left.pop()] & parts.keys()) - seen
+            seen |= inner
+            left += inner
+        if name in seen:
+            found.add(name)
+    return found
+
+
+def owner_of(lines, at):
+    """The head of the block whose method a function is, without its type parameters; None for a free function."""
+    margin = len(lines[at]) - len(lines[at].lstrip())
+    for line in reversed(lines[:at]):
+        found = OWNER.match(line)
+        if found and len(found[1]) < margin:
+            head = re.sub(r"<[^<>]*>", "", found[3].replace("->", ""))
+            return None if found[2] == "mod" else re.sub(r"<[^<>]*>", "", head)
+    return None
+
+
+def calls_itself(name, owner, body, types):
+    """Whether a function calls itself by its name. Of a type that contains itself, a method may go down by any value."""
+    if owner is None:
+        ways = [r"(?<![\w.:])"]
+    else:
+        kind = (re.findall(r"\w+", owner.split(" for ")[-1]) or ["Self"])[0]
+        ways = [r"(?<![\w.])self\.", r"\bSelf::"] + ([r"\."] if kind in types else [])
+        # In a trait's impl `Type::name(..)` is the type's own method.
+        ways += [] if " for " in owner else [rf"\b{kind}::"]
+    return any(re.search(rf"{way}{name}(?:::<.*?>)?\(", body) for way in ways)
+
+
+def functions_of(sources, types):
+    """The functions of a crate that call themselves; a cycle of several goes by its name."""
+    found = set()
+    for path in sources:
+        lines = path.read_text().split("\n")
+        for name, at, begins, ends in functions(lines):
+            first = at
+            while lines[first - 1].strip().startswith(("#[", "//")):
+                first -= 1
+            cycle = CYCLE.search("\n".join(lines[first:at]))
+            body = "\n".join(map(without_text, lines[begins:ends]))
+            if cycle or calls_itself(name, owner_of(lines, at), body, types):
+                found.add(cycle[1] if cycle else name)
+    return found
+
+
+def check_calls(faults):
+    """The table of what calls itself names just the functions that do, and the types whose drops do."""
+    page = pathlib.Path("docs/DECISIONS.md")
+    table = page.read_text().split("| Calls itself |")[-1].split("\n\n")[0]
+    told = [name for line in table.splitlines() if line.startswith("| `") for name in ROW.findall(line.split("|")[1])]
+    found = set()
+    for crate in crates():
+        sources = sorted(pathlib.Path("crates", crate, "src").rglob("*.rt"))
+        types = types_of(sources)
+        folders = {path.name[1:] for path in pathlib.Path("crates", crate, "proofs").rglob("+*")}
+        found |= {f"{crate}::{name}" for name in types | folders | functions_of(sources, types)}
+    faults += [f"{page}: `{name}` calls itself, and has no row" for name in sorted(found - set(told))]
+    faults += [f"{page}: there is a row for `{name}`, which does not call itself" for name in sorted(set(told) - found)]
+    faults += [f"{page}: `{name}` has two rows" for name in sorted(set(told)) if told.count(name) > 1]
 
 
 def check_lengths(sources, faults):
@@ -209,7 +297,8 @@ def check_lengths(sources, faults):
             faults.append(f"{path}: {lines} lines, where {MOST_LINES} are the most")
         if path.suffix != ".rt":
             continue
-        for name, length in functions(text):
+        for name, _, begins, ends in functions(text.split("\n")):
+            length = ends - begins
             longest = max(longest, (f"{path}: {name}", length), key=lambda pair: pair[1])
             if length > MOST_FUNCTION_LINES:
                 faults.append(f"{path}: the body of {name} has {length} lines, where {MOST_FUNCTION_LINES} are the most")
@@ -226,6 +315,7 @@ def main():
     check_order(faults)
     check_named_clauses(pathlib.Path("docs/PROMISES.md"), lambda call: call.split("::", 1), faults)
     check_definitions(faults)
+    check_calls(faults)
     told = subprocess.run([sys.executable, "tools/wrong_bodies.py", "--check"], capture_output=True, text=True)
     faults += told.stdout.splitlines()
     sources = [path for path in tracked() if path.suffix in (".rt", ".antt", ".py", ".sh")]
