@@ -7,14 +7,8 @@ use Rattle.std.proofs.lemmas.List.Sums.{fails_before_first}
 use Rattle.std.specs.List.{position, position_or_len}
 use Rattle.ft_base.specs.declared.row.Cell.{Cell}
 use Rattle.ft_base.specs.declared.row.Value.{Value}
-use Rattle.agg_pipeline.specs.Rows.{cell, set_cell, value_set}
-
--- to write the value of the cell that was lent
-pub put_is : (cells : List Cell) (i : ℕ) (lent : Cell) (value : Value) → i < length cells → lent ≡ get_or cells i lent
-    → slice_set cells i (record { name = lent.name; value = value }) ≡ value_set cells i value
-put_is [] i lent value within is = absurd (omega (arith, within))
-put_is (old ∷ cells) zero lent value within is = ap (λ (c : Cell). cell c.name value ∷ cells) is
-put_is (old ∷ cells) (suc i) lent value within is = ap (λ rest. old ∷ rest) (put_is cells i lent value (omega (arith, within)) is)
+use Rattle.ft_base.specs.Cells.{cell, value_set}
+use Rattle.agg_pipeline.specs.Rows.{set_cell}
 
 abbrev is_named : List ℕ → Cell → Bool
 is_named name c = bytes_eq c.name name
@@ -44,16 +38,13 @@ none_length n len none =
       | inr past ↦ ltb-false n len past
     ]
 
--- what a look-up in the cells that were lent says
-pub found_set : (lent cells : List Cell) (name : List ℕ) (value : Value) (i : ℕ) → lent ≡ cells → Some i ≡ position (λ (c : Cell). bytes_eq c.name name) lent
-    → value_set cells i value ≡ set_cell cells (cell name value)
-found_set lent cells name value i same found =
-    let at = position-Some (λ (c : Cell). bytes_eq c.name name) cells i (cell name value) (sym (found ∙ ap (position (λ (c : Cell). bytes_eq c.name name)) same)) in
+-- what a look-up says
+pub found_set : (cells : List Cell) (name : List ℕ) (value : Value) (i : ℕ) → Some i ≡ position (is_named name) cells → value_set cells i value ≡ set_cell cells (cell name value)
+found_set cells name value i found =
+    let at = position-Some (is_named name) cells i (cell name value) (sym found) in
     set_there cells i (cell name value) at.0 at.1 at.2
 
-pub none_set : (lent cells : List Cell) (name : List ℕ) (value : Value) → lent ≡ cells → None ≡ position (λ (c : Cell). bytes_eq c.name name) lent
-    → cells ++ cell name value ∷ [] ≡ set_cell cells (cell name value)
-none_set lent cells name value same none =
-    let past : length cells ≤ position_or_len (λ (c : Cell). bytes_eq c.name name) cells =
-    none_length (position_or_len (λ (c : Cell). bytes_eq c.name name) cells) (length cells) (sym (none ∙ ap (position (λ (c : Cell). bytes_eq c.name name)) same)) in
-    set_last cells (cell name value) (λ k l. fails_before_first (λ (c : Cell). bytes_eq c.name name) cells k (cell name value) (omega (arith, l, past)))
+pub none_set : (cells : List Cell) (name : List ℕ) (value : Value) → None ≡ position (is_named name) cells → cells ++ cell name value ∷ [] ≡ set_cell cells (cell name value)
+none_set cells name value none =
+    let past : length cells ≤ position_or_len (is_named name) cells = none_length (position_or_len (is_named name) cells) (length cells) (sym none) in
+    set_last cells (cell name value) (λ k l. fails_before_first (is_named name) cells k (cell name value) (omega (arith, l, past)))

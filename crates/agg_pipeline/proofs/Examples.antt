@@ -3,6 +3,7 @@ use Rattle.std.proofs.Common.{◌≡◌, ℕ, ℤ, pos, negsuc, ◌+ℤ◌, Bool
 use Rattle.std.specs.Int.{cast_unsigned, w64}
 use Rattle.std.specs.Prelude.{◌==◌, unwrap_or}
 use Rattle.std.specs.Str.{bytes_eq}
+use Rattle.ft_base.specs.Cells.{cell}
 use Rattle.ft_base.specs.declared.definition.FieldKind.TheVariants.{Text}
 use Rattle.ft_base.specs.declared.definition.IndexDef.{IndexDef}
 use Rattle.ft_base.specs.Docs.{Doc}
@@ -21,7 +22,7 @@ use Rattle.agg_pipeline.specs.Equal.{eight_bytes, spelled, spelling_step, value_
 use Rattle.agg_pipeline.specs.Groups.{firsts, groups}
 use Rattle.agg_pipeline.specs.Grouping.{grouped}
 use Rattle.agg_pipeline.specs.Reduce.{added, least, lesser, number, reduced, sum_of}
-use Rattle.agg_pipeline.specs.Rows.{cell, loaded_cells, set_cell, set_cells}
+use Rattle.agg_pipeline.specs.Rows.{loaded_cells, set_cell, set_cells}
 use Rattle.agg_pipeline.specs.Steps.{piped}
 
 -- ---- groups

@@ -6,6 +6,7 @@ use Rattle.std.proofs.lemmas.Bool.{cases_Bool}
 use Rattle.std.proofs.lemmas.List.Elements.{filter-append}
 use Rattle.std.proofs.lemmas.List.Sums.{fold-append}
 use Rattle.std.proofs.lemmas.Slice.Eq.{bytes_eq-Decides}
+use Rattle.ft_base.specs.Cells.{cell}
 use Rattle.ft_base.specs.declared.definition.IndexDef.{IndexDef}
 use Rattle.ft_base.specs.declared.row.Cell.{Cell}
 use Rattle.ft_base.specs.declared.row.Row.{Row}
@@ -22,7 +23,7 @@ use Rattle.agg_pipeline.specs.Keyed.{add_first}
 use Rattle.agg_pipeline.specs.Made.{ListOfStates, add_spelling, add_value, finished, finished_cells, made, made_all, start, starts, states_step, step}
 use Rattle.agg_pipeline.specs.Grouping.{group_cells, group_row, grouped, reduced_cells, value_for}
 use Rattle.agg_pipeline.specs.Reduce.{distinct, is_some_value, reduced}
-use Rattle.agg_pipeline.specs.Rows.{cell, set_cell, set_cells}
+use Rattle.agg_pipeline.specs.Rows.{set_cell, set_cells}
 use Rattle.agg_pipeline.specs.Table.{add_row, cells_or_none, finished_row, first_cells, making, no_rows, note_row, table_of_rows, tuple_key}
 use Rattle.agg_pipeline.proofs.GroupsLaws.{each_group, firsts-push}
 use Rattle.agg_pipeline.proofs.KeyedLaws.{folded}

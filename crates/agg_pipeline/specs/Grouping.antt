@@ -1,5 +1,6 @@
 -- What GROUPBY makes of rows (RediSearch, FT.AGGREGATE): one row for each group.
 use Rattle.std.specs.Prelude.{ℕ, List, [], ◌∷◌, ◌++◌, map, Bool, Option, None, Some}
+use Rattle.ft_base.specs.Cells.{cell}
 use Rattle.ft_base.specs.declared.definition.IndexDef.{IndexDef}
 use Rattle.ft_base.specs.declared.row.Cell.{Cell}
 use Rattle.ft_base.specs.declared.row.Row.{Row}
@@ -10,7 +11,7 @@ use Rattle.agg_pipeline.specs.declared.step.Reducer.{Reducer}
 use Rattle.agg_pipeline.specs.Equal.{values_eq}
 use Rattle.agg_pipeline.specs.Groups.{groups}
 use Rattle.agg_pipeline.specs.Reduce.{reduced}
-use Rattle.agg_pipeline.specs.Rows.{cell, set_cells}
+use Rattle.agg_pipeline.specs.Rows.{set_cells}
 
 -- a row's value of the reducer's property, and Null where it has none
 abbrev pub value_for : IndexDef → Option (List ℕ) → Row → Value

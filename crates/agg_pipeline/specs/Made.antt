@@ -2,6 +2,7 @@
 use Rattle.std.specs.Prelude.{ℕ, pos, ◌+◌, List, [], ◌∷◌, length, map, Option, None, Some, unwrap_or, if◌then◌else◌}
 use Rattle.std.specs.Coded.{Coded, coded_list}
 use Rattle.std.specs.Str.{bytes_eq}
+use Rattle.ft_base.specs.Cells.{cell}
 use Rattle.ft_base.specs.declared.definition.IndexDef.{IndexDef}
 use Rattle.ft_base.specs.declared.row.Cell.{Cell}
 use Rattle.ft_base.specs.declared.row.Row.{Row}
@@ -18,7 +19,7 @@ use Rattle.agg_pipeline.specs.Equal.{spelled, value_eq}
 use Rattle.agg_pipeline.specs.Keyed.{add_first}
 use Rattle.agg_pipeline.specs.Grouping.{value_for}
 use Rattle.agg_pipeline.specs.Reduce.{added, distinct, greater, greatest, is_some_value, least, lesser, number, sum_of}
-use Rattle.agg_pipeline.specs.Rows.{cell, set_cell}
+use Rattle.agg_pipeline.specs.Rows.{set_cell}
 
 -- the first of some values
 abbrev pub first_of : List Value → Option Value

@@ -1,8 +1,9 @@
 -- Rows and their cells (RediSearch, FT.AGGREGATE), and the row that a document begins as.
-use Rattle.std.specs.Prelude.{ℕ, zero, suc, List, [], ◌∷◌, map, fold, Option, None, Some, if◌then◌else◌}
+use Rattle.std.specs.Prelude.{ℕ, List, [], ◌∷◌, map, fold, Option, None, Some, if◌then◌else◌}
 use Rattle.std.specs.Option.{option_or}
 use Rattle.std.specs.Str.{bytes_eq}
 use Rattle.ft_base.specs.declared.definition.IndexDef.{IndexDef}
+use Rattle.ft_base.specs.Cells.{cell}
 use Rattle.ft_base.specs.Docs.{Doc}
 use Rattle.ft_base.specs.declared.row.Cell.{Cell}
 use Rattle.ft_base.specs.declared.row.Row.{Row}
@@ -11,19 +12,10 @@ use Rattle.agg_pipeline.specs.declared.step.Load.{Load}
 use Rattle.agg_pipeline.specs.declared.step.Load.TheVariants.{Nothing, Fields, All}
 use Rattle.expr_eval.specs.Properties.{by_alias, by_name, has_number, seen_as}
 
-abbrev pub cell : List ℕ → Value → Cell
-cell name value = record { name = name; value = value }
-
 -- A cell takes the place of the one of its name, and goes last where there is none.
 abbrev pub set_cell : List Cell → Cell → List Cell
 set_cell [] new = new ∷ []
 set_cell (old ∷ cells) new = if bytes_eq old.name new.name then cell old.name new.value ∷ cells else old ∷ set_cell cells new
-
--- the cell at a place has another value
-abbrev pub value_set : List Cell → ℕ → Value → List Cell
-value_set [] n value = []
-value_set (old ∷ cells) zero value = cell old.name value ∷ cells
-value_set (old ∷ cells) (suc n) value = old ∷ value_set cells n value
 
 -- cells, one after another
 abbrev pub set_cells : List Cell → List Cell → List Cell

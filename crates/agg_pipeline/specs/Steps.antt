@@ -1,6 +1,7 @@
 -- What each step of an aggregate makes of a list of rows (RediSearch, FT.AGGREGATE), and several steps.
 use Rattle.std.specs.Prelude.{ℕ, List, map, filter, fold, take, drop, Bool, false, Option, None, Some}
 use Rattle.std.specs.declared.cmp.Ordering.{Ordering}
+use Rattle.ft_base.specs.Cells.{cell}
 use Rattle.ft_base.specs.declared.definition.IndexDef.{IndexDef}
 use Rattle.ft_base.specs.declared.row.Row.{Row}
 use Rattle.ft_base.specs.declared.row.Value.{Value}
@@ -15,7 +16,7 @@ use Rattle.agg_pipeline.specs.declared.step.SortKey.{SortKey}
 use Rattle.agg_pipeline.specs.declared.step.Step.{Step}
 use Rattle.agg_pipeline.specs.declared.step.Step.TheVariants.{Group, Sort, Apply, Keep, Limit}
 use Rattle.agg_pipeline.specs.Grouping.{grouped}
-use Rattle.agg_pipeline.specs.Rows.{cell, set_cell}
+use Rattle.agg_pipeline.specs.Rows.{set_cell}
 
 -- how each key orders; texts are compared by their bytes
 abbrev pub directions : List SortKey → List Direction

@@ -178,7 +178,7 @@ fn note_doc(
     match made_cells(alloc, def, load, first, doc)? {
         Some(cells) => {
             let row = LentRow {
-                cells: cells.as_slice(),
+                cells: &cells,
                 doc: Some(doc),
             };
             groups.note(def, by, reduce, row)

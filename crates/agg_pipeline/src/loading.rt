@@ -1,14 +1,15 @@
 //! LOAD: the cells that a document's row begins with.
 ghost use Rattle.std.specs.Prelude.{◌≡◌, [], fold, map, IfOk, OnOk};
 ghost use Rattle.std.specs.Option.{option_map};
+ghost use Rattle.ft_base.specs.Cells.{cell};
 ghost use Rattle.expr_eval.specs.Lending.{value_lent};
 ghost use Rattle.expr_eval.specs.Properties.{has_number, seen_as};
-ghost use Rattle.agg_pipeline.specs.Rows.{cell, load_cell, loaded_cells, own_cell, value_there};
+ghost use Rattle.agg_pipeline.specs.Rows.{load_cell, loaded_cells, own_cell, value_there};
 
 use crate::cells::set_cell;
 use crate::step::Load;
 use expr_eval::{Lent, by_alias, by_name, has_number, seen_as};
-use ft_base::{Bytes, Cell, Doc, Field, IndexDef, ListOf, NoMemory};
+use ft_base::{Bytes, Cell, Doc, Field, IndexDef, NamedList, NoMemory};
 use std::alloc::Global;
 
 /// The cells that a document's row has from the start.
@@ -17,11 +18,11 @@ pub fn loaded_cells(
     load: &Load,
     def: &IndexDef,
     doc: &Doc,
-) -> Result<ListOf<Cell>, NoMemory>
+) -> Result<NamedList<Cell>, NoMemory>
     ensures { IfOk result (λ cells. cells ≡ loaded_cells load.now def.now doc.now) }
 {
     match load {
-        Load::Nothing => Ok(ListOf::new(alloc)),
+        Load::Nothing => Ok(NamedList::new(alloc)),
         Load::Fields(names) => named_cells(alloc, names.as_slice(), def, doc),
         Load::All => own_cells(alloc, def, doc),
     }
@@ -33,10 +34,10 @@ fn named_cells(
     names: &[Bytes],
     def: &IndexDef,
     doc: &Doc,
-) -> Result<ListOf<Cell>, NoMemory>
+) -> Result<NamedList<Cell>, NoMemory>
     ensures { IfOk result (λ cells. cells ≡ fold (load_cell def.now doc.now) [] names.now) }
 {
-    let mut cells = ListOf::new(alloc);
+    let mut cells = NamedList::new(alloc);
     for name in names {
         load_cell(alloc, &mut cells, name.as_slice(), def, doc)?;
     }
@@ -46,7 +47,7 @@ fn named_cells(
 /// The cell of a property, where it is there.
 fn load_cell(
     alloc: Global,
-    cells: &mut ListOf<Cell>,
+    cells: &mut NamedList<Cell>,
     name: &[u8],
     def: &IndexDef,
     doc: &Doc,
@@ -70,10 +71,10 @@ fn value_there<'a>(name: &[u8], def: &IndexDef, doc: &'a Doc) -> Option<Lent<'a>
 }
 
 /// The cells of all fields of the hash.
-fn own_cells(alloc: Global, def: &IndexDef, doc: &Doc) -> Result<ListOf<Cell>, NoMemory>
+fn own_cells(alloc: Global, def: &IndexDef, doc: &Doc) -> Result<NamedList<Cell>, NoMemory>
     ensures { IfOk result (λ cells. cells ≡ map (own_cell def.now) doc.now.hash) }
 {
-    let mut cells = ListOf::new(alloc);
+    let mut cells = NamedList::new(alloc);
     let mut walk = doc.hash().walk();
     while let Some((name, text)) = walk.next() {
         cells.push(own_cell(alloc, name, text, def.fields.as_slice())?)?;

@@ -10,7 +10,7 @@ use crate::sorting::{directions, items_of, key_values};
 use crate::step::{Load, SortKey, Step};
 use crate::stream::{made_cells, shared_row};
 use expr_eval::LentRow;
-use ft_base::{Cell, Doc, IndexDef, ListOf, NoMemory, Row, Value};
+use ft_base::{Cell, Doc, IndexDef, ListOf, NamedList, NoMemory, Row, Value};
 use row_sort::{FirstRows, Ranked};
 use std::alloc::Global;
 
@@ -80,7 +80,7 @@ fn offer_cells(
     keys: &[SortKey],
     held: &mut FirstRows<Row>,
     doc: &Doc,
-    cells: ListOf<Cell>,
+    cells: NamedList<Cell>,
 ) -> Result<(), NoMemory>
     ensures { OnOk result (held.new ≡ record held.old {
       rows = one_more held.old.by held.old.most held.old.rows
@@ -88,7 +88,7 @@ fn offer_cells(
     }) }
 {
     let row = LentRow {
-        cells: cells.as_slice(),
+        cells: &cells,
         doc: Some(doc),
     };
     let values = key_values(alloc, def, keys, row)?;
@@ -100,7 +100,7 @@ fn offer_values(
     held: &mut FirstRows<Row>,
     values: ListOf<Value>,
     doc: &Doc,
-    cells: ListOf<Cell>,
+    cells: NamedList<Cell>,
 ) -> Result<(), NoMemory>
     ensures { OnOk result (held.new ≡ record held.old {
       rows = one_more held.old.by held.old.most held.old.rows

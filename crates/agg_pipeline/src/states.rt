@@ -10,7 +10,7 @@ use crate::seen::Seen;
 use crate::state::State;
 use crate::step::Reducer;
 use expr_eval::{Lent, LentRow};
-use ft_base::{Bytes, Cell, IndexDef, ListOf, NoMemory};
+use ft_base::{Bytes, Cell, IndexDef, NamedList, NoMemory};
 use std::alloc::Global;
 use std::marker::Model;
 
@@ -60,7 +60,7 @@ impl States {
         self,
         alloc: Global,
         reduce: &[Reducer],
-        cells: &mut ListOf<Cell>,
+        cells: &mut NamedList<Cell>,
     ) -> Result<(), NoMemory>
         ensures { OnOk result (cells.new ≡ set_cells cells.old (finished_cells reduce.now self)) }
     {
@@ -76,7 +76,7 @@ impl States {
 /// Sets the cell of what the first reducer gives.
 fn set_finished(
     alloc: Global,
-    cells: &mut ListOf<Cell>,
+    cells: &mut NamedList<Cell>,
     reducers: &[Reducer],
     state: State,
 ) -> Result<(), NoMemory>

@@ -11,7 +11,7 @@ use crate::cells::set_cell;
 use crate::loading::loaded_cells;
 use crate::step::{Load, Step};
 use expr_eval::{Expr, LentRow, eval, holds};
-use ft_base::{Bytes, Cell, Doc, IndexDef, ListOf, NoMemory, Row};
+use ft_base::{Bytes, Cell, Doc, IndexDef, ListOf, NamedList, NoMemory, Row};
 use std::alloc::Global;
 use std::marker::Model;
 
@@ -74,7 +74,7 @@ pub fn pipe_doc(
 }
 
 /// The row of a document, which it shares, and these cells.
-pub fn shared_row(doc: &Doc, cells: ListOf<Cell>) -> Result<Row, NoMemory>
+pub fn shared_row(doc: &Doc, cells: NamedList<Cell>) -> Result<Row, NoMemory>
     ensures { IfOk result (λ row. row ≡ row_with doc.now cells) }
 {
     let doc = Some(doc.share()?);
@@ -89,7 +89,7 @@ pub fn made_cells(
     load: &Load,
     steps: &[Step],
     doc: &Doc,
-) -> Result<Option<ListOf<Cell>>, NoMemory>
+) -> Result<Option<NamedList<Cell>>, NoMemory>
     ensures { IfOk result (λ made. AreOfRows steps.now
         → option_to_list (option_map (row_with doc.now) made) ≡ piped def.now steps.now (loaded load.now def.now doc.now ∷ [])) }
 {
@@ -103,8 +103,8 @@ fn pipe_cells(
     def: &IndexDef,
     steps: &[Step],
     doc: &Doc,
-    cells: ListOf<Cell>,
-) -> Result<Option<ListOf<Cell>>, NoMemory>
+    cells: NamedList<Cell>,
+) -> Result<Option<NamedList<Cell>>, NoMemory>
     ensures { IfOk result (λ made. AreOfRows steps.now
         → option_to_list (option_map (row_with doc.now) made) ≡ piped def.now steps.now (row_with doc.now cells ∷ [])) }
 {
@@ -124,8 +124,8 @@ fn step_cells(
     def: &IndexDef,
     step: &Step,
     doc: &Doc,
-    cells: ListOf<Cell>,
-) -> Result<Option<ListOf<Cell>>, NoMemory>
+    cells: NamedList<Cell>,
+) -> Result<Option<NamedList<Cell>>, NoMemory>
     ensures { IfOk result (λ made. is_of_rows step.now ≡ true
         → option_to_list (option_map (row_with doc.now) made) ≡ step_rows def.now step.now (row_with doc.now cells ∷ [])) }
 {
@@ -143,13 +143,13 @@ fn apply_cell(
     expr: &Expr,
     name: &[u8],
     doc: &Doc,
-    cells: ListOf<Cell>,
-) -> Result<Option<ListOf<Cell>>, NoMemory>
+    cells: NamedList<Cell>,
+) -> Result<Option<NamedList<Cell>>, NoMemory>
     ensures { IfOk result (λ made. option_map (row_with doc.now) made
         ≡ Some (applied def.now expr.now name.now (row_with doc.now cells))) }
 {
     let row = LentRow {
-        cells: cells.as_slice(),
+        cells: &cells,
         doc: Some(doc),
     };
     let value = eval(alloc, expr, row, def)?;
@@ -163,13 +163,13 @@ fn keep_cells(
     def: &IndexDef,
     expr: &Expr,
     doc: &Doc,
-    cells: ListOf<Cell>,
-) -> Result<Option<ListOf<Cell>>, NoMemory>
+    cells: NamedList<Cell>,
+) -> Result<Option<NamedList<Cell>>, NoMemory>
     ensures { IfOk result (λ made. option_to_list (option_map (row_with doc.now) made)
         ≡ filter (is_kept def.now expr.now) (row_with doc.now cells ∷ [])) }
 {
     let row = LentRow {
-        cells: cells.as_slice(),
+        cells: &cells,
         doc: Some(doc),
     };
     if holds(alloc, expr, row, def)? {

@@ -1,10 +1,11 @@
 //! The groups of the rows that came so far, found by the spelling of their values.
 ghost use Rattle.std.specs.Prelude.{◌≡◌, ◌<◌, ◌++◌, ◌∷◌, [], map, slice_get, OnOk, IfOk, IfSome};
 ghost use Rattle.indexmap.specs.IndexMap.{index_map_len, set_value_at, values};
+ghost use Rattle.ft_base.specs.Cells.{cell};
 ghost use Rattle.expr_eval.specs.Lending.{row_of};
 ghost use Rattle.expr_eval.specs.Properties.{property_value};
 ghost use Rattle.agg_pipeline.specs.Made.{starts, states_step};
-ghost use Rattle.agg_pipeline.specs.Rows.{cell, set_cell};
+ghost use Rattle.agg_pipeline.specs.Rows.{set_cell};
 ghost use Rattle.agg_pipeline.specs.Table.{IsNew, begun_cells, finished_row, first_entry, making_of, note_row, stepped, table_of, tuple_key};
 
 use crate::cells::set_cell;
@@ -12,7 +13,7 @@ use crate::spelling::spell_tuple;
 use crate::states::States;
 use crate::step::Reducer;
 use expr_eval::LentRow;
-use ft_base::{Bytes, Cell, IndexDef, ListOf, NoMemory, Row};
+use ft_base::{Bytes, Cell, IndexDef, NamedList, NoMemory, Row};
 use indexmap::IndexMap;
 use std::alloc::Global;
 use std::marker::Model;
@@ -20,7 +21,7 @@ use std::marker::Model;
 /// The cells of GROUPBY, as the group's first row gives them, and what each reducer made of its rows so far.
 #[derive(Drop)]
 pub struct Group {
-    pub cells: ListOf<Cell>,
+    pub cells: NamedList<Cell>,
     pub states: States,
 }
 
@@ -179,10 +180,10 @@ fn begun_cells(
     def: &IndexDef,
     by: &[Bytes],
     row: LentRow<'_>,
-) -> Result<ListOf<Cell>, NoMemory>
+) -> Result<NamedList<Cell>, NoMemory>
     ensures { IfOk result (λ cells. cells ≡ begun_cells def.now by.now (row_of row.entry)) }
 {
-    let mut cells = ListOf::new(alloc);
+    let mut cells = NamedList::new(alloc);
     for name in by {
         set_property(alloc, &mut cells, name.as_slice(), def, row)?;
     }
@@ -192,7 +193,7 @@ fn begun_cells(
 /// Sets the row's cell of a property.
 fn set_property(
     alloc: Global,
-    cells: &mut ListOf<Cell>,
+    cells: &mut NamedList<Cell>,
     name: &[u8],
     def: &IndexDef,
     row: LentRow<'_>,

@@ -6,12 +6,12 @@ ghost use Rattle.expr_eval.specs.Properties.{property_value};
 
 use crate::lent::Lent;
 use crate::properties::{cell_of, in_hash};
-use ft_base::{Cell, Doc, IndexDef, Row};
+use ft_base::{Cell, Doc, IndexDef, NamedList, Row};
 
 /// The cells of a row, and its document while it has one.
 #[derive(Clone, Copy)]
 pub struct LentRow<'a> {
-    pub cells: &'a [Cell],
+    pub cells: &'a NamedList<Cell>,
     pub doc: Option<&'a Doc>,
 }
 
@@ -21,7 +21,7 @@ impl<'a> LentRow<'a> {
         ensures { row_of result ≡ row.now }
     {
         LentRow {
-            cells: row.cells.as_slice(),
+            cells: &row.cells,
             doc: document(row),
         }
     }

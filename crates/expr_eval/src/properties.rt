@@ -6,18 +6,16 @@ ghost use Rattle.expr_eval.specs.Properties.{cell_of, alias_of, has_number, seen
 
 use crate::lent::Lent;
 use field_text::number;
-use ft_base::{Cell, Field, HashView, Value};
+use ft_base::{Cell, Field, HashView, NamedList, Value};
 
 /// The value of the cell of a name.
-pub fn cell_of<'a>(cells: &'a [Cell], name: &[u8]) -> Option<&'a Value>
+pub fn cell_of<'a>(cells: &'a NamedList<Cell>, name: &[u8]) -> Option<&'a Value>
     ensures { option_copied result ≡ cell_of cells.now name.now }
 {
-    for cell in cells {
-        if cell.name.as_slice() == name {
-            return Some(&cell.value);
-        }
+    match cells.get(name) {
+        Some(cell) => Some(&cell.value),
+        None => None,
     }
-    None
 }
 
 /// The hash's field that an alias names, else the hash's field of this very name.

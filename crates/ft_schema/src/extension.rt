@@ -10,6 +10,7 @@ ghost use Rattle.ft_schema.specs.Schema.{has_any_alias, is_over, extended};
 use crate::alias_set::AliasSet;
 use crate::fault::SchemaFault;
 use crate::limits::{MAX_FIELDS, MAX_TEXT_FIELDS};
+use crate::schema::stop_words;
 use ft_base::{Bytes, Field, IndexDef, ListOf, NoMemory, StopWords};
 use std::alloc::Global;
 
@@ -95,8 +96,8 @@ fn joined(alloc: Global, def: &IndexDef, fields: &[Field]) -> Result<IndexDef, N
     ensures { IfOk result (λ index. index ≡ record def.now { fields = def.now.fields ++ fields.now }) }
 {
     let fields = joined_fields(alloc, def.fields.as_slice(), fields)?;
-    let words = byte_copies(alloc, def.stops.words.as_slice())?;
-    with_lists(alloc, def, fields, StopWords { words })
+    let stops = stop_words(byte_copies(alloc, def.stops.words.as_slice())?)?;
+    with_lists(alloc, def, fields, stops)
 }
 
 /// An index with other fields and stop words.

@@ -10,7 +10,7 @@ use crate::fault::{Cause, SchemaFault, Stop};
 use crate::fields::fields;
 use crate::index_options::{IndexOptions, options};
 use crate::reading::fault;
-use ft_base::{Bytes, Field, IndexDef, ListOf, NoMemory, StopWords, Words};
+use ft_base::{Bytes, Field, IndexDef, ListOf, NamedList, NoMemory, StopWords, Words};
 use std::alloc::Global;
 
 /// The index that the words of FT.CREATE define. Its serial is given. Each call may want memory.
@@ -119,14 +119,22 @@ fn index_by(
         stops,
         ..
     } = options;
-    let words = stops_or_default(alloc, stops)?;
+    let stops = stop_words(stops_or_default(alloc, stops)?)?;
     Ok(IndexDef {
         name: Bytes::from_slice(alloc, name)?,
         serial,
         prefixes: prefixes.unwrap_or(ListOf::new(alloc)),
-        stops: StopWords { words },
+        stops,
         fields,
     })
+}
+
+/// Stop words, each found without a walk.
+pub fn stop_words(words: ListOf<Bytes>) -> Result<StopWords, NoMemory>
+    ensures { IfOk result (λ stops. stops.words ≡ words) }
+{
+    let words = NamedList::from_vec(words.into_vec())?;
+    Ok(StopWords { words })
 }
 
 fn stops_or_default(alloc: Global, stops: Option<ListOf<Bytes>>) -> Result<ListOf<Bytes>, NoMemory>

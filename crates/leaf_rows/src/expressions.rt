@@ -8,7 +8,7 @@ use crate::answer::Answer;
 use crate::arguments::{halves, hash_of, rest, word};
 use crate::schemas::index_of;
 use expr_eval::{Expr, ExprFault, Func, LentRow, Op, eval, parse_expr};
-use ft_base::{Cell, Doc, ListOf, NoMemory, Row, Value, read_int};
+use ft_base::{Cell, Doc, ListOf, NamedList, NoMemory, Row, Value, read_int};
 use std::alloc::Global;
 
 /// The fields of an index of which nothing is asked.
@@ -163,8 +163,8 @@ fn doc_of(alloc: Global, fields: &[Vec<u8>], out: &mut Answer) -> Result<Option<
     Ok(Some(doc))
 }
 
-fn cells_of(alloc: Global, words: &[Vec<u8>], out: &mut Answer) -> ListOf<Cell> {
-    let mut cells = ListOf::new(alloc);
+fn cells_of(alloc: Global, words: &[Vec<u8>], out: &mut Answer) -> NamedList<Cell> {
+    let mut cells = NamedList::new(alloc);
     for word in words {
         let cell = cell_of(alloc, word.as_slice(), out);
         out.note(cells.push(cell));

@@ -1,8 +1,11 @@
 //! The words of texts, and the tags and numbers of values.
+ghost use Rattle.std.specs.Prelude.{◌≤◌, length};
+ghost use Rattle.ft_base.specs.declared.limits.TheConstants.{MAX_WORD_BYTES};
+
 use crate::answer::Answer;
 use crate::arguments::{count_of, list_of_words, rest, word};
 use field_text::{number, tags};
-use ft_base::{Bytes, MAX_WORD_BYTES, StopWords, is_separator};
+use ft_base::{Bytes, ListOf, MAX_WORD_BYTES, NamedList, NoMemory, StopWords, is_separator};
 use std::alloc::Global;
 use token_text::{TextTokens, tokens};
 
@@ -26,13 +29,20 @@ fn found(alloc: Global, text: &[u8], stops: &[Vec<u8>], out: &mut Answer) -> Tex
         return TextTokens::new(alloc);
     }
     let words = list_of_words(alloc, stops, out);
-    match tokens(alloc, text, &StopWords { words }) {
+    match cut(alloc, text, words) {
         Ok(found) => found,
         Err(_) => {
             out.fail();
             TextTokens::new(alloc)
         }
     }
+}
+
+fn cut(alloc: Global, text: &[u8], words: ListOf<Bytes>) -> Result<TextTokens, NoMemory>
+    requires { length text.now ≤ MAX_WORD_BYTES }
+{
+    let words = NamedList::from_vec(words.into_vec())?;
+    tokens(alloc, text, &StopWords { words })
 }
 
 // Each token as its place, a colon and its word.

@@ -121,11 +121,7 @@ fn word_part(parser: &Parser<'_>, fields: &Fields, word: &[u8]) -> Result<Option
 fn is_stop(stops: &StopWords, word: &[u8]) -> bool
     ensures { result ≡ is_stop stops.now.words word.now }
 {
-    stops
-        .words
-        .as_slice()
-        .iter()
-        .any(|stop| word == stop.as_slice())
+    stops.words.has(word)
 }
 
 /// A prefix, lowered.

@@ -49,21 +49,18 @@ pub(crate) fn counted(alloc: Global, number: u64, room: usize) -> Result<Vec<Rep
 fn push_copy(alloc: Global, replies: &mut Vec<Reply>, row: &Row) -> Result<(), NoMemory>
     ensures { OnOk result (replies.new.items ≡ replies.old.items ++ row_reply row.now ∷ []) }
 {
-    push_row(alloc, replies, copy_cells(alloc, row)?)
+    let cells = copy_cells(alloc, row.cells.as_slice())?;
+    push_reply(replies, cells_reply(alloc, cells)?)
 }
 
-/// A row with copies of the cells, and without a document.
-fn copy_cells(alloc: Global, row: &Row) -> Result<Row, NoMemory>
-    ensures { IfOk result (λ copy. copy ≡ record { doc = None; cells = row.now.cells }) }
+fn copy_cells(alloc: Global, cells: &[Cell]) -> Result<Vec<Cell>, NoMemory>
+    ensures { IfOk result (λ copy. copy.items ≡ cells.now) }
 {
-    let mut cells = Vec::with_capacity(alloc, row.cells.len())?;
-    'copying: for cell in row.cells.as_slice() {
-        cells.push(copy_cell(alloc, cell)?)?;
+    let mut copy = Vec::with_capacity(alloc, cells.len())?;
+    'copying: for cell in cells {
+        copy.push(copy_cell(alloc, cell)?)?;
     }
-    Ok(Row {
-        doc: None,
-        cells: ListOf::from_vec(cells),
-    })
+    Ok(copy)
 }
 
 fn copy_cell(alloc: Global, cell: &Cell) -> Result<Cell, NoMemory>
@@ -80,14 +77,13 @@ fn copy_cell(alloc: Global, cell: &Cell) -> Result<Cell, NoMemory>
 fn push_row(alloc: Global, replies: &mut Vec<Reply>, row: Row) -> Result<(), NoMemory>
     ensures { OnOk result (replies.new.items ≡ replies.old.items ++ row_reply row ∷ []) }
 {
-    push_reply(replies, cells_reply(alloc, row.cells)?)
+    push_reply(replies, cells_reply(alloc, row.cells.into_vec())?)
 }
 
 /// The names and the values of cells in turn.
-fn cells_reply(alloc: Global, cells: ListOf<Cell>) -> Result<Reply, NoMemory>
-    ensures { IfOk result (λ reply. reply ≡ Array (flat_map cell_replies cells)) }
+fn cells_reply(alloc: Global, cells: Vec<Cell>) -> Result<Reply, NoMemory>
+    ensures { IfOk result (λ reply. reply ≡ Array (flat_map cell_replies cells.items)) }
 {
-    let cells = cells.into_vec();
     // Each takes two places, so the vector does not grow.
     let mut replies = Vec::with_capacity(alloc, cells.len() * 2)?;
     'showing: for cell in cells {

@@ -96,9 +96,5 @@ fn last_end(ends: &[u32]) -> usize
 fn is_stop(stops: &StopWords, word: &[u8]) -> bool
     ensures { result ≡ is_stop stops.now.words word.now }
 {
-    stops
-        .words
-        .as_slice()
-        .iter()
-        .any(|stop| word == stop.as_slice())
+    stops.words.has(word)
 }

@@ -6,4 +6,4 @@ use Rattle.search_exec.proofs.replied_rows.cells_reply.Given as goal
 
 -- the cells that are shown and those that are left are the whole
 abbrev pub invariant-showing : goal.invariant-showing
-invariant-showing l = l.replies.items ++ flat_map cell_replies (into_iter_items l.cell-iterator) ≡ flat_map cell_replies l.fn.cells
+invariant-showing l = l.replies.items ++ flat_map cell_replies (into_iter_items l.cell-iterator) ≡ flat_map cell_replies l.fn.cells.items

@@ -3,4 +3,4 @@ use Rattle.search_exec.proofs.replied_rows.copy_cells.Given as goal
 
 -- the cells so far are copied
 abbrev pub invariant-copying : goal.invariant-copying
-invariant-copying l = l.cells.items ≡ take l.cell-index l.row.cells
+invariant-copying l = l.copy.items ≡ take l.cell-index l.cells
