@@ -10,7 +10,7 @@ ghost use Rattle.std.specs.List.{All};
 ghost use Rattle.std.specs.Process.{exit_status};
 ghost use Rattle.ft_server.specs.Status.{status_of};
 
-use fs_ports::Spawner;
+use fs_ports::{Door, Failed, HeldDoor, HeldLink, Spawner};
 use ft_server::{Exit, Form, read_words, run};
 use std::alloc::Global;
 use std::env;
@@ -41,7 +41,7 @@ fn main(rt: HostRuntime) -> ExitCode {
         Err(code) => return code,
     };
     // The closure has to name the door's type of links, which only its contract speaks of.
-    let named: PhantomData<TcpLink> = PhantomData;
+    let named: PhantomData<HeldLink<TcpLink>> = PhantomData;
     let mut spawner = ThreadSpawner {
         start: |job| {
             let _named = named;
@@ -68,7 +68,7 @@ fn open_doors<R: Net<Listener = TcpListener, Stream = TcpStream>>(
     rt: &R,
     system: &HostRuntime,
     line: &[String],
-) -> Result<Option<Vec<TcpDoor>>, ExitCode>
+) -> Result<Option<Vec<HeldDoor<TcpDoor>>>, ExitCode>
     ensures some { IfOk result (λ asked. IfSome asked (λ doors. 0 < length doors.items)) }
     ensures idle { IfOk result (λ asked. IfSome asked (λ doors. All (λ door. door.out ≡ false) doors.items)) }
 {
@@ -92,28 +92,35 @@ fn answer_input<R: Wait + std::rt::Clock + Copy + Drop>(
     line: &[String],
 ) -> ExitCode {
     let mut clock = SystemClock { rt };
-    let mut link = StdLink::new(system.stdin(), system.stdout());
     let alloc = system.alloc();
-    end(
-        system,
-        run(&rt, alloc, hashing, line, &mut link, &mut clock),
-    )
+    let streams = StdLink::new(system.stdin(), system.stdout());
+    let Ok(mut link) = HeldLink::over(alloc, streams) else {
+        return end(system, Exit::NoMemory);
+    };
+    let exit = run(&rt, alloc, hashing, line, &mut link, &mut clock);
+    match link.finish() {
+        Ok(()) => end(system, exit),
+        Err(Failed) => end(system, Exit::WriteFault),
+    }
 }
 
 /// Serves what comes in at the doors, each by a thread of its own.
 fn serve_doors<
     R: Threads + Wait + std::rt::Clock + Sync + Copy + Send + Drop + 'static,
-    S: Spawner<Work<TcpDoor, SystemClock<R>>>,
+    D: Door + Send + Drop + 'static,
+    S: Spawner<Work<D, SystemClock<R>>>,
 >(
     rt: R,
     system: &HostRuntime,
     hashing: RandomState,
     line: &[String],
-    doors: Vec<TcpDoor>,
+    doors: Vec<D>,
     spawner: &mut S,
 ) -> ExitCode
     requires some { 0 < length doors.items }
-    requires idle { All (λ door. door.out ≡ false) doors.items }
+    requires idle { All (λ door. (D.at door).out ≡ false) doors.items }
+    // The links may be read at any time.
+    requires prompt { (link : D.Link) → D.Link.readable link }
     requires able { S.able spawner.old }
 {
     let alloc = system.alloc();
@@ -129,19 +136,22 @@ fn serve_doors<
 /// The same with a clock for each door.
 fn serve_by<
     R: Threads + Wait + std::rt::Clock + Sync + Copy + Send + Drop + 'static,
-    S: Spawner<Work<TcpDoor, SystemClock<R>>>,
+    D: Door + Send + Drop + 'static,
+    S: Spawner<Work<D, SystemClock<R>>>,
 >(
     rt: R,
     alloc: Global,
     hashing: RandomState,
     line: &[String],
-    doors: Vec<TcpDoor>,
+    doors: Vec<D>,
     spawner: &mut S,
     clocks: Vec<SystemClock<R>>,
 ) -> Exit
     requires equal { length doors.items ≡ length clocks.items }
     requires some { 0 < length doors.items }
-    requires idle { All (λ door. door.out ≡ false) doors.items }
+    requires idle { All (λ door. (D.at door).out ≡ false) doors.items }
+    // The links may be read at any time.
+    requires prompt { (link : D.Link) → D.Link.readable link }
     requires able { S.able spawner.old }
 {
     match make_pace(&rt, alloc) {

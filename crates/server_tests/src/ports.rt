@@ -3,6 +3,7 @@
 //! skipped. The check would pass it, since the code would be wrong in the same way. It also shows that each call succeeds
 //! where memory is ample.
 mod doors;
+mod held;
 pub mod threads;
 
 use crate::links::{Faults, calls_of, clock_of, door_of, link_of};

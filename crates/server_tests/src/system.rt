@@ -1,9 +1,10 @@
 //! Shows each port of the system once over the real thing, of which no clause speaks: that bytes come over a connection,
 //! that a peer that is gone is a fault of its link and no more, that a thread does its job, and that the clock moves.
-ghost use Rattle.std.specs.Prelude.{◌≡◌, false};
+ghost use Rattle.std.specs.Prelude.{◌≡◌, false, IfSome};
 
 use crate::ports::threads::Doubled;
-use fs_ports::{Clock, Door, Link, Pace, Spawner, write_all};
+use fs_ports::{Clock, Door, HeldDoor, HeldLink, Link, Pace, Spawner, write_all};
+use std::alloc::Global;
 use std::io::{Read, Write};
 use std::marker::PhantomData;
 use std::net::{Ipv4Addr, Net, TcpListener, TcpStream};
@@ -130,6 +131,72 @@ fn are_visited<R: Net<Listener = TcpListener, Stream = TcpStream>>(
 fn doors_of_one_port_outlive_their_peers(rt: HostRuntime) {
     match TcpDoor::bind(&rt, 0) {
         Ok(door) => assert!(rt; are_visited(&rt, door)),
+        Err(_) => assert!(rt; false),
+    }
+}
+
+// Whether what a held link was given comes to the client once the link is read.
+fn hands_on(link: &mut HeldLink<TcpLink>, client: &mut TcpStream) -> bool {
+    let mut reply = [0; 4];
+    write_all(link, b"ping").is_ok()
+        && matches!(client.write(b"more"), Ok(4))
+        && link.read(&mut [0; 4]) == Ok(4)
+        && matches!(client.read(&mut reply), Ok(4))
+        && reply == *b"ping"
+}
+
+// Whether a client that is gone in the middle of a reply is a failed write, a failed read or the end.
+fn ends_soon(link: &mut HeldLink<TcpLink>) -> bool {
+    for _ in 0..100_000u32 {
+        if write_all(link, b"the other half").is_err() {
+            return true;
+        }
+        if link.read(&mut [0; 4]).unwrap_or(0) == 0 {
+            return true;
+        }
+    }
+    false
+}
+
+// Whether a client of a held door is answered, and no more than its link ends where it vanishes.
+fn is_held_back(door: &mut HeldDoor<TcpDoor>, mut client: TcpStream) -> bool
+    requires { door.old.out ≡ false }
+{
+    let Ok(Some(mut link)) = door.accept() else {
+        return false;
+    };
+    let answered = hands_on(&mut link, &mut client);
+    drop(client);
+    let ended = ends_soon(&mut link);
+    door.hand_back(link);
+    answered && ended
+}
+
+fn held_door(alloc: Global, door: TcpDoor) -> Option<HeldDoor<TcpDoor>>
+    requires { door.out ≡ false }
+    ensures { IfSome result (λ held. held.out ≡ false) }
+{
+    HeldDoor::new(alloc, door).ok()
+}
+
+fn holds_back<R: Net<Listener = TcpListener, Stream = TcpStream>>(
+    rt: &R,
+    alloc: Global,
+    door: TcpDoor,
+) -> bool
+    requires { door.out ≡ false }
+{
+    let client = connect(rt, &door);
+    match (client, held_door(alloc, door)) {
+        (Some(client), Some(mut held)) => is_held_back(&mut held, client),
+        _ => false,
+    }
+}
+
+#[test]
+fn a_held_link_hands_on_before_it_reads(rt: HostRuntime) {
+    match TcpDoor::bind(&rt, 0) {
+        Ok(door) => assert!(rt; holds_back(&rt, rt.alloc(), door)),
         Err(_) => assert!(rt; false),
     }
 }

@@ -5,6 +5,7 @@ ghost use Rattle.std.specs.List.{All};
 use crate::sleep_pace::SleepPace;
 use crate::std_link::SystemClock;
 use crate::tcp::TcpDoor;
+use fs_ports::HeldDoor;
 use std::alloc::{AllocError, Global};
 use std::net::{Net, TcpListener, TcpStream};
 use std::sync::Arc;
@@ -18,25 +19,29 @@ pub enum NoDoors {
     NoMemory,
 }
 
-/// So many doors of one port of 127.0.0.1.
+/// So many doors of one port of 127.0.0.1. Their links hold back what is written until they are read.
 pub fn make_doors<R: Net<Listener = TcpListener, Stream = TcpStream>>(
     rt: &R,
     alloc: Global,
     port: u16,
     workers: u16,
-) -> Result<Vec<TcpDoor>, NoDoors>
+) -> Result<Vec<HeldDoor<TcpDoor>>, NoDoors>
     requires some { 0 < workers }
     ensures count { IfOk result (λ doors. length doors.items ≡ workers) }
     ensures idle { IfOk result (λ doors. All (λ door. door.out ≡ false) doors.items) }
 {
     let first = TcpDoor::bind(rt, port).map_err(|_| NoDoors::CannotListen)?;
     let mut doors = other_doors(alloc, &first, workers)?;
-    doors.push_reserved(first);
+    doors.push_reserved(hold_back(alloc, first)?);
     Ok(doors)
 }
 
 // The doors of a port but the first, with room for it.
-fn other_doors(alloc: Global, first: &TcpDoor, workers: u16) -> Result<Vec<TcpDoor>, NoDoors>
+fn other_doors(
+    alloc: Global,
+    first: &TcpDoor,
+    workers: u16,
+) -> Result<Vec<HeldDoor<TcpDoor>>, NoDoors>
     requires some { 0 < workers }
     ensures count { IfOk result (λ doors. length doors.items + 1 ≡ workers) }
     ensures room { IfOk result (λ doors. length doors.items < vec_capacity doors) }
@@ -49,9 +54,16 @@ fn other_doors(alloc: Global, first: &TcpDoor, workers: u16) -> Result<Vec<TcpDo
         let Ok(door) = first.another() else {
             return Err(NoDoors::CannotListen);
         };
-        doors.push_reserved(door);
+        doors.push_reserved(hold_back(alloc, door)?);
     }
     Ok(doors)
+}
+
+// The door with room for what its links hold back.
+fn hold_back(alloc: Global, door: TcpDoor) -> Result<HeldDoor<TcpDoor>, NoDoors>
+    ensures { IfOk result (λ held. held ≡ door) }
+{
+    HeldDoor::new(alloc, door).map_err(|_| NoDoors::NoMemory)
 }
 
 /// So many clocks.
