@@ -145,22 +145,41 @@ def is_true(value) -> bool:
 
 def evaluate(tree, look: Callable):
     """The value, where `look` gives the value of a property."""
+    # A chain is as deep on its left as it is long.
+    chain = []
+    while isinstance(tree, tuple) and len(tree) == 3:
+        chain.append(tree)
+        tree = tree[1]
+    value = single(tree, look)
+    for sign, _, right in reversed(chain):
+        value = joined(sign, value, evaluate(right, look))
+    return value
+
+
+def single(tree, look: Callable):
+    """The value of what is no operator between two sides."""
     if not isinstance(tree, tuple):
         return tree
-    sign = tree[0]
+    sign, part = tree
     if sign == "@":
-        return look(tree[1])
-    values = [evaluate(part, look) for part in tree[1:]]
-    if sign in ("!", "||", "&&"):
-        truths = [is_true(value) for value in values]
-        return int({"!": not truths[0], "||": any(truths), "&&": all(truths)}[sign])
+        return look(part)
+    value = evaluate(part, look)
+    if sign == "!":
+        return int(not is_true(value))
     if sign in FUNCTIONS:
-        return called(sign, values[0])
+        return called(sign, value)
+    return in_64_bits(-value) if isinstance(value, int) else None
+
+
+def joined(sign: str, left, right):
+    if sign in ("||", "&&"):
+        truths = is_true(left), is_true(right)
+        return int(any(truths) if sign == "||" else all(truths))
     if sign in COMPARISONS:
-        return compared(sign, *values)
-    if not all(isinstance(value, int) for value in values):
+        return compared(sign, left, right)
+    if not isinstance(left, int) or not isinstance(right, int):
         return None
-    return in_64_bits(-values[0] if sign == "minus" else worked_out(sign, *values))
+    return in_64_bits(worked_out(sign, left, right))
 
 
 def worked_out(sign: str, left: int, right: int) -> int:

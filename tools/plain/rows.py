@@ -10,7 +10,9 @@ WORD = re.compile(rb'"((?:[^"\\]|\\.)*)"|(\S+)', re.S)
 ESCAPE = re.compile(rb"\\(?:x([0-9a-fA-F]{2})|(.))", re.S)
 LETTERS = {b"n": b"\n", b"r": b"\r", b"t": b"\t"}
 NUMBERS = re.compile(rb"(\d+)\.\.(\d+)")
-MANY = re.compile(rb"\{(\d+)\.\.(\d+)(?::([^}]*))?\}")
+BRACES = re.compile(rb"([^{]*)\{([^}]*)\}(.*)", re.S)
+SPAN = re.compile(rb"(\d+)\.\.(\d+)(?::(.*))?", re.S)
+TIMES = re.compile(rb"(\d+)\*(.*)", re.S)
 
 BARE = re.compile(rb"(?=.*[A-Za-z0-9])[A-Za-z0-9_@:.+*-]+")
 ESCAPES = {ord('"'): '\\"', ord("\\"): "\\\\", ord("\n"): "\\n", ord("\r"): "\\r", ord("\t"): "\\t"}
@@ -34,12 +36,23 @@ def read_row(row: bytes) -> tuple:
 
 
 def meant_by(word: bytes) -> list:
-    """The words that a word stands for: {N..M} for these numbers, {N..M:V} for each of them with a V behind it."""
-    many = MANY.fullmatch(word)
-    if not many:
+    """The words that a word stands for, as crates/rows/src/spread.rt has them."""
+    braces = BRACES.fullmatch(word)
+    if not braces:
         return [word]
-    span = range(int(many[1]), int(many[2]) + 1)
-    return [part for number in span for part in (b"%d" % number, many[3]) if part is not None]
+    before, inner, behind = braces.groups()
+    if times := TIMES.fullmatch(inner):
+        if before or behind:
+            return [before + times[2] * int(times[1]) + behind]
+        return times[2].split(b" ") * int(times[1])
+    if many := SPAN.fullmatch(inner):
+        span = range(int(many[1]), int(many[2]) + 1)
+        return [part for number in span for part in (before + b"%d" % number + behind, many[3]) if part is not None]
+    return [word]
+
+
+def all_meant_by(words: list) -> list:
+    return [part for word in words for part in meant_by(word)]
 
 
 def read_rows(row: bytes) -> list:
@@ -47,9 +60,9 @@ def read_rows(row: bytes) -> list:
     words, reply = read_row(row)
     numbers = NUMBERS.fullmatch(words[0])
     if not numbers:
-        return [([part for word in words for part in meant_by(word)], reply)]
+        return [(all_meant_by(words), reply)]
     span = [b"%d" % number for number in range(int(numbers[1]), int(numbers[2]) + 1)]
-    return [([part.replace(b"{}", n) for part in words[1:]], [part.replace(b"{}", n) for part in reply]) for n in span]
+    return [(all_meant_by([word.replace(b"{}", n) for word in words[1:]]), [part.replace(b"{}", n) for part in reply]) for n in span]
 
 
 def read_sessions(lines) -> dict:

@@ -2,8 +2,8 @@
 //!
 //! Of `~ READ WRITE MOST SIZE TEXT .. | END OUTPUT` the first two words are the read and the write that fails, counted from
 //! 1; 0 is none. The link takes so many bytes a write, and gives each text in pieces of so many bytes, or whole where that
-//! is 0.
-use crate::{Tally, compare_row, script};
+//! is 0. `~~` is the same over a link that holds back what is written.
+use crate::{Tally, compare_row, script, script_held};
 use fs_ports::{ListOfCalls, ListOfPieces, MemLink};
 use ft_base::{Bytes, ListOf, NoMemory, read_int};
 use ft_server::Exit;
@@ -24,10 +24,11 @@ pub fn judge<R: Wait>(
     alloc: Global,
     hashing: RandomState,
     row: &str,
+    held: bool,
     tally: &mut Tally,
 ) -> Result<(), NoMemory> {
     match read_row(alloc, row.as_bytes())? {
-        Some(row) => judge_row(rt, alloc, hashing, &row, tally),
+        Some(row) => judge_row(rt, alloc, hashing, &row, held, tally),
         None => Ok(()),
     }
 }
@@ -37,22 +38,38 @@ fn judge_row<R: Wait>(
     alloc: Global,
     hashing: RandomState,
     row: &Row,
+    held: bool,
     tally: &mut Tally,
 ) -> Result<(), NoMemory> {
-    let came = run_row(rt, alloc, hashing, row.words.as_slice())?;
+    let link = link_of(alloc, row.words.as_slice())?;
+    let came = if held {
+        run_held(rt, alloc, hashing, link)?
+    } else {
+        run_plain(rt, alloc, hashing, link)?
+    };
     compare_row(alloc, NAME, row, came.as_slice(), tally)
 }
 
 // How the run ends, and all that was written.
-fn run_row<R: Wait>(
+fn run_plain<R: Wait>(
     rt: &R,
     alloc: Global,
     hashing: RandomState,
-    words: &[Vec<u8>],
+    link: MemLink,
 ) -> Result<Vec<Vec<u8>>, NoMemory> {
-    let mut link = link_of(alloc, words)?;
+    let mut link = link;
     let exit = script(rt, alloc, hashing, &[], &mut link);
     lines_of(alloc, name_of(exit), link.output())
+}
+
+fn run_held<R: Wait>(
+    rt: &R,
+    alloc: Global,
+    hashing: RandomState,
+    link: MemLink,
+) -> Result<Vec<Vec<u8>>, NoMemory> {
+    let (exit, output) = script_held(rt, alloc, hashing, &[], link)?;
+    lines_of(alloc, name_of(exit), output.as_slice())
 }
 
 fn lines_of(alloc: Global, end: &[u8], output: &[u8]) -> Result<Vec<Vec<u8>>, NoMemory> {

@@ -2,15 +2,18 @@
 //!
 //! Standard input has the sessions. `== NAME` begins one, which runs in a fresh server; each further line is
 //! a row of `row_text`, a command and its reply. A row that begins with `N..M` stands for one row for each of
-//! these numbers, with `{}` in its words and its reply replaced by the number. A word `{N..M}` of a row stands
-//! for these numbers as words, and `{N..M:V}` for each with a V behind it. `@ N` is the moment, in milliseconds,
-//! of each command behind it. A line that begins with `~` is a link of its own: `links.rt` has these. Each row
-//! that is answered otherwise is told, and the last line counts them.
+//! these numbers, with `{}` in its words and its reply replaced by the number. A word with braces may stand for
+//! many words, or for a long one: `spread.rt` says how. `@ N` is the moment, in milliseconds, of each command
+//! behind it. Each session is run twice: over a link in memory, and over one that holds back what is written, as
+//! the program has it. A line that begins with `~` or `~~` is a link of its own: `links.rt` has these. Each row that
+//! is answered otherwise is told, and the last line counts them.
 #![tactic(auto)]
 
 mod links;
+mod spread;
 
-use fs_ports::{MemLink, ScriptedClock};
+use crate::spread::{numbers_in, put_count, put_spread, words_of_spread};
+use fs_ports::{Failed, HeldLink, Link, MemLink, ScriptedClock};
 use ft_base::{Bytes, ListOf, NoMemory, put_int, read_int};
 use ft_server::{Exit, run};
 use row_text::{Row, fits, put_lines, read_reply, read_row, wanted_lines};
@@ -118,8 +121,11 @@ fn take_line<R: Wait>(
     if let Some(name) = line.strip_prefix("== ") {
         return begin_session(rt, alloc, hashing, name, session, tally);
     }
+    if let Some(row) = line.strip_prefix("~~ ") {
+        return links::judge(rt, alloc, hashing, row, true, tally);
+    }
     match line.strip_prefix("~ ") {
-        Some(row) => links::judge(rt, alloc, hashing, row, tally),
+        Some(row) => links::judge(rt, alloc, hashing, row, false, tally),
         None => take_session_line(alloc, line, session),
     }
 }
@@ -200,21 +206,6 @@ fn numbers_of(words: &[Vec<u8>]) -> Option<(i64, i64)> {
     numbers_in(words.first()?.as_slice())
 }
 
-// The numbers before two dots and behind them.
-fn numbers_in(text: &[u8]) -> Option<(i64, i64)> {
-    let (first, last) = cut_at_dots(text)?;
-    Some((read_int(first)?, read_int(last)?))
-}
-
-// What a word has before its two dots, and what behind them.
-fn cut_at_dots(word: &[u8]) -> Option<(&[u8], &[u8])> {
-    let dots = word.iter().position(|byte| *byte == b'.')?;
-    match word.split_at(dots.min(word.len())) {
-        (first, [b'.', b'.', last @ ..]) => Some((first, last)),
-        _ => None,
-    }
-}
-
 // Appends the row of each number.
 fn put_numbered(
     alloc: Global,
@@ -279,7 +270,30 @@ fn run_session<R: Wait>(
 ) -> Result<(), NoMemory> {
     let mut out = Vec::new(alloc);
     let exit = answer(rt, alloc, hashing, session, &mut out)?;
+    check_held(rt, alloc, hashing, session, out.as_slice(), tally)?;
     check_session(alloc, session, out.as_slice(), exit, tally)
+}
+
+// Runs a session once more, over a link that holds back what is written, and tells where other bytes come.
+fn check_held<R: Wait>(
+    rt: &R,
+    alloc: Global,
+    hashing: RandomState,
+    session: &Session,
+    replies: &[u8],
+    tally: &mut Tally,
+) -> Result<(), NoMemory> {
+    let link = link_for(alloc, session.rows.as_slice())?;
+    let (exit, output) = script_held(rt, alloc, hashing, session.moments.as_slice(), link)?;
+    if exit == Exit::Done && output.as_slice() == replies {
+        return Ok(());
+    }
+    let name = session.name.as_bytes();
+    tell_of(
+        tally,
+        name,
+        b": has other replies where they are held back\n",
+    )
 }
 
 // Appends what the server writes where it is sent the rows, and answers how it ended.
@@ -313,84 +327,13 @@ fn requests_of(alloc: Global, rows: &[Row]) -> Result<Vec<u8>, NoMemory> {
 fn put_request(alloc: Global, out: &mut Vec<u8>, words: &[Vec<u8>]) -> Result<(), NoMemory> {
     let mut count = 0usize;
     for word in words {
-        count = count.saturating_add(spread_len(word.as_slice()));
+        count = count.saturating_add(words_of_spread(word.as_slice()));
     }
     put_count(out, b'*', count)?;
     for word in words {
-        put_word(alloc, out, word.as_slice())?;
+        put_spread(alloc, out, word.as_slice())?;
     }
     Ok(())
-}
-
-// The numbers that a word stands for, and what stands behind each.
-#[derive(Clone, Copy)]
-struct Spread<'a> {
-    first: i64,
-    last: i64,
-    value: Option<&'a [u8]>,
-}
-
-// What a word `{N..M}` or `{N..M:V}` stands for.
-fn spread_of(word: &[u8]) -> Option<Spread<'_>> {
-    let (numbers, value) = parts_of(word)?;
-    let (first, last) = numbers_in(numbers)?;
-    Some(Spread { first, last, value })
-}
-
-// What stands in braces, and what behind a colon there.
-fn parts_of(word: &[u8]) -> Option<(&[u8], Option<&[u8]>)> {
-    let [b'{', inner @ .., b'}'] = word else {
-        return None;
-    };
-    match inner.iter().position(|byte| *byte == b':') {
-        Some(colon) => Some((&inner[..colon], Some(&inner[colon + 1..]))),
-        None => Some((inner, None)),
-    }
-}
-
-// How many words a word stands for.
-fn spread_len(word: &[u8]) -> usize {
-    match spread_of(word) {
-        Some(Spread { first, last, value }) => {
-            let numbers = usize::try_from(last.saturating_sub(first)).unwrap_or(0);
-            let each = if value.is_some() { 2 } else { 1 };
-            numbers.saturating_add(1).saturating_mul(each)
-        }
-        None => 1,
-    }
-}
-
-// Appends a word, or those that it stands for.
-fn put_word(alloc: Global, out: &mut Vec<u8>, word: &[u8]) -> Result<(), NoMemory> {
-    match spread_of(word) {
-        Some(spread) => put_spread(alloc, out, spread),
-        None => put_bulk(out, word),
-    }
-}
-
-fn put_spread(alloc: Global, out: &mut Vec<u8>, spread: Spread<'_>) -> Result<(), NoMemory> {
-    let mut digits = Vec::new(alloc);
-    for number in spread.first..=spread.last {
-        digits.clear();
-        put_int(&mut digits, number)?;
-        put_bulk(out, digits.as_slice())?;
-        if let Some(value) = spread.value {
-            put_bulk(out, value)?;
-        }
-    }
-    Ok(())
-}
-
-fn put_bulk(out: &mut Vec<u8>, word: &[u8]) -> Result<(), NoMemory> {
-    put_count(out, b'$', word.len())?;
-    out.extend_from_slice(word)?;
-    out.extend_from_slice(b"\r\n")
-}
-
-fn put_count(out: &mut Vec<u8>, mark: u8, count: usize) -> Result<(), NoMemory> {
-    out.push(mark)?;
-    put_int(out, i64::try_from(count).unwrap_or(0))?;
-    out.extend_from_slice(b"\r\n")
 }
 
 // A link that gives the requests in one piece, and whose calls do not fail.
@@ -402,13 +345,15 @@ fn link_over(alloc: Global, requests: Vec<u8>) -> Result<MemLink, NoMemory> {
 }
 
 // Serves the link, with a moment for each command.
-fn script<R: Wait>(
+fn script<R: Wait, L: Link>(
     rt: &R,
     alloc: Global,
     hashing: RandomState,
     moments: &[u64],
-    link: &mut MemLink,
-) -> Exit {
+    link: &mut L,
+) -> Exit
+    requires prompt { (any : L) → L.readable any }
+{
     let Ok(words) = words_of(alloc, "script") else {
         return Exit::NoMemory;
     };
@@ -416,6 +361,23 @@ fn script<R: Wait>(
         return Exit::NoMemory;
     };
     run(rt, alloc, hashing, words.as_slice(), link, &mut clock)
+}
+
+// The same over a link that holds back what is written, as the program has it. What is held at the end goes on then.
+fn script_held<R: Wait>(
+    rt: &R,
+    alloc: Global,
+    hashing: RandomState,
+    moments: &[u64],
+    link: MemLink,
+) -> Result<(Exit, Vec<u8>), NoMemory> {
+    let mut link = HeldLink::over(alloc, link)?;
+    let exit = script(rt, alloc, hashing, moments, &mut link);
+    let exit = match link.finish() {
+        Ok(()) => exit,
+        Err(Failed) => Exit::WriteFault,
+    };
+    Ok((exit, Vec::from_slice(alloc, link.below().output())?))
 }
 
 // A clock of these moments, and one behind them, for which nobody asks: a clock has one at least.
@@ -448,11 +410,14 @@ fn check_session(
     if exit == Exit::Done && rest.is_empty() {
         return Ok(());
     }
+    tell_of(tally, name, b": does not end with its last row\n")
+}
+
+// Counts a session, and tells what is otherwise in it.
+fn tell_of(tally: &mut Tally, name: &[u8], what: &[u8]) -> Result<(), NoMemory> {
     tally.differ = tally.differ.saturating_add(1);
     tally.told.extend_from_slice(name)?;
-    tally
-        .told
-        .extend_from_slice(b": does not end with its last row\n")
+    tally.told.extend_from_slice(what)
 }
 
 // Compares the first reply with what the row wants, and answers the replies behind it.
