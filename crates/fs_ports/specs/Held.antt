@@ -37,6 +37,10 @@ module _ {L : Type 0} (port : Link.Ghosts L) where
   abbrev pub IsReadableBelow : Held L → Type 0
   IsReadableBelow link = (after : L) → HandsOn link.below after link.held [] → port.readable after
 
+  -- A call of the link below failed.
+  abbrev pub FailedBelow : L → L → Type 0
+  FailedBelow before after = Rose (port.write_faults before) (port.write_faults after) ⊎ Rose (port.read_faults before) (port.read_faults after)
+
   -- What is left at the end of such a link: the link below, behind all that was held, or behind a front of it and a
   -- write that failed.
   pub record ComesApart (link : Held L) (last : L) : Type 0 where

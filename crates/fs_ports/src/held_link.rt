@@ -4,7 +4,7 @@ ghost use Rattle.std.specs.Prelude.{◌≡◌, ◌<◌, ◌≤◌, ◌+◌, ◌+
 ghost use Rattle.std.specs.Io.{ReadsAtMost, WritesAtMost};
 ghost use Rattle.std.specs.Io.KnownBytes.{Keeps, ReadConsumes, WriteAppends, append_known};
 ghost use Rattle.fs_ports.specs.Causes.{HasCause, Rose};
-ghost use Rattle.fs_ports.specs.Held.{ComesApart, HandsOn, IsReadableBelow, fresh, written_and_held};
+ghost use Rattle.fs_ports.specs.Held.{ComesApart, FailedBelow, HandsOn, IsReadableBelow, fresh, written_and_held};
 
 use crate::link::{Failed, Link, write_front};
 use ft_base::NoMemory;
@@ -79,6 +79,7 @@ impl<L: Link + Drop> HeldLink<L> {
         ensures left { Keeps (L.left self.old.below) (L.left self.new.below) }
         ensures whole { OnOk result (self.new.held ≡ []) }
         ensures cause { HasCause self.old.writes self.new.writes result }
+        ensures below { OnErr result (Rose (L.write_faults self.old.below) (L.write_faults self.new.below)) }
         ensures other { self.new.reads ≡ self.old.reads }
     {
         match hand_on(&mut self.link, &mut self.held) {
@@ -127,8 +128,9 @@ impl<L: Link + Drop> Link for HeldLink<L> {
         ensures cause { HasCause self.old.reads self.new.reads result }
         ensures other { self.new.writes ≡ self.old.writes }
 
-        // A read that succeeds leaves nothing held.
+        // A read that succeeds leaves nothing held. One fails only where a call of the link below does.
         ensures emptied { OnOk result (self.new.held ≡ []) }
+        ensures below { OnErr result (FailedBelow L.Link self.old.below self.new.below) }
     {
         match read_behind(&mut self.link, &mut self.held, buf) {
             Ok(count) => Ok(count),
@@ -153,6 +155,8 @@ impl<L: Link + Drop> Link for HeldLink<L> {
         // What fits once that was handed on is taken whole. No more is held than there is room for.
         ensures whole { length piece.now ≤ HELD_ROOM → IfOk result (λ n. n ≡ length piece.now) }
         ensures few { length self.new.held ≤ HELD_ROOM }
+        // A write fails only where one of the link below does.
+        ensures below { OnErr result (Rose (L.write_faults self.old.below) (L.write_faults self.new.below)) }
     {
         match write_behind(&mut self.link, &mut self.held, piece) {
             Ok(count) => Ok(count),
@@ -171,6 +175,7 @@ fn read_behind<L: Link>(link: &mut L, held: &mut Vec<u8>, buf: &mut [u8]) -> Res
     ensures bytes { ReadConsumes (L.left link.old) (L.left link.new) result buf.new }
     ensures written { Keeps (append_known (L.written link.old) held.old.items) (append_known (L.written link.new) held.new.items) }
     ensures emptied { OnOk result (held.new.items ≡ []) }
+    ensures cause { OnErr result (FailedBelow L.Link link.old link.new) }
     ensures fewer { length held.new.items ≤ length held.old.items }
     ensures room { vec_capacity held.new ≡ vec_capacity held.old }
 {
@@ -190,6 +195,7 @@ fn write_behind<L: Link>(link: &mut L, held: &mut Vec<u8>, piece: &[u8]) -> Resu
     ensures fits { length held.old.items + length piece.now ≤ HELD_ROOM
         → (link.new ≡ link.old) × (held.new.items ≡ held.old.items ++ piece.now) × (result ≡ Ok (length piece.now)) }
     ensures whole { length piece.now ≤ HELD_ROOM → IfOk result (λ n. n ≡ length piece.now) }
+    ensures cause { OnErr result (Rose (L.write_faults link.old) (L.write_faults link.new)) }
     ensures held { length held.new.items ≤ HELD_ROOM }
     ensures room { HELD_ROOM ≤ vec_capacity held.new }
 {
