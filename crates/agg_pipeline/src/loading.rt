@@ -8,8 +8,8 @@ ghost use Rattle.agg_pipeline.specs.Rows.{load_cell, loaded_cells, own_cell, val
 
 use crate::cells::set_cell;
 use crate::step::Load;
-use expr_eval::{Lent, by_alias, by_name, has_number, seen_as};
-use ft_base::{Bytes, Cell, Doc, Field, IndexDef, NamedList, NoMemory};
+use expr_eval::{Lent, by_alias, by_name, seen_as};
+use ft_base::{Bytes, Cell, Doc, IndexDef, NamedList, NoMemory, Schema};
 use std::alloc::Global;
 
 /// The cells that a document's row has from the start.
@@ -64,9 +64,9 @@ fn load_cell(
 fn value_there<'a>(name: &[u8], def: &IndexDef, doc: &'a Doc) -> Option<Lent<'a>>
     ensures { option_map value_lent result ≡ value_there def.now doc.now name.now }
 {
-    match by_alias(name, &doc.hash(), def.fields.as_slice()) {
+    match by_alias(name, &doc.hash(), &def.fields) {
         Some(value) => Some(value),
-        None => by_name(name, &doc.hash(), def.fields.as_slice()),
+        None => by_name(name, &doc.hash(), &def.fields),
     }
 }
 
@@ -77,16 +77,16 @@ fn own_cells(alloc: Global, def: &IndexDef, doc: &Doc) -> Result<NamedList<Cell>
     let mut cells = NamedList::new(alloc);
     let mut walk = doc.hash().walk();
     while let Some((name, text)) = walk.next() {
-        cells.push(own_cell(alloc, name, text, def.fields.as_slice())?)?;
+        cells.push(own_cell(alloc, name, text, &def.fields)?)?;
     }
     Ok(cells)
 }
 
 /// The cell of a hash's field, under its own name.
-fn own_cell(alloc: Global, name: &[u8], text: &[u8], fields: &[Field]) -> Result<Cell, NoMemory>
+fn own_cell(alloc: Global, name: &[u8], text: &[u8], fields: &Schema) -> Result<Cell, NoMemory>
     ensures { IfOk result (λ made. made ≡ cell name.now (seen_as (has_number fields.now name.now) text.now)) }
 {
-    let value = seen_as(has_number(fields, name), text).own(alloc)?;
+    let value = seen_as(fields.reads_number(name), text).own(alloc)?;
     let name = Bytes::from_slice(alloc, name)?;
     Ok(Cell { name, value })
 }

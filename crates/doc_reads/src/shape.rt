@@ -1,15 +1,16 @@
 //! What a search shows, once its names are looked up in the index's definition: so none is looked up for a document.
 ghost use Rattle.std.specs.Prelude.{◌≡◌, ◌∷◌, ◌++◌, [], map, option_and_then, Some, IfOk, OnOk};
-ghost use Rattle.std.specs.List.{find, flat_map};
-ghost use Rattle.std.specs.Option.{option_copied, option_map};
-ghost use Rattle.std.specs.Str.{bytes_eq};
+ghost use Rattle.std.specs.List.{flat_map};
+ghost use Rattle.std.specs.Option.{option_map};
 ghost use Rattle.cmd_parse.specs.Seen.{search_of, sort_of};
 ghost use Rattle.ft_base.specs.declared.reply.Reply.TheVariants.{Array, Bulk};
 ghost use Rattle.ft_machine.specs.Shown.{bare_name, field_named};
 ghost use Rattle.doc_reads.specs.Shapes.{IsShapeOf, column_for, column_named, fields_with, key_for, key_of_field, key_seen, pair_of, resolved, row_by, shown_in};
 
 use cmd_parse::{SearchSpec, SortSpec};
-use ft_base::{Bytes, Doc, Field, HashView, IndexDef, ListOf, NoMemory, Reply, Words, in_turn};
+use ft_base::{
+    Bytes, Doc, Field, HashView, IndexDef, ListOf, NoMemory, Reply, Schema, Words, in_turn,
+};
 use ft_meaning::keeps_number;
 use row_sort::Direction;
 use std::alloc::Global;
@@ -59,13 +60,13 @@ impl<'a> Shape<'a> {
         ensures { IfOk result (λ shape. IsShapeOf (search_of search.now) def.now shape) }
     {
         let fields = match &search.fields {
-            Some(names) => Some(shown_fields(alloc, def.fields.as_slice(), names)?),
+            Some(names) => Some(shown_fields(alloc, &def.fields, names)?),
             None => None,
         };
         Ok(Shape {
             no_content: search.no_content,
             fields,
-            sort: sort_key(def.fields.as_slice(), &search.sort),
+            sort: sort_key(&def.fields, &search.sort),
             offset: search.offset as usize,
             num: search.num as usize,
         })
@@ -75,7 +76,7 @@ impl<'a> Shape<'a> {
 /// The fields that names stand for, each looked up once.
 fn shown_fields<'a>(
     alloc: Global,
-    fields: &'a [Field],
+    fields: &'a Schema,
     names: &Words<'a>,
 ) -> Result<Vec<ShownField<'a>>, NoMemory>
     ensures { IfOk result (λ shown. map pair_of shown.items ≡ map (resolved fields.now) names.now) }
@@ -100,24 +101,17 @@ fn bare_name(name: &[u8]) -> &[u8]
 }
 
 /// The hash's field that a name stands for: that of the alias, else the one of this very name.
-fn field_named<'a>(fields: &'a [Field], name: &'a [u8]) -> &'a [u8]
+fn field_named<'a>(fields: &'a Schema, name: &'a [u8]) -> &'a [u8]
     ensures { result.now ≡ field_named fields.now name.now }
 {
-    match with_alias(fields, name) {
+    match fields.get(name) {
         Some(field) => field.name.as_slice(),
         None => name,
     }
 }
 
-/// The field with an alias.
-fn with_alias<'a>(fields: &'a [Field], alias: &[u8]) -> Option<&'a Field>
-    ensures { option_copied result ≡ find (λ field. bytes_eq alias.now field.alias) fields.now }
-{
-    fields.iter().find(|field| alias == field.alias.as_slice())
-}
-
 /// The key by which documents are sorted, where a search names one of the index's fields.
-fn sort_key<'a>(fields: &'a [Field], sort: &Option<SortSpec<'a>>) -> Option<SortKey<'a>>
+fn sort_key<'a>(fields: &'a Schema, sort: &Option<SortSpec<'a>>) -> Option<SortKey<'a>>
     ensures seen { option_map key_seen result ≡ key_for (option_map sort_of sort.now) fields.now }
     ensures column { option_and_then (λ key. key.column) result ≡ column_for (option_map sort_of sort.now) fields.now }
 {
@@ -128,12 +122,12 @@ fn sort_key<'a>(fields: &'a [Field], sort: &Option<SortSpec<'a>>) -> Option<Sort
 }
 
 /// The key by which a field of the index sorts.
-fn key_named<'a>(fields: &'a [Field], sort: &SortSpec<'a>) -> Option<SortKey<'a>>
+fn key_named<'a>(fields: &'a Schema, sort: &SortSpec<'a>) -> Option<SortKey<'a>>
     ensures seen { option_map key_seen result ≡ key_for (Some (sort_of sort.now)) fields.now }
     ensures column { option_and_then (λ key. key.column) result ≡ column_named sort.now.field.now fields.now }
 {
-    let column = column_named(fields, sort.field);
-    match with_alias(fields, sort.field) {
+    let column = column_named(fields.as_slice(), sort.field);
+    match fields.get(sort.field) {
         Some(field) => Some(key_of_field(field, column, sort.descending)),
         None => None,
     }

@@ -32,7 +32,7 @@ impl<'a> LentRow<'a> {
     {
         match (cell_of(self.cells, name), self.doc) {
             (Some(value), _) => Lent::of(value),
-            (None, Some(doc)) => in_hash(name, &doc.hash(), def.fields.as_slice()),
+            (None, Some(doc)) => in_hash(name, &doc.hash(), &def.fields),
             (None, None) => Lent::Null,
         }
     }

@@ -29,7 +29,7 @@ pub use lent::Lent;
 /// Rows that are lent.
 pub use lent_row::LentRow;
 /// The values of the fields of a hash, lent.
-pub use properties::{by_alias, by_name, has_number, seen_as};
+pub use properties::{by_alias, by_name, seen_as};
 /// A text has one answer.
 pub use laws::{one_fault, one_tree, tree_or_fault};
 /// The tree of a text.

@@ -2,11 +2,11 @@
 ghost use Rattle.std.specs.Prelude.{◌≡◌};
 ghost use Rattle.std.specs.Option.{option_map, option_copied};
 ghost use Rattle.expr_eval.specs.Lending.{value_lent};
-ghost use Rattle.expr_eval.specs.Properties.{cell_of, alias_of, has_number, seen_as, by_alias, by_name, in_hash};
+ghost use Rattle.expr_eval.specs.Properties.{cell_of, alias_of, seen_as, by_alias, by_name, in_hash};
 
 use crate::lent::Lent;
 use field_text::number;
-use ft_base::{Cell, Field, HashView, NamedList, Value};
+use ft_base::{Cell, Field, HashView, NamedList, Schema, Value};
 
 /// The value of the cell of a name.
 pub fn cell_of<'a>(cells: &'a NamedList<Cell>, name: &[u8]) -> Option<&'a Value>
@@ -19,7 +19,7 @@ pub fn cell_of<'a>(cells: &'a NamedList<Cell>, name: &[u8]) -> Option<&'a Value>
 }
 
 /// The hash's field that an alias names, else the hash's field of this very name.
-pub fn in_hash<'a>(name: &[u8], hash: &HashView<'a>, fields: &[Field]) -> Lent<'a>
+pub fn in_hash<'a>(name: &[u8], hash: &HashView<'a>, fields: &Schema) -> Lent<'a>
     ensures { value_lent result ≡ in_hash name.now hash.now fields.now }
 {
     match by_alias(name, hash, fields) {
@@ -32,7 +32,7 @@ pub fn in_hash<'a>(name: &[u8], hash: &HashView<'a>, fields: &[Field]) -> Lent<'
 }
 
 /// The hash's field that an alias names.
-pub fn by_alias<'a>(name: &[u8], hash: &HashView<'a>, fields: &[Field]) -> Option<Lent<'a>>
+pub fn by_alias<'a>(name: &[u8], hash: &HashView<'a>, fields: &Schema) -> Option<Lent<'a>>
     ensures { option_map value_lent result ≡ by_alias name.now hash.now fields.now }
 {
     let field = alias_of(fields, name)?;
@@ -40,30 +40,19 @@ pub fn by_alias<'a>(name: &[u8], hash: &HashView<'a>, fields: &[Field]) -> Optio
     Some(seen_as(field.kind.is_numeric(), text))
 }
 
-fn alias_of<'a>(fields: &'a [Field], name: &[u8]) -> Option<&'a Field>
+/// The field that has this alias.
+fn alias_of<'a>(fields: &'a Schema, name: &[u8]) -> Option<&'a Field>
     ensures { option_copied result ≡ alias_of fields.now name.now }
 {
-    for field in fields {
-        if field.alias.as_slice() == name {
-            return Some(field);
-        }
-    }
-    None
+    fields.get(name)
 }
 
 /// The hash's field of this very name.
-pub fn by_name<'a>(name: &[u8], hash: &HashView<'a>, fields: &[Field]) -> Option<Lent<'a>>
+pub fn by_name<'a>(name: &[u8], hash: &HashView<'a>, fields: &Schema) -> Option<Lent<'a>>
     ensures { option_map value_lent result ≡ by_name name.now hash.now fields.now }
 {
     let text = hash.get(name)?;
-    Some(seen_as(has_number(fields, name), text))
-}
-
-/// Whether a NUMERIC field reads this field of hashes.
-pub fn has_number(fields: &[Field], name: &[u8]) -> bool
-    ensures { result ≡ has_number fields.now name.now }
-{
-    fields.iter().any(|field| field.kind.is_numeric() && field.name.as_slice() == name)
+    Some(seen_as(fields.reads_number(name), text))
 }
 
 /// What a stored text is seen as.

@@ -3,7 +3,7 @@ use Rattle.std.proofs.Common.{◌≡◌, ℕ, suc, ◌+◌, ◌<◌, ◌≤◌, 
 use Rattle.std.specs.Cmp.Lexicographic.{nat_list_eq_equiv}
 use Rattle.std.specs.List.{list_any, position, position_or_len, slice_get}
 use Rattle.std.specs.Map.{lookup}
-use Rattle.std.specs.Option.{is_some, option_or}
+use Rattle.std.specs.Option.{IfSome, is_some, option_or}
 use Rattle.std.specs.Prelude.{◌||◌}
 use Rattle.std.specs.Str.{bytes_eq}
 use Rattle.std.specs.declared.alloc.Global.{Global}
@@ -22,7 +22,8 @@ use Rattle.ft_base.proofs.FieldsLemmas.{is_kept, same_kept}
 abbrev Stored : Type 0
 Stored = Vec ℕ Global × ℕ
 
-turned : (a b : List ℕ) → bytes_eq a b ≡ bytes_eq b a
+-- which of two names comes first does not matter
+pub turned : (a b : List ℕ) → bytes_eq a b ≡ bytes_eq b a
 turned a b = nat_list_eq_equiv.symm a b
 
 -- ---- names and their places, as they are stored
@@ -166,6 +167,17 @@ no_place n l none =
       | inl below ↦ let clash : ◌≡◌ {A = Option ℕ} (Some n) None = rw below at none in absurd cc
       | inr past ↦ ltb-false n l past
     ]
+
+-- the place of the first one is one of the list
+pub place-within : {X : Type 0} (p : X → Bool) (xs : List X) → IfSome (position p xs) (λ i. i < length xs)
+place-within p xs = by_number (position_or_len p xs) (length xs)
+  where
+    by_number : (n l : ℕ) → IfSome (cond (nat_lt n l) (Some n) None) (λ i. i < l)
+    by_number n l =
+        elim (cases_Bool (nat_lt n l)) [
+          | inl y ↦ rw y (ltb-true n l y)
+          | inr past ↦ rw past tt
+        ]
 
 -- there is a first one where one passes
 some-position : {X : Type 0} (p : X → Bool) (xs : List X) → is_some (position p xs) ≡ list_any p xs

@@ -11,7 +11,7 @@ use crate::alias_set::AliasSet;
 use crate::fault::SchemaFault;
 use crate::limits::{MAX_FIELDS, MAX_TEXT_FIELDS};
 use crate::schema::stop_words;
-use ft_base::{Bytes, Field, IndexDef, ListOf, NoMemory, StopWords};
+use ft_base::{Bytes, Field, IndexDef, ListOf, NoMemory, Schema, StopWords};
 use std::alloc::Global;
 
 /// The word of FT.ALTER at which the faults stand that an index finds, whichever field it is.
@@ -104,7 +104,7 @@ fn joined(alloc: Global, def: &IndexDef, fields: &[Field]) -> Result<IndexDef, N
 fn with_lists(
     alloc: Global,
     def: &IndexDef,
-    fields: ListOf<Field>,
+    fields: Schema,
     stops: StopWords,
 ) -> Result<IndexDef, NoMemory>
     ensures { IfOk result (λ index. index ≡ record def.now { fields = fields; stops = stops }) }
@@ -119,13 +119,14 @@ fn with_lists(
     })
 }
 
-fn joined_fields(alloc: Global, old: &[Field], new: &[Field]) -> Result<ListOf<Field>, NoMemory>
+/// The fields of an index and those behind them, copied.
+fn joined_fields(alloc: Global, old: &[Field], new: &[Field]) -> Result<Schema, NoMemory>
     ensures { IfOk result (λ all. all ≡ old.now ++ new.now) }
 {
     let mut all = Vec::with_capacity(alloc, old.len() + new.len())?;
     push_copies(&mut all, old)?;
     push_copies(&mut all, new)?;
-    Ok(ListOf::from_vec(all))
+    Schema::from_vec(all)
 }
 
 /// Adds copies of fields at the end.

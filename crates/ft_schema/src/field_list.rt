@@ -8,7 +8,7 @@ ghost use Rattle.ft_schema.specs.Limits.{most_fields, most_texts};
 
 use crate::alias_set::AliasSet;
 use crate::limits::{MAX_FIELDS, MAX_TEXT_FIELDS};
-use ft_base::{Field, ListOf, NoMemory};
+use ft_base::{Field, ListOf, NoMemory, Schema};
 use std::alloc::Global;
 use std::marker::Model;
 
@@ -81,6 +81,13 @@ impl FieldList {
             aliases,
             texts,
         })
+    }
+
+    /// The fields alone, as those of an index.
+    pub fn into_schema(self) -> Result<Schema, NoMemory>
+        ensures { IfOk result (λ schema. schema ≡ self) }
+    {
+        Schema::from_vec(self.fields)
     }
 
     /// The fields alone.

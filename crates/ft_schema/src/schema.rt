@@ -10,7 +10,7 @@ use crate::fault::{Cause, SchemaFault, Stop};
 use crate::fields::fields;
 use crate::index_options::{IndexOptions, options};
 use crate::reading::fault;
-use ft_base::{Bytes, Field, IndexDef, ListOf, NamedList, NoMemory, StopWords, Words};
+use ft_base::{Bytes, Field, IndexDef, ListOf, NamedList, NoMemory, Schema, StopWords, Words};
 use std::alloc::Global;
 
 /// The index that the words of FT.CREATE define. Its serial is given. Each call may want memory.
@@ -100,7 +100,7 @@ fn index_behind(
         Ok(read) => read,
         Err(stop) => return Err(stop),
     };
-    let index = index_by(alloc, name, serial, options, fields.into_list())?;
+    let index = index_by(alloc, name, serial, options, fields.into_schema()?)?;
     Ok(index)
 }
 
@@ -110,7 +110,7 @@ fn index_by(
     name: &[u8],
     serial: u64,
     options: IndexOptions,
-    fields: ListOf<Field>,
+    fields: Schema,
 ) -> Result<IndexDef, NoMemory>
     ensures { IfOk result (λ index. index ≡ index_by name.now serial options fields) }
 {

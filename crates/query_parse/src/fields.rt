@@ -80,10 +80,7 @@ fn place_of(def: &IndexDef, alias: &[u8]) -> Option<usize>
     ensures place { result ≡ number_of_alias def.now.fields alias.now }
     ensures within { IfSome result (λ place. place < length def.now.fields) }
 {
-    def.fields
-        .as_slice()
-        .iter()
-        .position(|field| alias == field.alias.as_slice())
+    def.fields.place(alias)
 }
 
 /// Whether some of these fields is of another kind than is needed.

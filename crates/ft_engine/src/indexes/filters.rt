@@ -1,62 +1,57 @@
 //! The fields that FILTER and SORTBY name, and FILTER's ranges, which join the query.
 ghost use Rattle.std.specs.Prelude.{◌≡◌, ◌<◌, ◌≤◌, ◌&&◌, ◌++◌, length, map, option_map, option_to_list, position, IfOk, IfSome, OnOk};
-ghost use Rattle.std.specs.List.{list_all, list_any};
+ghost use Rattle.std.specs.List.{list_all};
 ghost use Rattle.std.specs.Str.{bytes_eq};
 ghost use Rattle.cmd_parse.specs.Seen.{filter_of, search_of, sort_of};
-ghost use Rattle.ft_base.specs.Kinds.{is_numeric};
 ghost use Rattle.ft_base.specs.Docs.{Doc};
 ghost use Rattle.ft_machine.specs.Counted.{first_unknown, least, passes, unknown_filter, unknown_sort};
 ghost use Rattle.ft_meaning.specs.Holds.{holds};
 
 use cmd_parse::{FilterSpec, SearchSpec, SortSpec};
-use ft_base::{Field, IndexDef, ListOf, NoMemory, Query};
+use ft_base::{IndexDef, ListOf, NoMemory, Query, Schema};
 use std::alloc::Global;
 
 /// The least number of a word that names no field: of SORTBY one of the index, of a FILTER a NUMERIC one.
 pub fn first_unknown(def: &IndexDef, search: &SearchSpec<'_>) -> Option<u32>
     ensures { result ≡ first_unknown def.now.fields (search_of search.now) }
 {
-    let fields = def.fields.as_slice();
+    let fields = &def.fields;
     let mut first = unknown_sort(fields, search.sort);
     'filters: for filter in search.filters.as_slice() {
-        first = lesser(first, unknown_filter(fields, filter));
+        first = or_filter(first, fields, filter);
     }
     first
 }
 
 /// The number of SORTBY's word, where that names no field.
-fn unknown_sort(fields: &[Field], sort: Option<SortSpec<'_>>) -> Option<u32>
+fn unknown_sort(fields: &Schema, sort: Option<SortSpec<'_>>) -> Option<u32>
     ensures { option_to_list result ≡ unknown_sort fields.now (option_map sort_of sort.entry) }
 {
     let sort = sort?;
-    if has_alias(fields, sort.field) {
+    if fields.has(sort.field) {
         return None;
     }
     Some(sort.at)
 }
 
+/// The least of a number and that of a FILTER's word. Behind a word that names no field, no other is looked up.
+fn or_filter(first: Option<u32>, fields: &Schema, filter: &FilterSpec<'_>) -> Option<u32>
+    ensures { result ≡ least (option_to_list first ++ unknown_filter fields.now (filter_of filter.now)) }
+{
+    match first {
+        Some(at) if at <= filter.at => first,
+        _ => lesser(first, unknown_filter(fields, filter)),
+    }
+}
+
 /// The number of a FILTER's word, where that names no NUMERIC field.
-fn unknown_filter(fields: &[Field], filter: &FilterSpec<'_>) -> Option<u32>
+fn unknown_filter(fields: &Schema, filter: &FilterSpec<'_>) -> Option<u32>
     ensures { option_to_list result ≡ unknown_filter fields.now (filter_of filter.now) }
 {
-    if has_number(fields, filter.field) {
+    if fields.has_numeric(filter.field) {
         return None;
     }
     Some(filter.at)
-}
-
-/// Whether a field has an alias.
-fn has_alias(fields: &[Field], alias: &[u8]) -> bool
-    ensures { result ≡ list_any (λ field. bytes_eq alias.now field.alias) fields.now }
-{
-    fields.iter().any(|field| alias == field.alias.as_slice())
-}
-
-/// Whether a NUMERIC field has an alias.
-fn has_number(fields: &[Field], alias: &[u8]) -> bool
-    ensures { result ≡ list_any (λ field. is_numeric field.kind && bytes_eq alias.now field.alias) fields.now }
-{
-    fields.iter().any(|field| field.kind.is_numeric() && alias == field.alias.as_slice())
 }
 
 /// The lesser of two numbers, where there are some.
@@ -129,8 +124,5 @@ fn place_of(def: &IndexDef, alias: &[u8]) -> Option<usize>
     ensures place { result ≡ position (λ field. bytes_eq alias.now field.alias) def.now.fields }
     ensures within { IfSome result (λ place. place < length def.now.fields) }
 {
-    def.fields
-        .as_slice()
-        .iter()
-        .position(|field| alias == field.alias.as_slice())
+    def.fields.place(alias)
 }

@@ -1,9 +1,8 @@
-use Rattle.std.proofs.Common.{◌≡◌, ◌∙◌, ℕ, Bool, true, false, cond, List, [], ◌∷◌, Option, None, Some, refl, ap}
+use Rattle.std.proofs.Common.{◌≡◌, ◌∙◌, ℕ, Bool, true, false, cond, List, [], ◌∷◌, Option, Some, refl, ap}
 use Rattle.std.specs.Option.{option_map}
 use Rattle.std.specs.Str.{bytes_eq}
 use Rattle.ft_base.specs.Named.{item_of}
 use Rattle.ft_base.specs.declared.row.Cell.{Cell}
-use Rattle.ft_base.specs.declared.row.Value.{Value}
 use Rattle.expr_eval.specs.Properties.{cell_of}
 use Rattle.expr_eval.proofs.properties.cell_of.Goals as goal
 
