@@ -32,7 +32,7 @@ module _ {X : Type 0} where
   count-none : (p : X → Bool) → ((x : X) → p x ≡ false) → (xs : List X) → count_by p xs ≡ 0
   count-none p h xs = sum-none (λ x. cond (p x) 1 0) (λ x. rw (h x) refl) xs
 
-  count-same : (p q : X → Bool) → ((x : X) → p x ≡ q x) → (xs : List X) → count_by p xs ≤ count_by q xs
+  pub count-same : (p q : X → Bool) → ((x : X) → p x ≡ q x) → (xs : List X) → count_by p xs ≤ count_by q xs
   count-same p q h xs = sum-le (λ x. cond (p x) 1 0) (λ x. cond (q x) 1 0) (λ x. rw (h x) (omega arith)) xs
 
 -- one, where something is so
@@ -59,10 +59,10 @@ pub same-name : (name : List ℕ) → bytes_eq name name ≡ true
 same-name name = nat_list_eq_equiv.refl name
 
 -- names but one
-abbrev others : List ℕ → List (List ℕ) → List (List ℕ)
+abbrev pub others : List ℕ → List (List ℕ) → List (List ℕ)
 others name names = filter (λ other. not (bytes_eq name other)) names
 
-abbrev distinct : List (List ℕ) → ℕ
+abbrev pub distinct : List (List ℕ) → ℕ
 distinct names = distinct_count bytes_eq names
 
 any-own : (name : List ℕ) (names : List (List ℕ)) → list_any (bytes_eq name) (others name names) ≡ false
@@ -72,7 +72,7 @@ any-own name (first ∷ names) = elim (cases_Bool (bytes_eq name first)) [
   | inr n ↦ rw (n, n) (any-own name names)
 ]
 
-any-other : (name other : List ℕ) (names : List (List ℕ)) → bytes_eq name other ≡ false → list_any (bytes_eq other) (others name names) ≡ list_any (bytes_eq other) names
+pub any-other : (name other : List ℕ) (names : List (List ℕ)) → bytes_eq name other ≡ false → list_any (bytes_eq other) (others name names) ≡ list_any (bytes_eq other) names
 any-other name other [] apart = refl
 any-other name other (first ∷ names) apart = elim (cases_Bool (bytes_eq name first)) [
   | inl y ↦
@@ -176,7 +176,7 @@ numbered [] x = 0
 numbered (field ∷ fields) x = x 0 + numbered fields (λ i. x (suc i))
 
 -- counts with none at one number
-abbrev without_at : ℕ → (ℕ → ℕ) → ℕ → ℕ
+abbrev pub without_at : ℕ → (ℕ → ℕ) → ℕ → ℕ
 without_at number x i = cond (nat_eq i number) 0 (x i)
 
 module _ {F : Type 0} where
@@ -185,7 +185,7 @@ module _ {F : Type 0} where
   numbered-over (field ∷ fields) y x h =
       omega (arith, sum_by-cons y field fields, h 0 field refl, numbered-over fields y (λ i. x (suc i)) (λ i f is. h (suc i) f is))
 
-  numbered-le : (fields : List F) (x y : ℕ → ℕ) → ((i : ℕ) → x i ≤ y i) → numbered fields x ≤ numbered fields y
+  pub numbered-le : (fields : List F) (x y : ℕ → ℕ) → ((i : ℕ) → x i ≤ y i) → numbered fields x ≤ numbered fields y
   numbered-le [] x y h = omega arith
   numbered-le (field ∷ fields) x y h = omega (arith, h 0, numbered-le fields (λ i. x (suc i)) (λ i. y (suc i)) (λ i. h (suc i)))
 

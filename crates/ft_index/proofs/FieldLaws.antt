@@ -1,11 +1,15 @@
 -- What holds field by field, of the first so many fields.
-use Rattle.std.proofs.Common.{◌≡◌, ◌≢◌, ◌⊎◌, ℕ, suc, zero, ◌+◌, ◌<◌, List, [], ◌∷◌, take, length, slice_index_or, refl, ap, sym, subst, inl, inr, ◌∙◌, add-one, nat_eq, Option, None, Some}
+use Rattle.std.proofs.Common.{◌≡◌, ◌≢◌, ◌⊎◌, ℕ, suc, zero, ◌+◌, ◌<◌, List, [], ◌∷◌, take, length, slice_index_or, refl, ap, sym, subst, inl, inr, ◌∙◌, add-one, arith, nat_eq, nat_lt, ◌≤◌, Option, None, Some}
+use Rattle.std.proofs.lemmas.Bool.Decides.{nat_tests}
 use Rattle.std.proofs.lemmas.Bool.{cases_Bool, eqb-true, eqb-false}
 use Rattle.std.proofs.lemmas.Option.{slice_get-get_or}
 use Rattle.std.specs.Prelude.{slice_get}
 
 pub decided : (a b : ℕ) → (a ≡ b) ⊎ (a ≢ b)
 decided a b = elim (cases_Bool (nat_eq a b)) [ inl y ↦ inl (eqb-true a b y) | inr n ↦ inr (eqb-false a b n) ]
+
+pub below-or-not : (a b : ℕ) → (a < b) ⊎ (b ≤ a)
+below-or-not a b = elim (cases_Bool (nat_lt a b)) [ inl y ↦ inl (grind (arith, nat_tests, y)) | inr n ↦ inr (grind (arith, nat_tests, n)) ]
 
 module _ {X : Type 0} where
   pub get-taken : (k : ℕ) (xs : List X) → slice_get (take k xs) k ≡ None
@@ -39,3 +43,9 @@ module _ {X : Type 0} where
         let same : slice_get (take (k + 1) xs) number ≡ slice_get (take k xs) number = rw add-one (get-others k number xs away) in
         subst (Q number) (sym same) (others number away)
   ]
+
+  pub get-beyond : (xs : List X) (number : ℕ) → length xs ≤ number → slice_get xs number ≡ None
+  get-beyond [] zero past = refl
+  get-beyond [] (suc number) past = refl
+  get-beyond (x ∷ xs) zero past = absurd (omega (arith, past))
+  get-beyond (x ∷ xs) (suc number) past = get-beyond xs number (omega (arith, past))

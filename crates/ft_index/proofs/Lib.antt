@@ -1,7 +1,9 @@
 pub mod AddingLaws
 pub mod AliveLaws
+pub mod CollectLaws
 pub mod CollectedLaws
 pub mod CountLaws
+pub mod ExactLaws
 pub mod FieldLaws
 pub mod IndexLaws
 pub mod ListLaws
@@ -13,7 +15,10 @@ pub mod PartedLaws
 pub mod RangeLaws
 pub mod ReadingLaws
 pub mod RecordsLaws
+pub mod RowLaws
 pub mod SlotLaws
+pub mod SplicingLaws
 pub mod TagLaws
 pub mod TakingLaws
+pub mod ThinLaws
 pub mod WordLaws

@@ -48,14 +48,14 @@ module _ {X : Type 0} where
 abbrev pub is_from : ℤ → ℕ × NumHit → Bool
 is_from low e = int_le low e.1.value
 
-lies-from : (low : ℤ) (next : Option ℤ) (v : ℤ) → lies_in low next v ≡ true → int_le low v ≡ true
+pub lies-from : (low : ℤ) (next : Option ℤ) (v : ℤ) → lies_in low next v ≡ true → int_le low v ≡ true
 lies-from low next v lies = elim (cases_Bool (int_le low v)) [ inl y ↦ y | inr n ↦ absurd (cc (rw n at lies)) ]
 
 lies-here : (low : ℤ) (next : Option ℤ) (v : ℤ) → int_le low v ≡ true → is_below next v ≡ true → lies_in low next v ≡ true
 lies-here low next v from below = rw (from, below) refl
 
 -- the lows of later rows are no lower
-lows-from : (low : ℤ) (row : ℤ × Listing NumHit) (rows : Rows) → int_le low row.0 ≡ true → LowsRise (row ∷ rows) → AllByRecursion (λ r. int_le low r.0 ≡ true) (row ∷ rows)
+pub lows-from : (low : ℤ) (row : ℤ × Listing NumHit) (rows : Rows) → int_le low row.0 ≡ true → LowsRise (row ∷ rows) → AllByRecursion (λ r. int_le low r.0 ≡ true) (row ∷ rows)
 lows-from low row [] from rise = (from, tt)
 lows-from low row (next ∷ rows) from rise = (from, lows-from low next rows (le_trans low row.0 next.0 from (le_of_lt row.0 next.0 rise.0)) rise.1)
 

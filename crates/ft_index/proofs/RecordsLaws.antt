@@ -78,7 +78,7 @@ entry-count id word (one ∷ found) = elim (cases_Bool (bytes_eq word one.0)) [
   | inr n ↦ rw n (entry-count id word found)
 ]
 
-word-count : (def : IndexDef) (word : List ℕ) (docs : List Doc) → length (word_entries def word docs) ≡ having (words_of def) word docs
+pub word-count : (def : IndexDef) (word : List ℕ) (docs : List Doc) → length (word_entries def word docs) ≡ having (words_of def) word docs
 word-count def word [] = refl
 word-count def word (doc ∷ docs) =
     omega (
@@ -101,20 +101,20 @@ value-apart (kinds.Tag separator case) None = tt
 value-apart kinds.Text value = tt
 value-apart kinds.Numeric value = tt
 
-searched-apart : (field : Field) (doc : Doc) → AreApart (searched_tags (Some field) doc)
+pub searched-apart : (field : Field) (doc : Doc) → AreApart (searched_tags (Some field) doc)
 searched-apart field doc = elim (cases_Bool field.noindex) [
   | inl y ↦ rw y tt
   | inr n ↦ rw n (value-apart field.kind (get_field doc.hash field.name))
 ]
 
 -- a field's tags are those by which it is searched
-tags-searched : (doc : Doc) (field : Field) → tag_count doc field ≡ length (searched_tags (Some field) doc)
+pub tags-searched : (doc : Doc) (field : Field) → tag_count doc field ≡ length (searched_tags (Some field) doc)
 tags-searched doc field = elim (cases_Bool field.noindex) [
   | inl y ↦ rw y refl
   | inr n ↦ rw n refl
 ]
 
-tag-entries-count : (def : IndexDef) (number : ℕ) (tag : List ℕ) (docs : List Doc) → length (tag_entries def number tag docs) ≡ count_by (has_tag def number tag) docs
+pub tag-entries-count : (def : IndexDef) (number : ℕ) (tag : List ℕ) (docs : List Doc) → length (tag_entries def number tag docs) ≡ count_by (has_tag def number tag) docs
 tag-entries-count def number tag [] = refl
 tag-entries-count def number tag (doc ∷ docs) = elim (cases_Bool (has_tag def number tag doc)) [
   | inl y ↦
@@ -150,11 +150,11 @@ tags-least def live docs tags has =
     )
 
 -- how many of some entries lie in rows, counted once for each row
-abbrev in_rows : Rows → Entries → ℕ
+abbrev pub in_rows : Rows → Entries → ℕ
 in_rows [] es = 0
 in_rows (row ∷ rows) es = count_by (λ e. lies_in row.0 (low_of rows) e.1.value) es + in_rows rows es
 
-parted-count : (es : Entries) (rows : Rows) → AreParted es rows → entries_in_rows rows ≡ in_rows rows es
+pub parted-count : (es : Entries) (rows : Rows) → AreParted es rows → entries_in_rows rows ≡ in_rows rows es
 parted-count es [] parted = refl
 parted-count es (row ∷ rows) parted =
     omega (arith, sum_by-cons (λ (r : ℤ × _). length r.1.entries) row rows, ap length parted.0, length-filter (λ e. lies_in row.0 (low_of rows) e.1.value) es, parted-count es rows parted.1)
@@ -204,7 +204,7 @@ number-searched doc field = elim (cases_Bool field.noindex) [
   | inr n ↦ rw n refl
 ]
 
-number-entries-count : (def : IndexDef) (number : ℕ) (field : Field) (docs : List Doc) → slice_get def.fields number ≡ Some field
+pub number-entries-count : (def : IndexDef) (number : ℕ) (field : Field) (docs : List Doc) → slice_get def.fields number ≡ Some field
     → length (number_entries def number docs) ≡ sum_by (λ doc. number_count doc field) docs
 number-entries-count def number field [] at = refl
 number-entries-count def number field (doc ∷ docs) at =

@@ -1,5 +1,5 @@
 -- The ranges by field, where those of one field change or come.
-use Rattle.std.proofs.Common.{◌≡◌, ◌≢◌, ℕ, suc, zero, ◌<◌, List, [], ◌∷◌, ◌++◌, length, slice_index_or, set, refl, ap, arith, Option, None}
+use Rattle.std.proofs.Common.{◌≡◌, ◌≢◌, ℕ, suc, zero, ◌<◌, ◌≤◌, List, [], ◌∷◌, ◌++◌, length, slice_index_or, set, refl, ap, arith, Option, None}
 use Rattle.std.proofs.lemmas.Option.{slice_get-get_or}
 use Rattle.numeric_ranges.specs.Ranges.{Rows}
 use Rattle.ft_index.specs.Lists.{inner, rows_of}
@@ -32,3 +32,10 @@ rows-pushed_other (first ∷ ranges) slot (suc other) away = rows-pushed_other r
 pub rows-past : (ranges : List (Option Rows)) → rows_of ranges (length ranges) ≡ None
 rows-past [] = refl
 rows-past (first ∷ ranges) = rows-past ranges
+
+-- there is no field beyond the last
+pub rows-beyond : (ranges : List (Option Rows)) (field : ℕ) → length ranges ≤ field → rows_of ranges field ≡ None
+rows-beyond [] zero beyond = refl
+rows-beyond [] (suc field) beyond = refl
+rows-beyond (first ∷ ranges) zero beyond = absurd (omega (arith, beyond))
+rows-beyond (first ∷ ranges) (suc field) beyond = rows-beyond ranges field (omega (arith, beyond))

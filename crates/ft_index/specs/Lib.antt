@@ -1,5 +1,6 @@
 pub mod Adding
 pub mod Collected
+pub mod Collecting
 pub mod Entering
 pub mod Entries
 pub mod Fits
@@ -10,6 +11,8 @@ pub mod Lists
 pub mod Markers
 pub mod Numbering
 pub mod Records
+pub mod Splicing
 pub mod Tagging
+pub mod Thinned
 pub mod UpTo
 pub mod Without

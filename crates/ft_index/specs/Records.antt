@@ -1,5 +1,5 @@
 -- How many records an index has: the entries of all its lists.
-use Rattle.std.specs.Prelude.{◌≤◌, ℕ, ◌+◌, List, Option, Some, None, IfSome, sum_by}
+use Rattle.std.specs.Prelude.{◌≡◌, ◌≤◌, ℕ, ◌+◌, List, Option, Some, None, IfSome, sum_by}
 use Rattle.doc_table.specs.Table.{Vector}
 use Rattle.ft_base.specs.declared.definition.IndexDef.{IndexDef}
 use Rattle.ft_base.specs.Docs.{Doc}
@@ -8,7 +8,8 @@ use Rattle.numeric_ranges.specs.Ranges.{Rows, entries_in_rows}
 use Rattle.term_dict.specs.Tags.{entries_in_fields}
 use Rattle.term_dict.specs.Terms.{entries_in_all}
 use Rattle.ft_index.specs.Has.{Has}
-use Rattle.ft_index.specs.Lists.{AllLists}
+use Rattle.ft_index.specs.Lists.{AllLists, has_id}
+use Rattle.ft_index.specs.Thinned.{ListsLive}
 
 -- how many entries the ranges of a field have together, where it has ranges
 abbrev pub entries_in_slot : Option Rows → ℕ
@@ -26,3 +27,7 @@ all_entries lists = entries_in_all lists.words + entries_in_fields lists.tags + 
 -- a number counts the live records at least, of whatever documents the lists have
 abbrev pub CountsLive : AllLists → Option ℕ → Type 0
 CountsLive lists count = (def : IndexDef) (live : List (ℕ × Vector)) (docs : List Doc) → Has def live lists docs → IfSome count (λ n. live_records def docs ≤ n)
+
+-- a number counts just the live records, where no list has a dead entry
+abbrev pub CountsJust : AllLists → Option ℕ → Type 0
+CountsJust lists count = (def : IndexDef) (live : List (ℕ × Vector)) (docs : List Doc) → Has def live lists docs → ListsLive (has_id live) lists → IfSome count (λ n. n ≡ live_records def docs)

@@ -4,14 +4,20 @@ ghost use Rattle.ft_meaning.specs.Meaning.{ValuesFit};
 ghost use Rattle.ft_meaning.specs.Member.{most_failures, one_more};
 ghost use Rattle.ft_index.specs.Fits.{fit_of};
 ghost use Rattle.ft_index.specs.Index.{Indexes, IsIndex, OnlyWaits, StandsBeside, StandsOn, StandsWithout, committed, is_live, killed};
-ghost use Rattle.ft_index.specs.Markers.{AreBefore, AreGiven, GainsMarkers};
+ghost use Rattle.ft_index.specs.Markers.{AreBefore, AreGiven, GainsMarkers, IsBefore};
+ghost use Rattle.ft_index.specs.Splicing.{FitsName, GainsMarker, IsNew, SplicesName};
+ghost use Rattle.ft_index.specs.Thinned.{ListsLive, ListsThin};
 
 use crate::entering::enter;
 use crate::lists::IndexLists;
+use crate::live::LiveTable;
 use crate::ready::{Fit, Ready, fit_of};
+use crate::repairs::AnyRepair;
 use doc_table::DocTable;
 use ft_base::{Doc, IndexDef, NoMemory};
-use inverted_list::Markers;
+use gc_splice::Spliced;
+use id_iters::ListName;
+use inverted_list::{Marker, Markers};
 use std::alloc::Global;
 use std::marker::Model;
 
@@ -222,6 +228,42 @@ impl FtIndex {
         ensures docs { StandsWithout id self.old self.new }
     {
         self.table.kill(id)
+    }
+
+    /// Splices a repair into the list of a name. It takes no memory: what it takes out it leaves in the repair.
+    pub fn splice(&mut self, name: &ListName, repair: &mut AnyRepair, marker: Marker) -> Spliced
+        requires fits { FitsName (is_live self.old) self.old.lists name.now repair.old }
+        requires fresh { IsNew marker self.old.lists }
+        ensures splices { SplicesName name.now repair.old marker self.old.lists self.new.lists result }
+        // It stands for the same documents.
+        ensures stands { StandsOn self.old self.new }
+        ensures lists { self.new ≡ record self.old { lists = self.new.lists } }
+        ensures thin { ListsThin (is_live self.old) self.old.lists self.new.lists }
+        ensures sound { IsIndex self.new }
+        // Which markers its lists have.
+        ensures before { (markers : Markers) → IsBefore markers marker → AreBefore markers self.old.lists → AreBefore markers self.new.lists }
+        ensures gains { GainsMarker self.old.lists self.new.lists marker }
+    {
+        self.lists.splice(name, repair, marker)
+    }
+
+    /// Takes the entries out of all lists whose documents are not live. Out of memory, some lists still have theirs.
+    pub fn collect(&mut self, markers: &mut Markers) -> Result<(), NoMemory>
+        requires markers { AreBefore markers.old self.old.lists }
+        // It stands for the same documents.
+        ensures stands { StandsOn self.old self.new }
+        ensures lists { self.new ≡ record self.old { lists = self.new.lists } }
+        ensures thin { ListsThin (is_live self.old) self.old.lists self.new.lists }
+        ensures live { OnOk result (ListsLive (is_live self.new) self.new.lists) }
+        ensures sound { IsIndex self.new }
+        // Which markers its lists have.
+        ensures before { AreBefore markers.new self.new.lists }
+        ensures gains { GainsMarkers self.old.lists self.new.lists markers.old markers.new }
+        ensures event { markers.new.event ≡ markers.old.event }
+        ensures next { markers.old.next ≤ markers.new.next }
+    {
+        let live = LiveTable { table: &self.table };
+        self.lists.collect(&live, markers)
     }
 }
 

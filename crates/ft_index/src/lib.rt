@@ -5,19 +5,24 @@
 //! that is written again gets a new id: the old id is killed, and what it left in the lists is dead.
 //! So a list may hold entries that no search may answer, and whoever reads one asks what is live.
 //! Of a live document the index keeps no key, but its sorting vector: the numbers that searches are
-//! sorted by.
+//! sorted by. A collection takes dead entries out of all lists (`collecting.rt`, `collecting_ranges.rt`).
 //! Read first `specs/Index.antt`, then `index.rt`; of the lists `specs/Entries.antt` and `specs/Has.antt`, which says how they
 //! stand for documents, then `lists.rt`.
 #![tactic(auto)]
 
+mod collecting;
+mod collecting_ranges;
 mod entering;
 mod index;
 mod lists;
+mod live;
 mod numbers;
 mod reading;
 mod ready;
 mod records;
+mod repairs;
 mod sorting;
+mod splicing;
 mod tags;
 mod words;
 
@@ -25,5 +30,7 @@ mod words;
 pub use index::FtIndex;
 /// Its posting lists: of its words, of its tags, and of the ranges of its numbers.
 pub use lists::IndexLists;
+/// The repair of one of its lists.
+pub use repairs::AnyRepair;
 /// A document that was prepared, and how it fits the index.
 pub use ready::{Fit, Ready};

@@ -1,18 +1,26 @@
 //! The lists of an index, by kind, and how a document's entries go into them.
-ghost use Rattle.std.specs.Prelude.{◌≡◌, ◌<◌, ◌≤◌, ◌^◌, ℕ, [], length, IfOk, IfNone, IfSome, OnOk, option_copied};
+ghost use Rattle.std.specs.Prelude.{◌≡◌, ◌<◌, ◌≤◌, ◌^◌, ℕ, Bool, [], length, IfOk, IfNone, IfSome, OnOk, option_copied};
 ghost use Rattle.ft_meaning.specs.Meaning.{ValuesFit};
 ghost use Rattle.ft_index.specs.Adding.{IsSeen, IsUnseen, ListsHave};
 ghost use Rattle.ft_index.specs.Lists.{rows_of};
 ghost use Rattle.ft_index.specs.Markers.{AreBefore, AreGiven, GainsMarkers, MarkersDiffer};
-ghost use Rattle.ft_index.specs.Records.{CountsLive, all_entries};
+ghost use Rattle.ft_index.specs.Records.{CountsJust, CountsLive, all_entries};
+ghost use Rattle.ft_index.specs.Splicing.{FitsName, SplicesName};
+ghost use Rattle.ft_index.specs.Thinned.{ListsLive, ListsThin};
 ghost use Rattle.ft_index.specs.UpTo.{AreUpTo};
 
+use crate::collecting::{collect_tags, collect_words};
+use crate::collecting_ranges::collect_ranges;
 use crate::numbers::{add_numbers, first_ranges};
 use crate::records::entries_in_ranges;
+use crate::repairs::AnyRepair;
+use crate::splicing::splice_range;
 use crate::tags::add_tags;
 use crate::words::add_words;
 use ft_base::{Doc, IndexDef, NoMemory};
-use inverted_list::Markers;
+use gc_splice::{Live, Spliced};
+use id_iters::ListName;
+use inverted_list::{Marker, Markers};
 use numeric_ranges::Ranges;
 use std::alloc::Global;
 use std::marker::Model;
@@ -106,14 +114,17 @@ impl IndexLists {
     }
 
     /// The number of entries of all lists, of live documents or not: none where it does not fit an
-    /// integer of the wire. It walks over the lists, and reads no entry.
+    /// integer of the wire. The entries are counted as they come and go, so no list is looked at.
     pub fn records(&self) -> Option<u64>
         ensures some { IfSome result (λ n. n ≡ all_entries self.now) }
         ensures fits { IfSome result (λ n. n < 2 ^ 63) }
         ensures none { IfNone result (2 ^ 63 ≤ all_entries self.now) }
-        // There are at least the live ones.
+        // There are at least the live ones, and no others where no entry is dead.
         ensures least { CountsLive self.now result }
+        ensures exact { CountsJust self.now result }
     {
+        let _ = self.terms.len();
+        let _ = self.tags.len();
         let words = self.terms.entries()?;
         let tags = self.tags.entries()?;
         let numbers = entries_in_ranges(self.ranges.as_slice())?;
@@ -145,5 +156,43 @@ impl IndexLists {
         add_words(&mut self.terms, self.alloc, def, doc, markers)?;
         add_tags(&mut self.tags, self.alloc, def, doc, markers)?;
         add_numbers(self.ranges.as_mut_slice(), def, doc, markers)
+    }
+
+    /// Takes the dead entries out of all lists. A list that changes gets a new marker, and a word or tag that is left without an
+    /// entry goes. Out of memory, some lists still have theirs.
+    pub fn collect<L: Live>(&mut self, live: &L, markers: &mut Markers) -> Result<(), NoMemory>
+        requires differ { MarkersDiffer self.old }
+        requires before { AreBefore markers.old self.old }
+        ensures thin { ListsThin (L.is live.now) self.old self.new }
+        ensures live { OnOk result (ListsLive (L.is live.now) self.new) }
+        // Which markers its lists have.
+        ensures differ { MarkersDiffer self.new }
+        ensures before { AreBefore markers.new self.new }
+        ensures gains { GainsMarkers self.old self.new markers.old markers.new }
+        ensures event { markers.new.event ≡ markers.old.event }
+        ensures next { markers.old.next ≤ markers.new.next }
+    {
+        collect_words(&mut self.terms, self.alloc, live, markers)?;
+        collect_tags(&mut self.tags, self.alloc, live, markers)?;
+        collect_ranges(self.ranges.as_mut_slice(), self.alloc, live, markers)
+    }
+
+    /// Splices a repair into the list of a name. A word or tag that is left without an entry goes. It takes no memory.
+    pub fn splice(&mut self, name: &ListName, repair: &mut AnyRepair, marker: Marker) -> Spliced
+        requires { (live : ℕ → Bool) × FitsName live self.old name.now repair.old }
+        ensures { SplicesName name.now repair.old marker self.old self.new result }
+    {
+        match (name, repair) {
+            (ListName::Word { text }, AnyRepair::Word(repair)) => {
+                self.terms.splice(text.as_slice(), repair, marker)
+            }
+            (ListName::Tag { field, text }, AnyRepair::Tag(repair)) => {
+                self.tags.splice(*field, text.as_slice(), repair, marker)
+            }
+            (ListName::Range { field, low }, AnyRepair::Range(repair)) => {
+                splice_range(self.ranges.as_mut_slice(), *field, *low, repair, marker)
+            }
+            _ => Spliced::Gone,
+        }
     }
 }

@@ -1,7 +1,7 @@
 -- What a reader finds that reads a list block by block.
-use Rattle.std.proofs.Common.{◌≡◌, ℕ, ◌≤◌, ◌+◌, Bool, ◌&&◌, List, Some, None, max, sym, ap, ◌∙◌, subst, arith}
+use Rattle.std.proofs.Common.{◌≡◌, ℕ, ◌<◌, ◌≤◌, ◌+◌, Bool, ◌&&◌, List, Some, None, max, sym, ap, ◌∙◌, subst, arith}
 use Rattle.posting_block.specs.Rising.{RisesAbove, last_id}
-use Rattle.inverted_list.specs.Places.{behind, block_from}
+use Rattle.inverted_list.specs.Places.{IsBlockFrom}
 use Rattle.id_iters.specs.Ahead.{IsAhead, first_of, ids_from, live_from, wanted_ids}
 use Rattle.id_iters.specs.Entries.{has_entry}
 use Rattle.id_iters.specs.Least.{IsLeastAt, NoneBetween, NoneFrom}
@@ -11,16 +11,16 @@ use Rattle.id_iters.proofs.ReadAheadLaws.{ahead_read, found, live_dropped, used}
 
 -- A block was read behind a place, from a number on.
 module _ {P : Type 0} (wants : P → Bool) (es : List (ℕ × P)) (from : ℕ) (some : 1 ≤ from) where
-  pub none_there : None ≡ block_from from es → NoneFrom (has_entry wants es) from
-  none_there e = no_block wants from es some e
+  pub none_there : RisesAbove 0 es → last_id 0 es < from → NoneFrom (has_entry wants es) from
+  none_there rises e = no_block wants from es rises some e
 
-  module _ (block : List (ℕ × P)) (filled : List ℕ) (next : ℕ) (rises : RisesAbove 0 es) (is : Some block ≡ block_from from es)
-      (reached : next ≡ behind from (block_from from es)) where
+  module _ (block : List (ℕ × P)) (filled : List ℕ) (next : ℕ) (rises : RisesAbove 0 es) (is : IsBlockFrom from es block)
+      (reached : next ≡ last_id 0 block) where
     reads : Reads wants from es block
     reads = found_block wants from es block rises some is
 
     last_is : next ≡ last_id 0 block
-    last_is = reached ∙ ap (behind from) (sym is)
+    last_is = reached
 
     pub goes_forward : from ≤ next
     goes_forward =

@@ -8,8 +8,8 @@ use Rattle.std.proofs.Math.Seq.{take-add}
 use Rattle.std.proofs.lemmas.List.{take-append-drop, length-drop, length-take}
 use Rattle.posting_block.specs.Rising.{RisesAbove, last_id}
 use Rattle.posting_block.proofs.RisingLaws.{last_id-append, rises_first, rises_second, last_from}
-use Rattle.inverted_list.specs.Places.{block_at, block_from, reach}
-use Rattle.inverted_list.proofs.ReachLaws.{reach_within, reach_beyond, reach_none, reach_fits}
+use Rattle.inverted_list.specs.Places.{IsBlockFrom, reach}
+use Rattle.inverted_list.proofs.ReachLaws.{reach_within, reach_beyond, reach_none, reach_fits, reach_whole}
 use Rattle.id_iters.specs.Ahead.{Gives, wanted_ids}
 use Rattle.id_iters.specs.Entries.{has_entry}
 use Rattle.id_iters.specs.Least.{NoneBetween, NoneFrom}
@@ -169,45 +169,26 @@ module _ {P : Type 0} where
     pub gives : Gives (has_entry wants es) from (last_id 0 block) (wanted_ids wants from block)
     pub forward : from ≤ last_id 0 block
 
-  block_reads : (wants : P → Bool) (from : ℕ) (es : List (ℕ × P)) → RisesAbove 0 es → 1 ≤ from → reach (from - 1) es < length es
-      → Reads wants from es (block_at (reach (from - 1) es / 100) es)
-  block_reads wants from es rises some there =
-      let r : ℕ = reach (from - 1) es in
-      let n : ℕ = 100 * (r / 100) in
-      let low : n ≤ r = omega arith in
-      let high : r < n + 100 = omega arith in
-      let before : List (ℕ × P) = take n es in
-      let block : List (ℕ × P) = take 100 (drop n es) in
-      let behind : List (ℕ × P) = drop 100 (drop n es) in
-      let parts : before ++ (block ++ behind) ≡ es = ap (λ l. before ++ l) (take-append-drop 100 (drop n es)) ∙ take-append-drop n es in
-      let filled : 0 < length block = omega (arith, length-take 100 (drop n es), length-drop n es, low, there) in
-      let whole : take (n + 100) es ≡ before ++ block = take-add n 100 es in
-      let last : last_id 0 (take (n + 100) es) ≡ last_id (last_id 0 before) block = ap (last_id 0) whole ∙ last_id-append 0 before block in
-      let same : last_id (last_id 0 before) block ≡ last_id 0 block = last_some (last_id 0 before) 0 block filled in
-      let reached : last_id 0 before ≤ from - 1 = last_reached 0 (from - 1) n es rises (omega arith) low in
-      let beyond : from - 1 < last_id 0 (take (n + 100) es) = last_beyond 0 (from - 1) (n + 100) es rises high there in
-      let forward : from ≤ last_id (last_id 0 before) block = omega (arith, beyond, last, some) in
-      let made : Gives (has_entry wants (before ++ (block ++ behind))) from (last_id (last_id 0 before) block) (wanted_ids wants from block)
-      = gives_among wants from before block behind (subst (λ x. RisesAbove 0 x) (sym parts) rises) (omega (arith, reached, some)) forward in
+  pub found_block : (wants : P → Bool) (from : ℕ) (es block : List (ℕ × P)) → RisesAbove 0 es → 1 ≤ from → IsBlockFrom from es block → Reads wants from es block
+  found_block wants from es block rises some p =
+      let reached : last_id 0 p.front < from = p.before in
+      let there : from ≤ last_id 0 block = p.there in
+      let filled : 0 < length block = some_within from block some there in
+      let same : last_id (last_id 0 p.front) block ≡ last_id 0 block = last_some (last_id 0 p.front) 0 block filled in
+      let forward : from ≤ last_id (last_id 0 p.front) block = omega (arith, there, same) in
+      let made : Gives (has_entry wants (p.front ++ (block ++ p.back))) from (last_id (last_id 0 p.front) block) (wanted_ids wants from block)
+      = gives_among wants from p.front block p.back (subst (λ x. RisesAbove 0 x) p.parts rises) (omega (arith, reached)) forward in
       record {
-        gives = subst (λ x. Gives (has_entry wants x) from (last_id 0 block) (wanted_ids wants from block)) parts
-            (subst (λ m. Gives (has_entry wants (before ++ (block ++ behind))) from m (wanted_ids wants from block)) same made);
-        forward = omega (arith, forward, same);
+        gives = subst (λ x. Gives (has_entry wants x) from (last_id 0 block) (wanted_ids wants from block)) (sym p.parts)
+            (subst (λ m. Gives (has_entry wants (p.front ++ (block ++ p.back))) from m (wanted_ids wants from block)) same made);
+        forward = there;
       }
-
-  pub found_block : (wants : P → Bool) (from : ℕ) (es block : List (ℕ × P)) → RisesAbove 0 es → 1 ≤ from → Some block ≡ block_from from es → Reads wants from es block
-  found_block wants from es block rises some e = pick (ltb (reach (from - 1) es) (length es)) refl e
     where
-      is_some : {A : Type 0} (x y : A) → Some x ≡ Some y → x ≡ y
-      is_some x y h = cc
+      some_within : (from : ℕ) (xs : List (ℕ × P)) → 1 ≤ from → from ≤ last_id 0 xs → 0 < length xs
+      some_within from [] one h = absurd (omega (arith, one, h))
+      some_within from (x ∷ xs) one h = omega arith
 
-      pick : (b : Bool) → ltb (reach (from - 1) es) (length es) ≡ b → Some block ≡ cond b (Some (block_at (reach (from - 1) es / 100) es)) None → Reads wants from es block
-      pick true t h = subst (λ x. Reads wants from es x) (sym (is_some block _ h)) (block_reads wants from es rises some (ltb-true (reach (from - 1) es) (length es) t))
-      pick false t h = absurd (some_is_none block h)
-
-  pub no_block : (wants : P → Bool) (from : ℕ) (es : List (ℕ × P)) → 1 ≤ from → None ≡ block_from from es → NoneFrom (has_entry wants es) from
-  no_block wants from es some e = pick (ltb (reach (from - 1) es) (length es)) refl e
-    where
-      pick : (b : Bool) → ltb (reach (from - 1) es) (length es) ≡ b → None ≡ cond b (Some (block_at (reach (from - 1) es / 100) es)) None → NoneFrom (has_entry wants es) from
-      pick true t h = absurd (some_is_none _ (sym h))
-      pick false t h = subst (λ n. NoneFrom (has_entry wants es) n) (omega (arith, some)) (none_beyond wants (from - 1) es (ltb-false (reach (from - 1) es) (length es) t))
+  pub no_block : (wants : P → Bool) (from : ℕ) (es : List (ℕ × P)) → RisesAbove 0 es → 1 ≤ from → last_id 0 es < from → NoneFrom (has_entry wants es) from
+  no_block wants from es rises some below =
+      let all : reach (from - 1) es ≡ length es = reach_whole 0 (from - 1) es rises (omega (arith, below, some)) in
+      subst (λ n. NoneFrom (has_entry wants es) n) (omega (arith, some)) (none_beyond wants (from - 1) es (omega (arith, all)))

@@ -1,19 +1,20 @@
-//! A posting list: ids that rise, each with its hit, in blocks of a hundred.
+//! A posting list: ids that rise, each with its hit, in blocks of 1 to 100.
 //!
-//! Each hundred entries are sealed in a block that is shared and no longer changes; the rest is in the tail, to which the
-//! next entry goes. A reader passes over blocks by their last ids, and decodes only the one that it stops in.
-ghost use Rattle.std.specs.Prelude.{◌≡◌, ◌<◌, ◌≤◌, ◌+◌, ◌-◌, ◌*◌, ◌/◌, ◌^◌, ◌↔◌, [], IfOk, IfSome, IsSome, IsTrue, OnOk, OnErr, Some, length, unwrap_or};
+//! A hundred entries behind the last block are sealed in one that is shared and no longer changes; the rest is in the tail, to
+//! which the next entry goes. Blocks of fewer come of a splice, which takes dead entries out. A reader passes over blocks by their last ids, and decodes only the one that it stops in.
+ghost use Rattle.std.specs.Prelude.{◌≡◌, ◌<◌, ◌≤◌, ◌+◌, ◌-◌, ◌*◌, ◌^◌, ◌↔◌, ◌++◌, IfOk, IfSome, IsSome, IsTrue, OnOk, OnErr, length, unwrap_or};
 ghost use Rattle.std.specs.Option.{option_copied};
 ghost use Rattle.inverted_list.specs.Blocks.{Sound, listing};
-ghost use Rattle.inverted_list.specs.Listing.{Listing, RisesAbove, last_id, with_entry, hit_of};
-ghost use Rattle.inverted_list.specs.Places.{IsSound, Fits, KeepsPlaces, between, least, reach, block_from, behind};
+ghost use Rattle.inverted_list.specs.Listing.{Listing, RisesAbove, last_id, empty_list, joined, tail_behind, with_entry, hit_of};
+ghost use Rattle.inverted_list.specs.Places.{FindsBlock, Fits, IsBlockFrom, IsSound, KeepsPlaces, behind, between, least, number_of};
 
 use crate::block_search::{block_behind, blocks_below, blocks_from, blocks_in, is_behind};
-use crate::growth::{put_last, share};
+use crate::growth::{count_of, put_last, share};
 use crate::marker::Marker;
 use crate::picture::{Picture, empty};
 use crate::place::Place;
 use crate::reading::{block_at, decode_all, entry_from, walk};
+use crate::sealed::Sealed;
 use ft_base::{NoMemory, Span, Steps};
 use posting_block::{Block, Payload};
 use std::alloc::Global;
@@ -25,35 +26,42 @@ use std::sync::ledger::Ledger;
 pub struct List<P: Payload> {
     alloc: Global,
     parts: Picture<P>,
+    // The number of entries.
+    count: u64,
 }
 
 // Written out, it is one step for whoever drops a list.
 impl<P: Payload> Drop for List<P> {
     fn drop(self) {
-        let List { alloc: _, parts } = self;
+        let List {
+            alloc: _,
+            parts,
+            count: _,
+        } = self;
         drop(parts);
     }
 }
 
 impl<P: Payload> Model for List<P> {
     ghost use Rattle.inverted_list.specs.Listing.{Listing};
-    ghost use Rattle.inverted_list.specs.Blocks.{Sound, listing};
+    ghost use Rattle.inverted_list.specs.Blocks.{Kept, listing};
 
     ghost Value = { Listing P };
 
     ghost view = { λ l. listing l.parts };
 
-    ghost invariant = { λ l. Sound l.parts };
+    ghost invariant = { λ l. Kept l.parts l.count };
 }
 
 impl<P: Payload> List<P> {
     /// No entries, and no memory taken.
     pub fn new(alloc: Global, marker: Marker) -> List<P>
-        ensures { result ≡ record { marker = marker; entries = [] } }
+        ensures { result ≡ empty_list marker }
     {
         List {
             alloc,
             parts: empty::<P>(alloc, marker),
+            count: 0,
         }
     }
 
@@ -62,7 +70,7 @@ impl<P: Payload> List<P> {
         ensures len { result ≡ length self.now.entries }
         ensures rises { RisesAbove 0 self.now.entries }
     {
-        self.parts.sealed.len() as u64 * 100 + self.parts.tail.len() as u64
+        self.count
     }
 
     /// The name of the list's present form.
@@ -80,6 +88,7 @@ impl<P: Payload> List<P> {
         ensures places { KeepsPlaces id self.old self.new }
     {
         put_last::<P>(self.alloc, &mut self.parts, id, hit)?;
+        self.count += 1;
         Ok(())
     }
 
@@ -157,11 +166,11 @@ impl<P: Payload> List<P> {
     ) -> Option<&Block<P>>
         requires sound { IsSound place.old self.now }
         requires ahead { place.old.last < from }
-        ensures found { option_copied result ≡ block_from from self.now.entries }
+        ensures found { FindsBlock from self.now.entries (option_copied result) }
         ensures rises { RisesAbove 0 self.now.entries }
         ensures marker { place.new.marker ≡ self.now.marker }
         ensures sound { IsSound place.new self.now }
-        ensures last { place.new.last ≡ behind from (block_from from self.now.entries) }
+        ensures last { place.new.last ≡ behind from (option_copied result) }
 
         // What it costs to pass over entries: from a place of this list, and from any place.
         ensures counts { steps.old ≤ steps.new }
@@ -221,6 +230,21 @@ impl<P: Payload> List<P> {
         decode_all::<P>(self.alloc, self.parts.sealed.as_slice(), &self.parts.tail)
     }
 
+    /// The sealed blocks, lent.
+    pub fn sealed(&self) -> &[Sealed<P>]
+        ensures { result.now ≡ self.now.sealed }
+    {
+        self.parts.sealed.as_slice()
+    }
+
+    /// The entries behind the sealed blocks, lent.
+    pub fn tail(&self) -> &Block<P>
+        ensures tail { result.now ≡ tail_behind self.now.sealed self.now.entries }
+        ensures whole { joined self.now.sealed ++ result.now ≡ self.now.entries }
+    {
+        &self.parts.tail
+    }
+
     /// The list as it is now: its sealed blocks are shared, and its tail is copied.
     pub fn picture(&self) -> Result<Picture<P>, NoMemory>
         ensures picture { IfOk result (λ picture. listing picture ≡ self.now) }
@@ -233,9 +257,10 @@ impl<P: Payload> List<P> {
     pub fn take_parts(&mut self) -> Picture<P>
         ensures parts { listing result ≡ self.old }
         ensures sound { Sound result }
-        ensures left { self.new ≡ record { marker = self.old.marker; entries = [] } }
+        ensures left { self.new ≡ empty_list self.old.marker }
     {
         let rest = empty::<P>(self.alloc, self.parts.marker);
+        self.count = 0;
         replace(&mut self.parts, rest)
     }
 
@@ -244,14 +269,15 @@ impl<P: Payload> List<P> {
         requires { Sound parts }
         ensures { self.new ≡ listing parts }
     {
+        self.count = count_of::<P>(&parts);
         self.parts = parts;
     }
 
     // The number of a block up to which all entries are known to have ids of at most the place's `last`.
     fn known(&self, place: &Place) -> usize
         requires { IsSound place.now self.now }
-        ensures most { result ≤ reach place.now.last self.now.entries / 100 }
-        ensures here { place.now.marker ≡ self.now.marker → result ≡ reach place.now.last self.now.entries / 100 }
+        ensures most { result ≤ number_of place.now.last self.now }
+        ensures here { place.now.marker ≡ self.now.marker → result ≡ number_of place.now.last self.now }
     {
         if place.marker == self.parts.marker {
             place.block
@@ -264,7 +290,7 @@ impl<P: Payload> List<P> {
     fn number_from<L: Ledger>(&self, place: &Place, from: u64, steps: &mut Steps<L>) -> usize
         requires sound { IsSound place.now self.now }
         requires ahead { place.now.last < from }
-        ensures number { result ≡ reach (from - 1) self.now.entries / 100 }
+        ensures number { result ≡ number_of (from - 1) self.now }
         ensures counts { steps.old ≤ steps.new }
         ensures cost { place.now.marker ≡ self.now.marker
             → 2 ^ (steps.new - steps.old) ≤ 2 * (between place.now.last from self.now.entries + 1) ^ 2 }
@@ -277,8 +303,9 @@ impl<P: Payload> List<P> {
     // The block of that number, if an entry with an id from `from` on lies there.
     fn block_of(&self, number: usize, from: u64) -> Option<&Block<P>>
         requires some { 0 < from }
-        requires number { number ≡ reach (from - 1) self.now.entries / 100 }
-        ensures found { option_copied result ≡ block_from from self.now.entries }
+        requires number { number ≡ number_of (from - 1) self.now }
+        ensures found { FindsBlock from self.now.entries (option_copied result) }
+        ensures next { IfSome (option_copied result) (λ block. number_of (last_id 0 block) self.now ≤ number + 1) }
         ensures rises { RisesAbove 0 self.now.entries }
     {
         let block = block_at::<P>(self.parts.sealed.as_slice(), &self.parts.tail, number);
@@ -292,7 +319,7 @@ impl<P: Payload> List<P> {
     // The block that has the entry with an id.
     fn own_block(&self, id: u64) -> &Block<P>
         requires { IsSome (hit_of id self.now) }
-        ensures found { block_from id self.now.entries ≡ Some result.now }
+        ensures found { IsBlockFrom id self.now.entries result.now }
         ensures rises { RisesAbove 0 self.now.entries }
     {
         let blocks = self.parts.sealed.as_slice();
@@ -302,8 +329,8 @@ impl<P: Payload> List<P> {
 
     // The place behind an id that lies in the block of a number, or is its last one.
     fn behind(&self, number: usize, last: u64) -> Place
-        requires low { number ≤ reach last self.now.entries / 100 }
-        requires high { reach last self.now.entries / 100 ≤ number + 1 }
+        requires low { number ≤ number_of last self.now }
+        requires high { number_of last self.now ≤ number + 1 }
         ensures marker { result.marker ≡ self.now.marker }
         ensures sound { IsSound result self.now }
         ensures last { result.last ≡ last }

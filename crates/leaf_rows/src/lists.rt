@@ -1,11 +1,13 @@
 //! Calls of what lists are made of: blocks, posting lists, tables of documents, dictionaries, ranges and plans.
 
 mod blocks;
+mod dead;
 mod names;
 mod numbers;
 mod plans;
 mod postings;
 mod ranges;
+mod splices;
 mod tables;
 mod tags;
 
@@ -20,5 +22,6 @@ pub fn put(alloc: Global, call: &str, words: &[Vec<u8>], out: &mut Answer) -> bo
         || names::put(alloc, call, words, out)
         || tags::put(alloc, call, words, out)
         || ranges::put(alloc, call, words, out)
+        || splices::put(alloc, call, words, out)
         || plans::put(alloc, call, words, out)
 }

@@ -1,5 +1,5 @@
 -- What one more entry does to rows.
-use Rattle.std.proofs.Common.{◌≡◌, ℕ, zero, suc, ◌-◌, ◌<◌, ◌≤◌, Bool, true, false, cond, ◌&&◌, List, [], ◌∷◌, ◌++◌, length, get_or, set, Option, Some, None, inl, inr, refl, sym, ap, subst, ◌∙◌, arith, ℤ, IsTrue}
+use Rattle.std.proofs.Common.{◌≡◌, ℕ, zero, suc, ◌+◌, ◌-◌, ◌<◌, ◌≤◌, Bool, true, false, cond, ◌&&◌, List, [], ◌∷◌, ◌++◌, length, get_or, set, Option, Some, None, inl, inr, refl, sym, ap, subst, ◌∙◌, arith, ℤ, IsTrue}
 use Rattle.std.specs.Prelude.{int_le, int_lt, ◌<ℤ◌}
 use Rattle.std.specs.List.{AllByRecursion, filter, insert}
 use Rattle.std.proofs.lemmas.Bool.{cases_Bool, false≢true}
@@ -16,8 +16,9 @@ use Rattle.inverted_list.proofs.ReachLaws.{rises_push}
 use Rattle.numeric_ranges.specs.declared.row.Row.{Row}
 use Rattle.numeric_ranges.specs.Values.{Entries, values, cut_of, splits}
 use Rattle.numeric_ranges.specs.Added.{left_half, right_half, parts_of, added}
-use Rattle.numeric_ranges.specs.Ranges.{Rows, low_of, is_below, lies_in, AreParted, LowsRise, EntriesLie}
+use Rattle.numeric_ranges.specs.Ranges.{Rows, low_of, is_below, lies_in, AreParted, LowsRise, EntriesLie, entries_in_rows}
 use Rattle.numeric_ranges.specs.Rows.{rows_of, Knows, Held, reach, IsInside, AreHalves}
+use Rattle.numeric_ranges.proofs.CountLaws.{count_added}
 use Rattle.numeric_ranges.proofs.HalfLaws.{rises_filter}
 use Rattle.numeric_ranges.proofs.ReachLaws.{reach_yes, reach_no, below_none, below_some, seen, row_seen, length-rows, le_of_lt}
 use Rattle.numeric_ranges.proofs.ValueLaws.{le_from_lt, lt_trans, lt_le_trans}
@@ -263,6 +264,7 @@ grown_split (row ∷ rows) (suc at) id hit markers d rise lie here parted inside
 pub record AddsWell (old new : List Row) (id : ℕ) (hit : NumHit) (markers : Markers) : Type 0 where
   pub ok : rows_of new ≡ added (rows_of old) id hit.value markers
   pub held : Held new
+  pub more : entries_in_rows (rows_of new) ≡ entries_in_rows (rows_of old) + 1
   pub parts : (es : Entries) → AreParted es (rows_of old) → AreParted (es ++ (id, hit) ∷ []) (rows_of new)
 
 pub insert_seen : (items : List Row) (k : ℕ) (row : Row) → rows_of (insert items k row) ≡ insert (rows_of items) k (seen row)
@@ -302,6 +304,7 @@ well_from old new rows id hit markers same held g ids knows = record {
     };
     known = knows;
   };
+  more = ap entries_in_rows (same ∙ g.ok) ∙ count_added (rows_of old) id hit.value markers _ held.partition.first;
   parts = λ es p. subst (λ (r : Rows). AreParted (es ++ (id, hit) ∷ []) r) (sym same) (g.parts es p);
 }
 

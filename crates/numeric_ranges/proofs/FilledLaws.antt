@@ -5,7 +5,7 @@ use Rattle.posting_block.specs.declared.hits.NumHit.{NumHit}
 use Rattle.std.specs.List.{filter}
 use Rattle.inverted_list.specs.declared.marker.Marker.{Marker}
 use Rattle.inverted_list.specs.declared.marker.Markers.{Markers}
-use Rattle.inverted_list.specs.Listing.{Listing, with_entry, marker_of}
+use Rattle.inverted_list.specs.Listing.{Listing, with_entry, marker_of, filled_list}
 use Rattle.numeric_ranges.specs.Added.{marker_after}
 use Rattle.numeric_ranges.specs.declared.row.Row.{Row}
 use Rattle.numeric_ranges.specs.Rows.{Knows, AreFilled, AreHalves, IsInside}
@@ -44,7 +44,7 @@ filled_along left right es below above b a p q f =
 -- two filled rows are the halves of one
 pub halves_from : (row : Row) (es slice : Entries) (markers : Markers) (left right below above : Row) (cut : ℤ) (first second : Marker)
     → slice ≡ es → left.low ≡ row.low → right.low ≡ cut → cut ≡ cut_of (values es) → IsInside cut (values es)
-    → left.list ≡ record { marker = first; entries = [] } → right.list ≡ record { marker = second; entries = [] }
+    → left.list ≡ filled_list first [] → right.list ≡ filled_list second []
     → first ≡ marker_of markers → second ≡ marker_of (marker_after markers) → AreFilled left right slice below above → AreHalves row es markers below above
 halves_from row es slice markers left right below above cut first second same low at is inside l r m n f =
     let here : right.low ≡ cut_of (values es) = at ∙ is in
@@ -55,13 +55,13 @@ halves_from row es slice markers left right below above cut first second same lo
       cut = f.cut ∙ here;
       inside = subst (λ (v : ℤ). IsInside v (values es)) is inside;
       left_list = f.left_list
-          ∙ (ap (λ (k : Marker). record { marker = k; entries = filter (λ e. int_lt e.1.value right.low) slice }) one
-          ∙ (ap (λ (v : ℤ). record { marker = marker_of markers; entries = filter (λ e. int_lt e.1.value v) slice }) here
-          ∙ ap (λ (xs : Entries). record { marker = marker_of markers; entries = filter (λ e. int_lt e.1.value (cut_of (values es))) xs }) same));
+          ∙ (ap (λ (k : Marker). filled_list k (filter (λ e. int_lt e.1.value right.low) slice)) one
+          ∙ (ap (λ (v : ℤ). filled_list (marker_of markers) (filter (λ e. int_lt e.1.value v) slice)) here
+          ∙ ap (λ (xs : Entries). filled_list (marker_of markers) (filter (λ e. int_lt e.1.value (cut_of (values es))) xs)) same));
       right_list = f.right_list
-          ∙ (ap (λ (k : Marker). record { marker = k; entries = filter (λ e. int_le right.low e.1.value) slice }) two
-          ∙ (ap (λ (v : ℤ). record { marker = marker_of (marker_after markers); entries = filter (λ e. int_le v e.1.value) slice }) here
-          ∙ ap (λ (xs : Entries). record { marker = marker_of (marker_after markers); entries = filter (λ e. int_le (cut_of (values es)) e.1.value) xs }) same));
+          ∙ (ap (λ (k : Marker). filled_list k (filter (λ e. int_le right.low e.1.value) slice)) two
+          ∙ (ap (λ (v : ℤ). filled_list (marker_of (marker_after markers)) (filter (λ e. int_le v e.1.value) slice)) here
+          ∙ ap (λ (xs : Entries). filled_list (marker_of (marker_after markers)) (filter (λ e. int_le (cut_of (values es)) e.1.value) xs)) same));
       knows_left = f.knows_left;
       knows_right = f.knows_right;
     }

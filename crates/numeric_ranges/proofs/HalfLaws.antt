@@ -4,8 +4,9 @@ use Rattle.std.specs.List.{filter}
 use Rattle.std.proofs.lemmas.Bool.{cases_Bool}
 use Rattle.std.proofs.lemmas.List.{append-nil}
 use Rattle.std.proofs.lemmas.List.Elements.{filter_more}
+use Rattle.inverted_list.proofs.BlocksLaws.{filled_push}
 use Rattle.inverted_list.specs.declared.marker.Marker.{Marker}
-use Rattle.inverted_list.specs.Listing.{Listing, RisesAbove, last_id, with_entry}
+use Rattle.inverted_list.specs.Listing.{Listing, RisesAbove, last_id, with_entry, filled_list}
 
 module _ {P : Type 0} where
   pub last_more : (low high : ℕ) (es : List (ℕ × P)) → low ≤ high → last_id low es ≤ last_id high es
@@ -45,7 +46,7 @@ module _ {P : Type 0} where
 
   -- the next id is above those of a half
   pub half_below : (p : ℕ × P → Bool) (es : List (ℕ × P)) (k : ℕ) (e : ℕ × P) (l : Listing P) (m : Marker) → RisesAbove 0 es → k < length es
-      → e ≡ get_or es k e → l ≡ record { marker = m; entries = filter p (take k es) } → last_id 0 l.entries < e.0
+      → e ≡ get_or es k e → l ≡ filled_list m (filter p (take k es)) → last_id 0 l.entries < e.0
   half_below p es k e l m rises h is same =
       let here : last_id 0 l.entries ≡ last_id 0 (filter p (take k es)) = ap (λ (x : Listing P). last_id 0 x.entries) same in
       let id : e.0 ≡ (get_or es k e).0 = ap (λ (x : ℕ × P). x.0) is in
@@ -53,17 +54,17 @@ module _ {P : Type 0} where
 
   -- an entry comes to its half
   pub half_more : (p : ℕ × P → Bool) (es : List (ℕ × P)) (k : ℕ) (e : ℕ × P) (l new : Listing P) (m : Marker) → k < length es → e ≡ get_or es k e
-      → p e ≡ true → l ≡ record { marker = m; entries = filter p (take k es) } → new ≡ with_entry l e.0 e.1
-      → new ≡ record { marker = m; entries = filter p (take (k + 1) es) }
+      → p e ≡ true → l ≡ filled_list m (filter p (take k es)) → new ≡ with_entry l e.0 e.1
+      → new ≡ filled_list m (filter p (take (k + 1) es))
   half_more p es k e l new m h is passes same more =
       let step : filter p (take (k + 1) es) ≡ filter p (take k es) ++ e ∷ [] =
       filter_more p es k e h ∙ (ap (λ (x : ℕ × P). filter p (take k es) ++ cond (p x) (x ∷ []) []) (sym is) ∙ ap (λ b. filter p (take k es) ++ cond b (e ∷ []) []) passes) in
-      more ∙ (ap (λ (x : Listing P). with_entry x e.0 e.1) same ∙ ap (λ (xs : List (ℕ × P)). record { marker = m; entries = xs }) (sym step))
+      more ∙ (ap (λ (x : Listing P). with_entry x e.0 e.1) same ∙ (filled_push m (filter p (take k es)) e.0 e.1 ∙ ap (λ (xs : List (ℕ × P)). filled_list m xs) (sym step)))
 
   -- and does not come to the other
   pub half_same : (p : ℕ × P → Bool) (es : List (ℕ × P)) (k : ℕ) (e : ℕ × P) (l : Listing P) (m : Marker) → k < length es → e ≡ get_or es k e
-      → p e ≡ false → l ≡ record { marker = m; entries = filter p (take k es) } → l ≡ record { marker = m; entries = filter p (take (k + 1) es) }
+      → p e ≡ false → l ≡ filled_list m (filter p (take k es)) → l ≡ filled_list m (filter p (take (k + 1) es))
   half_same p es k e l m h is fails same =
       let step : filter p (take (k + 1) es) ≡ filter p (take k es) ++ [] =
       filter_more p es k e h ∙ (ap (λ (x : ℕ × P). filter p (take k es) ++ cond (p x) (x ∷ []) []) (sym is) ∙ ap (λ b. filter p (take k es) ++ cond b (e ∷ []) []) fails) in
-      same ∙ ap (λ (xs : List (ℕ × P)). record { marker = m; entries = xs }) (sym (step ∙ append-nil (filter p (take k es))))
+      same ∙ ap (λ (xs : List (ℕ × P)). filled_list m xs) (sym (step ∙ append-nil (filter p (take k es))))

@@ -3,6 +3,9 @@ pub mod SpreadLaws
 pub mod HalfLaws
 pub mod FilledLaws
 pub mod ReachLaws
+pub mod CountLaws
+pub mod GoneLaws
 pub mod AddLaws
 pub mod PutLaws
+pub mod SplicingLaws
 pub mod PartLaws

@@ -2,7 +2,7 @@
 use Rattle.std.proofs.Common.{◌≡◌, ℕ, ◌<◌, ◌≤◌, [], ◌∷◌, ◌++◌, refl, sym, ap, subst, arith, ℤ}
 use Rattle.posting_block.specs.declared.hits.NumHit.{NumHit}
 use Rattle.inverted_list.specs.declared.marker.Marker.{Marker}
-use Rattle.inverted_list.specs.Listing.{RisesAbove, last_id}
+use Rattle.inverted_list.specs.Listing.{RisesAbove, last_id, filled_list}
 use Rattle.inverted_list.proofs.ReachLaws.{rises_push}
 use Rattle.numeric_ranges.specs.Values.{Entries}
 use Rattle.numeric_ranges.specs.Ranges.{Rows, low_of, lies_in, AreParted, IsAbove}
@@ -22,7 +22,7 @@ pub record HasParts (rows : Rows) (last : ℕ) : Type 0 where
   pub rises : RisesAbove 0 es
   pub upto : last_id 0 es ≤ last
 
-pub parts_first : (rows : Rows) (low : ℤ) (marker : Marker) → rows ≡ (low, record { marker = marker; entries = [] }) ∷ [] → HasParts rows 0
+pub parts_first : (rows : Rows) (low : ℤ) (marker : Marker) → rows ≡ (low, filled_list marker []) ∷ [] → HasParts rows 0
 parts_first rows low marker same =
     subst (λ (r : Rows). HasParts r 0) (sym same) (record { es = []; parted = (refl, tt); rises = tt; upto = omega arith })
 

@@ -1,4 +1,5 @@
 pub mod Values
 pub mod Ranges
 pub mod Added
+pub mod Splicing
 pub mod Rows

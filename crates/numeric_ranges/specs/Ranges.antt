@@ -1,5 +1,5 @@
 -- What a contract sees of the ranges of a field: rows of a low and a posting list.
-use Rattle.std.specs.Prelude.{◌≡◌, ◌<◌, ℕ, suc, zero, Bool, true, false, cond, ◌&&◌, ℤ, negsuc, int_le, int_lt, List, [], ◌∷◌, Option, None, Some, IsTrue, length, sum_by}
+use Rattle.std.specs.Prelude.{◌≡◌, ◌<◌, ℕ, suc, zero, Bool, true, false, ◌&&◌, ℤ, negsuc, int_le, int_lt, List, [], ◌∷◌, Option, None, Some, IsTrue, length, sum_by}
 use Rattle.std.specs.List.{AllByRecursion, filter}
 use Rattle.std.specs.Map.{lookup, set_value}
 use Rattle.std.specs.Ordering.{int_eq}
@@ -29,11 +29,6 @@ is_below (Some bound) v = int_lt v bound
 abbrev pub lies_in : ℤ → Option ℤ → ℤ → Bool
 lies_in low next v = int_le low v && is_below next v
 
--- whether a value lies in the row that begins at a low
-abbrev pub lies_at : Rows → ℤ → ℤ → Bool
-lies_at [] low v = false
-lies_at (row ∷ rows) low v = cond (int_eq low row.0) (lies_in row.0 (low_of rows) v) (lies_at rows low v)
-
 -- the list of the row that begins at a low, where one does
 abbrev pub list_at : Rows → ℤ → Option (Listing NumHit)
 list_at rows low = lookup (int_eq low) rows
@@ -41,10 +36,6 @@ list_at rows low = lookup (int_eq low) rows
 -- the rows with this list in the row that begins at a low, where one does
 abbrev pub with_list : Rows → ℤ → Listing NumHit → Rows
 with_list rows low list = set_value (int_eq low) rows list
-
--- the list without its entries
-abbrev pub bare : Listing NumHit → Listing NumHit
-bare l = record l { entries = [] }
 
 -- Each row has the entries of a list whose values lie in it, in their order.
 abbrev pub AreParted : Entries → Rows → Type 0

@@ -1,15 +1,16 @@
 -- What the rows of the code stand for, and what they know of their values.
-use Rattle.std.specs.Prelude.{◌≡◌, ◌<◌, ℕ, suc, true, cond, ℤ, int_le, int_lt, ◌<ℤ◌, List, [], ◌∷◌, map, length, slice_index_or}
+use Rattle.std.specs.Prelude.{◌≡◌, ◌<◌, ℕ, suc, Bool, true, cond, ℤ, int_le, int_lt, ◌<ℤ◌, List, [], ◌∷◌, map, length, slice_index_or}
 use Rattle.std.specs.List.{AllByRecursion, Contains, filter}
 use Rattle.posting_block.specs.declared.hits.NumHit.{NumHit}
 use Rattle.inverted_list.specs.declared.marker.Markers.{Markers}
-use Rattle.inverted_list.specs.Listing.{Listing}
+use Rattle.inverted_list.specs.Listing.{Listing, filled_list}
+use Rattle.gc_splice.specs.Alive.{Without}
 use Rattle.numeric_ranges.specs.declared.row.Row.{Row}
 use Rattle.numeric_ranges.specs.declared.spread.Spread.{Spread}
 use Rattle.numeric_ranges.specs.declared.spread.Spread.TheVariants.{Unknown, Empty, One, Many}
 use Rattle.numeric_ranges.specs.Values.{Entries, values, are_mixed, cut_of}
 use Rattle.numeric_ranges.specs.Added.{left_half, right_half}
-use Rattle.numeric_ranges.specs.Ranges.{Rows, IsPartition}
+use Rattle.numeric_ranges.specs.Ranges.{Rows, IsPartition, entries_in_rows}
 
 -- the low and the list of each row
 abbrev pub rows_of : List Row → Rows
@@ -22,10 +23,19 @@ Knows Empty es = es ≡ []
 Knows (One v) es = (0 < length es) × AllByRecursion (λ e. e.1.value ≡ v) es
 Knows Many es = are_mixed es ≡ true
 
+-- The second entries are the first without some of them.
+abbrev pub IsPart : Entries → Entries → Type 0
+IsPart es part = (live : ℕ → Bool) × Without live es part
+
 -- The rows are a partition, and each knows what it says.
 pub record Held (rows : List Row) : Type 0 where
   pub partition : IsPartition (rows_of rows)
   pub known : AllByRecursion (λ row. Knows row.spread row.list.entries) rows
+
+-- Such rows with the number of their entries.
+pub record Counted (rows : List Row) (count : ℕ) : Type 0 where
+  pub held : Held rows
+  pub counted : count ≡ entries_in_rows (rows_of rows)
 
 -- how many of the first rows begin at a value or below it
 abbrev pub reach : ℤ → Rows → ℕ
@@ -48,8 +58,8 @@ pub record IsRowAt (at : ℕ) (low : ℤ) (rows : Rows) : Type 0 where
 pub record AreFilled (left right : Row) (es : Entries) (below above : Row) : Type 0 where
   pub low : below.low ≡ left.low
   pub cut : above.low ≡ right.low
-  pub left_list : below.list ≡ record { marker = left.list.marker; entries = filter (λ e. int_lt e.1.value right.low) es }
-  pub right_list : above.list ≡ record { marker = right.list.marker; entries = filter (λ e. int_le right.low e.1.value) es }
+  pub left_list : below.list ≡ filled_list left.list.marker (filter (λ e. int_lt e.1.value right.low) es)
+  pub right_list : above.list ≡ filled_list right.list.marker (filter (λ e. int_le right.low e.1.value) es)
   pub knows_left : Knows below.spread below.list.entries
   pub knows_right : Knows above.spread above.list.entries
 

@@ -1,6 +1,6 @@
 //! What happens to a row when it has too many entries: it is written anew as two.
 ghost use Rattle.std.specs.Prelude.{◌≡◌, ◌<◌, ◌≤◌, ◌+◌, [], ◌∷◌, ◌++◌, true, IfOk, OnOk, OnErr};
-ghost use Rattle.inverted_list.specs.Listing.{RisesAbove, last_id, marker_of};
+ghost use Rattle.inverted_list.specs.Listing.{RisesAbove, last_id, marker_of, filled_list};
 ghost use Rattle.numeric_ranges.specs.Values.{are_mixed};
 ghost use Rattle.numeric_ranges.specs.Rows.{Knows, AreHalves, AreFilled};
 
@@ -63,8 +63,8 @@ pub(crate) fn next_marker(markers: &mut Markers) -> Result<Marker, NoMemory>
 /// Two empty rows with the entries below the right one's low, and with those from it on.
 fn filled(left: Row, right: Row, entries: &[(u64, NumHit)]) -> Result<(Row, Row), NoMemory>
     requires rises { RisesAbove 0 entries.now }
-    requires left { left.list.entries ≡ [] }
-    requires right { right.list.entries ≡ [] }
+    requires left { left.list ≡ filled_list left.list.marker [] }
+    requires right { right.list ≡ filled_list right.list.marker [] }
     requires knows_left { Knows left.spread left.list.entries }
     requires knows_right { Knows right.spread right.list.entries }
     ensures { IfOk result (λ h. AreFilled left right entries.now h.0 h.1) }

@@ -1,28 +1,30 @@
 //! The ranges of a field: rows of a low and a posting list, in rising order of the lows.
-ghost use Rattle.std.specs.Prelude.{◌≡◌, ◌<◌, ◌≤◌, ◌+◌, ◌-◌, ◌*◌, ◌^◌, ◌↔◌, ◌++◌, ◌∷◌, [], ℕ, negsuc, Some, length, insert, set, slice_get, IfOk, IfNone, IfSome, IsSome, IsTrue, OnOk, OnErr, option_copied, option_map};
-ghost use Rattle.std.specs.List.{AllByRecursion};
-ghost use Rattle.inverted_list.specs.Listing.{marker_of};
+ghost use Rattle.std.specs.Prelude.{◌≡◌, ◌<◌, ◌≤◌, ◌+◌, ◌-◌, ◌*◌, ◌^◌, ◌↔◌, ◌++◌, ◌∷◌, [], ℕ, Bool, negsuc, Some, length, insert, set, slice_get, IfOk, IfNone, IfSome, IsTrue, OnOk, OnErr, option_copied, option_map};
+ghost use Rattle.gc_splice.specs.Splice.{Fits, picture_of};
+ghost use Rattle.inverted_list.specs.Listing.{marker_of, filled_list};
 ghost use Rattle.numeric_ranges.specs.Added.{added};
-ghost use Rattle.numeric_ranges.specs.Ranges.{Rows, AreParted, IsPartition, IsAbove, entries_in_rows, lies_at, list_at, with_list, meets, bare};
-ghost use Rattle.numeric_ranges.specs.Rows.{Held, rows_of};
+ghost use Rattle.numeric_ranges.specs.Ranges.{Rows, AreParted, IsPartition, IsAbove, entries_in_rows, list_at, meets};
+ghost use Rattle.numeric_ranges.specs.Rows.{Counted, Held, rows_of};
+ghost use Rattle.numeric_ranges.specs.Splicing.{CollectsRange, SplicesRange, removed_by};
 ghost use Rattle.numeric_ranges.specs.Values.{Entries};
 
 use crate::halving::{halves_of, next_marker};
 use crate::row::Row;
 use crate::search::{index_of, reach};
-use crate::spread::Spread;
 use ft_base::{NoMemory, Span};
-use inverted_list::{List, Markers};
+use gc_splice::{Live, Repair, Spliced};
+use inverted_list::{List, Marker, Markers};
 use posting_block::NumHit;
 use std::alloc::Global;
 use std::marker::Model;
-use std::mem::replace;
 
 /// The ranges of one numeric field. Together they are one posting list of ids and values.
 #[derive(Drop)]
 pub struct Ranges {
     alloc: Global,
     rows: Vec<Row>,
+    // The number of entries of all rows.
+    entries: u64,
 }
 
 impl Model for Ranges {
@@ -30,7 +32,7 @@ impl Model for Ranges {
 
     ghost view = { λ r. rows_of r.rows.items };
 
-    ghost invariant = { λ r. Held r.rows.items };
+    ghost invariant = { λ r. Counted r.rows.items r.entries };
 }
 
 impl Ranges {
@@ -39,7 +41,7 @@ impl Ranges {
     pub fn new(alloc: Global, markers: &mut Markers) -> Result<Ranges, NoMemory>
         ensures ok { IfOk result (λ ranges. ranges ≡ (
           negsuc 9223372036854775807,
-          record { marker = marker_of markers.old; entries = [] },
+          filled_list (marker_of markers.old) [],
         ) ∷ []) }
         ensures partition { IfOk result IsPartition }
         ensures taken { OnOk result (markers.new.next ≡ markers.old.next + 1) }
@@ -50,7 +52,11 @@ impl Ranges {
         let marker = next_marker(markers)?;
         let mut rows = Vec::new(alloc);
         rows.push(Row::new(alloc, i64::MIN, marker))?;
-        Ok(Ranges { alloc, rows })
+        Ok(Ranges {
+            alloc,
+            rows,
+            entries: 0,
+        })
     }
 
     /// The number of ranges.
@@ -61,14 +67,14 @@ impl Ranges {
         self.rows.len()
     }
 
-    /// The number of entries of all ranges: none where it is no `u64`. It walks over the ranges, and
-    /// reads no entry.
+    /// The number of entries of all ranges: none where it is no `u64`. It is counted as entries come
+    /// and go, so no range is looked at.
     pub fn entries(&self) -> Option<u64>
         ensures some { IfSome result (λ n. n ≡ entries_in_rows self.now) }
         ensures none { IfNone result (2 ^ 64 ≤ entries_in_rows self.now) }
         ensures partition { IsPartition self.now }
     {
-        entries_in_rows(self.rows.as_slice())
+        Some(self.entries)
     }
 
     /// Where the range at an index begins.
@@ -112,7 +118,8 @@ impl Ranges {
     }
 
     /// Adds a value to the range that it lies in, behind the other entries. The range then splits
-    /// if it has over 1,024 entries and two distinct values.
+    /// if it has over 1,024 entries and two distinct values. A number of entries that is no `u64`
+    /// counts as out of memory.
     pub fn add(&mut self, id: u64, value: i64, markers: &mut Markers) -> Result<(), NoMemory>
         requires { IsAbove id self.old }
         ensures ok { OnOk result (self.new ≡ added self.old id value markers.old) }
@@ -128,39 +135,50 @@ impl Ranges {
         ensures rises { markers.old.next ≤ markers.new.next }
         ensures twice { markers.new.next ≤ markers.old.next + 2 }
     {
-        add_entry(&mut self.rows, self.alloc, id, &NumHit { value }, markers)
+        let Some(entries) = self.entries.checked_add(1) else {
+            return Err(NoMemory);
+        };
+        add_entry(&mut self.rows, self.alloc, id, &NumHit { value }, markers)?;
+        self.entries = entries;
+        Ok(())
     }
 
-    /// Hands out the list of the range that begins at a low, and leaves one with its marker and
-    /// without entries in its place. It takes no memory.
-    pub fn take_list(&mut self, low: i64) -> Option<List<NumHit>>
-        ensures list { result ≡ list_at self.old low }
-        ensures left { IfSome result (λ l. self.new ≡ with_list self.old low (bare l)) }
-        ensures none { IfNone result (self.new ≡ self.old) }
+    /// Splices a repair into the list of the range that begins at a low. The range stays, also
+    /// without entries. It takes no memory: what went is then in the repair, for the caller to drop.
+    pub fn splice(&mut self, low: i64, repair: &mut Repair<NumHit>, marker: Marker) -> Spliced
+        requires { IfSome (list_at self.old low) (λ l. repair.old.seen ≡ l.marker
+            → (live : ℕ → Bool) × Fits live repair.old (picture_of l)) }
+        ensures gone { IfNone (list_at self.old low)
+            ((result ≡ Spliced.Gone) × (self.new ≡ self.old)) }
+        ensures there { IfSome (list_at self.old low) (λ l.
+            SplicesRange low repair.old marker l self.old self.new result) }
     {
-        take_from(&mut self.rows, self.alloc, low)
+        let spliced = splice_row(&mut self.rows, low, repair, marker);
+        if let Spliced::Done { removed, .. } = spliced {
+            self.entries -= removed;
+        }
+        spliced
     }
 
-    /// Puts a list in the place of that of the range that begins at a low. It takes no memory.
-    pub fn put_list(&mut self, low: i64, list: List<NumHit>)
-        requires there { IsSome (list_at self.old low) }
-        requires lies { AllByRecursion (λ e. IsTrue (lies_at self.old low e.1.value))
-            list.entries }
-        ensures { self.new ≡ with_list self.old low list }
+    /// Takes the dead entries out of the list of the range that begins at a low. The list then has
+    /// the marker that is given next; one without a dead entry stays as it is. The range stays, also
+    /// without entries. Where there is no marker to give, it counts as out of memory.
+    pub fn collect<L: Live>(
+        &mut self,
+        low: i64,
+        live: &L,
+        markers: &mut Markers,
+    ) -> Result<(), NoMemory>
+        ensures gone { IfNone (list_at self.old low)
+            ((self.new ≡ self.old) × (markers.new ≡ markers.old)) }
+        ensures there { OnOk result (IfSome (list_at self.old low) (λ l.
+            CollectsRange (L.is live.now) low markers.old l self.old self.new markers.new)) }
+        ensures err { OnErr result ((self.new ≡ self.old) × (markers.new ≡ markers.old)) }
     {
-        put_into(&mut self.rows, low, list);
+        let dead = collect_row::<L>(&mut self.rows, self.alloc, low, live, markers)?;
+        self.entries -= dead;
+        Ok(())
     }
-}
-
-fn entries_in_rows(rows: &[Row]) -> Option<u64>
-    ensures some { IfSome result (λ n. n ≡ entries_in_rows (rows_of rows.now)) }
-    ensures none { IfNone result (2 ^ 64 ≤ entries_in_rows (rows_of rows.now)) }
-{
-    let mut total: u64 = 0;
-    for row in rows {
-        total = total.checked_add(row.list.len())?;
-    }
-    Some(total)
 }
 
 // A value goes into the row that it lies in, which may split.
@@ -177,6 +195,8 @@ fn add_entry(
         ≡ added (rows_of rows.old.items) id hit.now.value markers.old) }
     ensures err { OnErr result (rows_of rows.new.items ≡ rows_of rows.old.items) }
     ensures held { Held rows.new.items }
+    ensures more { OnOk result (entries_in_rows (rows_of rows.new.items)
+        ≡ entries_in_rows (rows_of rows.old.items) + 1) }
     ensures parts { OnOk result ((es : Entries) → AreParted es (rows_of rows.old.items)
         → AreParted (es ++ (id, hit.now) ∷ []) (rows_of rows.new.items)) }
     ensures taken { OnOk result (markers.new.next
@@ -212,33 +232,49 @@ fn put_halves(rows: &mut Vec<Row>, at: usize, halves: (Row, Row)) -> Result<(), 
     Ok(())
 }
 
-fn take_from(rows: &mut Vec<Row>, alloc: Global, low: i64) -> Option<List<NumHit>>
+// A repair goes into the list of the row that begins at a low.
+fn splice_row(rows: &mut Vec<Row>, low: i64, repair: &mut Repair<NumHit>, marker: Marker) -> Spliced
     requires held { Held rows.old.items }
-    ensures list { result ≡ list_at (rows_of rows.old.items) low }
-    ensures left { IfSome result (λ l. rows_of rows.new.items
-        ≡ with_list (rows_of rows.old.items) low (bare l)) }
-    ensures none { IfNone result (rows_of rows.new.items ≡ rows_of rows.old.items) }
+    requires fits { IfSome (list_at (rows_of rows.old.items) low) (λ l. repair.old.seen ≡ l.marker
+        → (live : ℕ → Bool) × Fits live repair.old (picture_of l)) }
+    ensures gone { IfNone (list_at (rows_of rows.old.items) low)
+        ((result ≡ Spliced.Gone) × (rows_of rows.new.items ≡ rows_of rows.old.items)) }
+    ensures there { IfSome (list_at (rows_of rows.old.items) low) (λ l.
+        SplicesRange low repair.old marker l (rows_of rows.old.items) (rows_of rows.new.items) result) }
     ensures held { Held rows.new.items }
+    ensures fewer { entries_in_rows (rows_of rows.new.items) + removed_by result
+        ≡ entries_in_rows (rows_of rows.old.items) }
 {
-    let at = index_of(rows.as_slice(), low)?;
+    let Some(at) = index_of(rows.as_slice(), low) else {
+        return Spliced::Gone;
+    };
     let row = &mut rows[at];
-    let marker = row.list.marker();
-    row.spread = Spread::Empty;
-    Some(replace(&mut row.list, List::new(alloc, marker)))
+    row.splice(repair, marker)
 }
 
-fn put_into(rows: &mut Vec<Row>, low: i64, list: List<NumHit>)
+// The dead entries go out of the list of the row that begins at a low. It answers how many there were.
+fn collect_row<L: Live>(
+    rows: &mut Vec<Row>,
+    alloc: Global,
+    low: i64,
+    live: &L,
+    markers: &mut Markers,
+) -> Result<u64, NoMemory>
     requires held { Held rows.old.items }
-    requires there { IsSome (list_at (rows_of rows.old.items) low) }
-    requires lies { AllByRecursion (λ e. IsTrue (lies_at (rows_of rows.old.items) low e.1.value))
-        list.entries }
-    ensures put { rows_of rows.new.items ≡ with_list (rows_of rows.old.items) low list }
+    ensures gone { IfNone (list_at (rows_of rows.old.items) low)
+        ((rows_of rows.new.items ≡ rows_of rows.old.items) × (markers.new ≡ markers.old)) }
+    ensures there { OnOk result (IfSome (list_at (rows_of rows.old.items) low) (λ l.
+        CollectsRange (L.is live.now) low markers.old l (rows_of rows.old.items) (rows_of rows.new.items)
+        markers.new)) }
+    ensures err { OnErr result ((rows_of rows.new.items ≡ rows_of rows.old.items)
+        × (markers.new ≡ markers.old)) }
     ensures held { Held rows.new.items }
+    ensures fewer { IfOk result (λ dead. entries_in_rows (rows_of rows.new.items) + dead
+        ≡ entries_in_rows (rows_of rows.old.items)) }
 {
-    let _ = list.len();
-    if let Some(at) = index_of(rows.as_slice(), low) {
-        let row = &mut rows[at];
-        row.list = list;
-        row.spread = Spread::Unknown;
-    }
+    let Some(at) = index_of(rows.as_slice(), low) else {
+        return Ok(0);
+    };
+    let row = &mut rows[at];
+    row.collect::<L>(alloc, live, markers)
 }

@@ -1,12 +1,15 @@
 //! One range: where it begins, its list, and what is known of its values.
-ghost use Rattle.std.specs.Prelude.{◌≡◌, ◌<◌, [], ◌∷◌, ◌++◌, true, false, OnOk, OnErr, IfOk, IfSome, IfNone};
-ghost use Rattle.inverted_list.specs.Listing.{last_id, with_entry};
-ghost use Rattle.numeric_ranges.specs.Rows.{Knows};
+ghost use Rattle.std.specs.Prelude.{◌≡◌, ◌<◌, ◌+◌, ℕ, Bool, [], ◌∷◌, ◌++◌, true, false, length, OnOk, OnErr, IfOk, IfSome, IfNone};
+ghost use Rattle.gc_splice.specs.Splice.{Fits, SplicesList, picture_of};
+ghost use Rattle.inverted_list.specs.Listing.{RisesAbove, last_id, with_entry, filled_list};
+ghost use Rattle.numeric_ranges.specs.Rows.{IsPart, Knows};
+ghost use Rattle.numeric_ranges.specs.Splicing.{CollectsList};
 ghost use Rattle.numeric_ranges.specs.Values.{splits};
 
 use crate::spread::Spread;
 use ft_base::NoMemory;
-use inverted_list::{List, Marker};
+use gc_splice::{Live, Repair, Spliced, collect_list, splice_list};
+use inverted_list::{List, Marker, Markers};
 use posting_block::NumHit;
 use std::alloc::Global;
 
@@ -36,7 +39,7 @@ impl Row {
     /// A range without entries.
     pub fn new(alloc: Global, low: i64, marker: Marker) -> Row
         ensures low { result.low ≡ low }
-        ensures list { result.list ≡ record { marker = marker; entries = [] } }
+        ensures list { result.list ≡ filled_list marker [] }
         ensures knows { Knows result.spread result.list.entries }
     {
         Row {
@@ -59,6 +62,52 @@ impl Row {
         self.list.append(id, hit)?;
         self.spread = spread;
         Ok(())
+    }
+
+    /// Splices a repair into the list.
+    pub fn splice(&mut self, repair: &mut Repair<NumHit>, marker: Marker) -> Spliced
+        requires fits { repair.old.seen ≡ self.old.list.marker
+            → (live : ℕ → Bool) × Fits live repair.old (picture_of self.old.list) }
+        requires knows { Knows self.old.spread self.old.list.entries }
+        ensures low { self.new.low ≡ self.old.low }
+        ensures list { SplicesList repair.old marker self.old.list self.new.list result }
+        ensures part { IsPart self.old.list.entries self.new.list.entries }
+        ensures rises { RisesAbove 0 self.new.list.entries }
+        ensures knows { Knows self.new.spread self.new.list.entries }
+    {
+        let spliced = splice_list::<NumHit>(&mut self.list, repair, marker);
+        let left = self.list.len();
+        if let Spliced::Done { .. } = spliced {
+            self.spread = self.spread.of_part(left);
+        }
+        spliced
+    }
+
+    /// Takes the dead entries out of the list, and answers how many there were.
+    pub fn collect<L: Live>(
+        &mut self,
+        alloc: Global,
+        live: &L,
+        markers: &mut Markers,
+    ) -> Result<u64, NoMemory>
+        requires knows { Knows self.old.spread self.old.list.entries }
+        ensures low { self.new.low ≡ self.old.low }
+        ensures ok { OnOk result (CollectsList (L.is live.now) markers.old self.old.list self.new.list
+            markers.new) }
+        ensures removed { IfOk result (λ removed.
+            length self.new.list.entries + removed ≡ length self.old.list.entries) }
+        ensures err { OnErr result ((self.new.list ≡ self.old.list) × (markers.new ≡ markers.old)) }
+        ensures part { IsPart self.old.list.entries self.new.list.entries }
+        ensures rises { RisesAbove 0 self.new.list.entries }
+        ensures knows { Knows self.new.spread self.new.list.entries }
+    {
+        let before = self.list.len();
+        collect_list::<NumHit, L>(alloc, &mut self.list, live, markers)?;
+        let left = self.list.len();
+        if left < before {
+            self.spread = self.spread.of_part(left);
+        }
+        Ok(before - left)
     }
 
     /// What is known of the values, which are read if nothing is.

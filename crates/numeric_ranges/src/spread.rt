@@ -1,12 +1,12 @@
 //! What a row knows of its values, so that a long one of equal values is not read at every entry.
-ghost use Rattle.std.specs.Prelude.{◌≡◌, ◌++◌, ◌∷◌, [], ℕ};
-ghost use Rattle.numeric_ranges.specs.Rows.{Knows};
+ghost use Rattle.std.specs.Prelude.{◌≡◌, ◌++◌, ◌∷◌, [], ℕ, length};
+ghost use Rattle.numeric_ranges.specs.Rows.{IsPart, Knows};
 ghost use Rattle.numeric_ranges.specs.Values.{Entries};
 
 /// What is known of the values of a row.
 #[derive(Clone, Copy)]
 pub(crate) enum Spread {
-    /// Nothing: the list came from outside.
+    /// Nothing: entries went, and those that are left were not read.
     Unknown,
     /// There is no value.
     Empty,
@@ -35,6 +35,20 @@ impl Spread {
                 }
             }
             Spread::Many => Spread::Many,
+        }
+    }
+
+    /// What is known once entries went, and so many are left. Of two values that differ one may be gone.
+    pub fn of_part(self, left: u64) -> Spread
+        ensures { (es part : Entries) → Knows self es → IsPart es part → left ≡ length part
+            → Knows result part }
+    {
+        if left == 0 {
+            return Spread::Empty;
+        }
+        match self {
+            Spread::One(value) => Spread::One(value),
+            _ => Spread::Unknown,
         }
     }
 }

@@ -1,9 +1,9 @@
 -- At which places leaves stand, and which hints fit them.
-use Rattle.std.proofs.Common.{◌≡◌, ◌/◌, ℕ, List, [], ◌∷◌, Option, Some, None, IsSome, slice_index_or, sym, ap, ◌∙◌, subst}
+use Rattle.std.proofs.Common.{◌≡◌, ℕ, List, [], ◌∷◌, Option, Some, None, IsSome, slice_index_or, sym, ap, ◌∙◌, subst}
 use Rattle.std.specs.List.{All, AllByRecursion}
 use Rattle.std.proofs.lemmas.List.Elements.{All-contains, All-from_recursion, recursion_from_All}
 use Rattle.inverted_list.specs.Listing.{Listing}
-use Rattle.inverted_list.specs.Places.{reach}
+use Rattle.inverted_list.specs.Places.{number_of}
 use Rattle.inverted_list.specs.declared.place.Place.{Place}
 use Rattle.id_iters.specs.Fitting.{HasFitting, IsOpenAt, IsPlaced}
 use Rattle.id_iters.specs.Held.{Held}
@@ -24,7 +24,7 @@ alike_in (Some list) after a b sound opened also again =
     let others = also again.0 in
     let marker = opened.0 ∙ sym again.0 in
     let last = opened.1 ∙ sym again.1 in
-    let block = stands ∙ ap (λ n. reach n list.entries / 100) last ∙ sym others in
+    let block = stands ∙ ap (λ n. number_of n list) last ∙ sym others in
     λ i. record { marker = marker i; block = block i; last = last i }
 
 alike : (held : Held) (list : ListName) (after : ℕ) (a b : Place) → IsOpenAt held list after a → IsOpenAt held list after b → a ≡ b

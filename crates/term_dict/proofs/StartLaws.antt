@@ -19,9 +19,9 @@ use Rattle.std.proofs.lemmas.Bool.{cases_Bool, false≢true}
 use Rattle.std.proofs.lemmas.Map.Keys.{sorted_head, sorted_tail}
 use Rattle.std.proofs.lemmas.Slice.Eq.{starts_is}
 use Rattle.term_dict.specs.Rows.{lists_of}
-use Rattle.term_dict.specs.Starts.{start_of, words_from, first_with}
+use Rattle.term_dict.specs.Starts.{behind, start_of, words_from, first_with}
 use Rattle.inverted_list.specs.Names.{is_after, word_cmp}
-use Rattle.term_dict.specs.Terms.{Lists, WordsRise, next_word}
+use Rattle.term_dict.specs.Terms.{Lists, WordsRise, next_word, rows_after}
 use Rattle.term_dict.proofs.TermLaws.{Row, key_cmp, word_at}
 
 pub lt_is : (o : Ordering) → is_lt o ≡ true → o ≡ Less
@@ -140,6 +140,11 @@ in_range (Included k) key = and_true (is_le (key_cmp k key))
 in_range (Excluded k) key = and_true (is_lt (key_cmp k key))
 in_range Unbounded key = refl
 
+-- behind a word there are those above it
+behind_is : (after : Option (List ℕ)) (w : List ℕ) → is_from_start word_cmp (behind after) w ≡ is_after after w
+behind_is None w = refl
+behind_is (Some other) w = refl
+
 module _ {P : Type 0} where
   pub next_found : (p : List ℕ) (after : Option (List ℕ)) (lists : Lists P) → WordsRise lists
       → next_word lists p after ≡ first_with p (words_from (start_of p after) (keys_of lists))
@@ -162,4 +167,15 @@ module _ {P : Type 0} where
       elim (cases_Bool (is_from_start word_cmp (bound_map (λ k. k.items) start) row.0.items)) [
         | inl y ↦ rw (in_range start row.0, y) (ap (λ rest. row.0.items ∷ rest) (words_from-rows start rows))
         | inr n ↦ rw (in_range start row.0, n) (words_from-rows start rows)
+      ]
+
+  -- and their rows, where a walk begins behind a word
+  pub rows_behind : (start : Bound (Vec ℕ Global)) (after : Option (List ℕ)) (rows : List (Row P)) → bound_map (λ k. k.items) start ≡ behind after
+      → lists_of (entries_between key_cmp start Unbounded rows) ≡ rows_after after (lists_of rows)
+  rows_behind start after [] e = refl
+  rows_behind start after (row ∷ rows) e =
+      let t = in_range start row.0 ∙ (ap (λ b. is_from_start word_cmp b row.0.items) e ∙ behind_is after row.0.items) in
+      elim (cases_Bool (is_after after row.0.items)) [
+        | inl y ↦ rw (t, y) (ap (λ rest. (row.0.items, row.1) ∷ rest) (rows_behind start after rows e))
+        | inr n ↦ rw (t, n) (rows_behind start after rows e)
       ]

@@ -1,17 +1,23 @@
 -- What a look-up and a change in the map say of the tags of its fields.
-use Rattle.std.proofs.Common.{◌≡◌, ℕ, false, List, [], Option, Some, sym, ap, subst, ◌∙◌, nat_eq, inl, inr}
+use Rattle.std.proofs.Common.{◌≡◌, ℕ, ◌&&◌, true, false, List, [], ◌∷◌, Option, None, Some, refl, sym, ap, subst, ◌∙◌, nat_eq, nat_le, inl, inr, arith}
+use Rattle.std.specs.BTreeMap.Range.{entries_between}
+use Rattle.std.specs.declared.ops.Bound.TheVariants.{Included, Unbounded}
 use Rattle.std.specs.BTreeMap.{is_at}
 use Rattle.std.specs.List.Sorted.{IsStrictlySortedBy}
 use Rattle.std.specs.Map.{lookup, set_value}
 use Rattle.std.specs.Option.{unwrap_or}
-use Rattle.std.specs.Ordering.{nat_cmp}
-use Rattle.std.proofs.lemmas.Bool.{cases_Bool, eqb-true}
+use Rattle.std.specs.Ordering.{is_le, nat_cmp}
+use Rattle.std.proofs.lemmas.Bool.{cases_Bool, eqb-true, false≢true}
+use Rattle.std.proofs.lemmas.Bool.Decides.{nat_tests}
 use Rattle.std.proofs.lemmas.Map.Steps.{set_value_same}
 use Rattle.ft_base.proofs.RowsLaws.{is_at-nat_eq, lookup-at}
 use Rattle.posting_block.specs.declared.hits.TagHit.{TagHit}
 use Rattle.inverted_list.specs.Listing.{Listing}
 use Rattle.term_dict.specs.Terms.{Lists, Sets}
-use Rattle.term_dict.specs.Tags.{FieldTags, SetsTag, TagsRise, tags_of}
+use Rattle.term_dict.specs.Tags.{FieldTags, FieldsKept, SetsTag, TagsRise, first_field, tags_of}
+
+same_true : (a b : ℕ) → a ≡ b → nat_eq a b ≡ true
+same_true a b e = grind (arith, nat_tests)
 
 -- what the map lends for a field is the field's dictionary
 pub tags_found : (field : ℕ) (rows : FieldTags) (found : Option (Lists TagHit)) → found ≡ lookup (is_at (nat_cmp field)) rows
@@ -53,6 +59,34 @@ written_same field tags before old new written same found =
     written ∙ (ap (set_value (is_at (nat_cmp field)) old) same ∙ set_value_same (is_at (nat_cmp field)) old before (sym found))
 
 -- the tags of no dictionary rise
-pub none_rise : TagsRise []
+none_rise : TagsRise []
 unfolding IsStrictlySortedBy
 none_rise = record { words = tt; ids = λ _. tt }
+
+-- and there are none of them
+pub none_kept : FieldsKept [] 0
+none_kept = record { tags = λ _. none_rise; counted = refl }
+
+-- they go on rising where those of one field rise, and the others are as they were
+pub fields_rise : (field : ℕ) (old new : FieldTags) → ((f : ℕ) → TagsRise (tags_of old f)) → TagsRise (tags_of new field)
+    → ((other : ℕ) → ¬ (other ≡ field) → lookup (nat_eq other) new ≡ lookup (nat_eq other) old) → (f : ℕ) → TagsRise (tags_of new f)
+fields_rise field old new rise here others f = elim (cases_Bool (nat_eq f field)) [
+  | inl y ↦ subst (λ n. TagsRise (tags_of new n)) (sym (eqb-true f field y)) here
+  | inr n ↦ subst TagsRise (ap (λ o. unwrap_or o []) (sym (others f (λ e. false≢true (sym n ∙ same_true f field e))))) (rise f)
+]
+
+-- the first field of rows
+abbrev pub head_field : FieldTags → Option ℕ
+head_field [] = None
+head_field (row ∷ rows) = Some row.0
+
+le_is : (a b : ℕ) → (is_le (nat_cmp a b) && true) ≡ nat_le a b
+le_is a b = grind (arith, nat_tests)
+
+-- the fields from a number on begin with the least of them
+pub first_from : (from : ℕ) (rows : FieldTags) → first_field from rows ≡ head_field (entries_between nat_cmp (Included from) Unbounded rows)
+first_from from [] = refl
+first_from from (row ∷ rows) = elim (cases_Bool (nat_le from row.0)) [
+  | inl y ↦ rw (le_is from row.0, y) refl
+  | inr n ↦ rw (le_is from row.0, n) (first_from from rows)
+]

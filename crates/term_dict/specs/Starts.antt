@@ -4,8 +4,13 @@ use Rattle.std.specs.BTreeMap.Range.{is_from_start}
 use Rattle.std.specs.List.{filter, starts_with}
 use Rattle.std.specs.Ordering.{is_lt}
 use Rattle.std.specs.declared.ops.Bound.{Bound}
-use Rattle.std.specs.declared.ops.Bound.TheVariants.{Included, Excluded}
+use Rattle.std.specs.declared.ops.Bound.TheVariants.{Included, Excluded, Unbounded}
 use Rattle.inverted_list.specs.Names.{word_cmp}
+
+-- behind a word, or at the first
+abbrev pub behind : Option (List ℕ) → Bound (List ℕ)
+behind None = Unbounded
+behind (Some word) = Excluded word
 
 -- at the prefix, or behind a word that is not below it
 abbrev pub start_of : List ℕ → Option (List ℕ) → Bound (List ℕ)

@@ -1,5 +1,5 @@
 -- What a contract sees of the posting lists of tags: each field's dictionary.
-use Rattle.std.specs.Prelude.{◌≡◌, ℕ, List, [], Option, nat_eq, sum_by}
+use Rattle.std.specs.Prelude.{◌≡◌, ℕ, List, [], Option, find, nat_eq, nat_le, sum_by}
 use Rattle.std.specs.List.Sorted.{IsStrictlySortedBy}
 use Rattle.std.specs.Map.{keys_of, lookup}
 use Rattle.std.specs.Option.{unwrap_or}
@@ -36,6 +36,15 @@ FieldsRise lists = IsStrictlySortedBy nat_cmp (keys_of lists)
 pub record TagsRise (tags : Lists TagHit) : Type 0 where
   pub words : WordsRise tags
   pub ids : IdsRise tags
+
+-- The tags of each field rise, and the entries of all lists are counted.
+pub record FieldsKept (lists : FieldTags) (count : ℕ) : Type 0 where
+  pub tags : (field : ℕ) → TagsRise (tags_of lists field)
+  pub counted : count ≡ entries_in_fields lists
+
+-- the least field of at least `from` that is there, where fields rise
+abbrev pub first_field : ℕ → FieldTags → Option ℕ
+first_field from lists = find (λ field. nat_le from field) (keys_of lists)
 
 -- A field's tag has this list now, or none. Each other tag has what it had, and so has each other field: one without tags stays so.
 pub record SetsTag (field : ℕ) (tag : List ℕ) (list : Option (Listing TagHit)) (old new : FieldTags) : Type 0 where

@@ -1,11 +1,12 @@
 -- What a contract sees of a term dictionary: its words, each with its posting list.
-use Rattle.std.specs.Prelude.{◌≡◌, ◌==◌, ℕ, Bool, false, List, [], Option, None, Some, length, sum_by, IfSome}
+use Rattle.std.specs.Prelude.{◌≡◌, ℕ, List, [], ◌∷◌, Option, None, Some, length, filter, sum_by, IfSome}
+use Rattle.std.specs.Borrow.{Bor}
 use Rattle.std.specs.Map.{keys_of, lookup, update}
 use Rattle.std.specs.Option.{option_map, unwrap_or}
 use Rattle.std.specs.Str.{bytes_eq}
 use Rattle.inverted_list.specs.declared.marker.Markers.{Markers}
-use Rattle.inverted_list.specs.Listing.{Listing, RisesAbove, marker_of}
-use Rattle.inverted_list.specs.Names.{NamesRise, next_name}
+use Rattle.inverted_list.specs.Listing.{Listing, RisesAbove, empty_list, marker_of}
+use Rattle.inverted_list.specs.Names.{NamesRise, is_after, next_name}
 
 -- words and their lists
 abbrev pub Lists : Type 0 → Type 0
@@ -38,7 +39,7 @@ module _ {P : Type 0} where
 
   -- the list of a word that has none yet: no entries, and the marker that is given next
   abbrev pub fresh_list : Markers → Listing P
-  fresh_list markers = record { marker = marker_of markers; entries = [] }
+  fresh_list markers = empty_list (marker_of markers)
 
   -- the word's list, or a fresh one
   abbrev pub list_or_fresh : Lists P → List ℕ → Markers → Listing P
@@ -48,11 +49,16 @@ module _ {P : Type 0} where
   abbrev pub next_word : Lists P → List ℕ → Option (List ℕ) → Option (List ℕ)
   next_word lists prefix after = next_name (keys_of lists) prefix after
 
-  -- the list without its entries
-  abbrev pub bare : Listing P → Listing P
-  bare l = record l { entries = [] }
+  -- the words above `after` and their lists, in order: all of them where it is none
+  abbrev pub rows_after : Option (List ℕ) → Lists P → Lists P
+  rows_after after lists = filter (λ row. is_after after row.0) lists
 
-  -- whether a list is there and has no entry
-  abbrev pub is_drained : Option (Listing P) → Bool
-  is_drained None = false
-  is_drained (Some l) = length l.entries == 0
+  -- A word and its list are taken from the front of those that are left, where there are any.
+  abbrev pub IsNextRow : Lists P → Option (Bor (List ℕ) × Bor (Listing P)) → Lists P → Type 0
+  IsNextRow left None rest = (left ≡ []) × (rest ≡ [])
+  IsNextRow left (Some row) rest = left ≡ (row.0.now, row.1.now) ∷ rest
+
+  -- The ids of each word rise, and the entries of all lists are counted.
+  pub record IsKept (lists : Lists P) (count : ℕ) : Type 0 where
+    pub ids : IdsRise lists
+    pub counted : count ≡ entries_in_all lists

@@ -1,19 +1,23 @@
 //! Posting lists by word.
-ghost use Rattle.std.specs.Prelude.{◌≡◌, ◌<◌, ◌≤◌, ◌+◌, ◌^◌, [], None, Some, false, is_some, length, IfOk, IfNone, IfSome, IsSome, IsTrue, OnOk, OnErr, if◌then◌else◌, option_copied};
+ghost use Rattle.std.specs.Prelude.{◌≡◌, ◌<◌, ◌≤◌, ◌+◌, ◌^◌, ℕ, Bool, [], None, Some, is_some, length, IfOk, IfNone, IfSome, IsSome, OnOk, OnErr, if◌then◌else◌, option_copied};
 ghost use Rattle.std.specs.Map.{keys_of};
 ghost use Rattle.std.specs.Range.Bound.{bound_map};
-ghost use Rattle.inverted_list.specs.Listing.{RisesAbove, last_id, with_entry};
+ghost use Rattle.inverted_list.specs.Listing.{last_id, with_entry};
+ghost use Rattle.gc_splice.specs.Splice.{Fits, picture_of};
 ghost use Rattle.term_dict.specs.Rows.{lists_of};
-ghost use Rattle.term_dict.specs.Starts.{start_of, words_from, first_with};
-ghost use Rattle.term_dict.specs.Terms.{Lists, Sets, WordsRise, IdsRise, list_of, entries_of, entries_in_all, bare, fresh_list, list_or_fresh, next_word, is_drained};
+ghost use Rattle.term_dict.specs.Splices.{CollectsWord, SplicesWord, removed_by};
+ghost use Rattle.term_dict.specs.Starts.{behind, start_of, words_from, first_with};
+ghost use Rattle.term_dict.specs.Terms.{Lists, Sets, WordsRise, IdsRise, IsKept, list_of, entries_of, entries_in_all, fresh_list, list_or_fresh, next_word, rows_after};
 
+use crate::collect::{collect_word, removed, splice_word};
+use crate::walk::Walk;
 use ft_base::NoMemory;
-use inverted_list::{List, Markers};
+use gc_splice::{Live, Repair, Spliced};
+use inverted_list::{List, Marker, Markers};
 use posting_block::Payload;
 use std::alloc::Global;
 use std::collections::BTreeMap;
 use std::marker::Model;
-use std::mem::replace;
 use std::ops::Bound;
 
 /// Posting lists by word.
@@ -21,6 +25,8 @@ use std::ops::Bound;
 pub struct Dictionary<P: Payload> {
     alloc: Global,
     lists: BTreeMap<Vec<u8>, List<P>>,
+    // The number of entries of all lists.
+    count: u64,
 }
 
 impl<P: Payload> Model for Dictionary<P> {
@@ -28,7 +34,7 @@ impl<P: Payload> Model for Dictionary<P> {
 
     ghost view = { λ d. lists_of d.lists.entries };
 
-    ghost invariant = { λ d. IdsRise (lists_of d.lists.entries) };
+    ghost invariant = { λ d. IsKept (lists_of d.lists.entries) d.count };
 }
 
 impl<P: Payload> Dictionary<P> {
@@ -39,6 +45,7 @@ impl<P: Payload> Dictionary<P> {
         Dictionary {
             alloc,
             lists: BTreeMap::new(alloc),
+            count: 0,
         }
     }
 
@@ -51,13 +58,12 @@ impl<P: Payload> Dictionary<P> {
         self.lists.len()
     }
 
-    /// The number of entries of all lists: none where it is no `u64`. It walks over the words, and reads
-    /// no entry.
+    /// The number of entries of all lists: none where it is no `u64`. It is kept, so nothing is walked over.
     pub fn entries(&self) -> Option<u64>
         ensures some { IfSome result (λ n. n ≡ entries_in_all self.now) }
         ensures none { IfNone result (2 ^ 64 ≤ entries_in_all self.now) }
     {
-        entries_in_all(&self.lists)
+        Some(self.count)
     }
 
     /// The list of a word.
@@ -68,7 +74,8 @@ impl<P: Payload> Dictionary<P> {
     }
 
     /// Adds an entry to a word's list, behind the others. A word without a list gets one, with the
-    /// marker that is given next; where there is none, it counts as out of memory.
+    /// marker that is given next; where there is none, it counts as out of memory, and so does an entry
+    /// past 2^64 - 1 of them.
     pub fn add(
         &mut self,
         word: &[u8],
@@ -79,6 +86,7 @@ impl<P: Payload> Dictionary<P> {
         requires { last_id 0 (entries_of self.old word.now) < id }
         ensures ok { OnOk result (Sets word.now
             (Some (with_entry (list_or_fresh self.old word.now markers.old) id hit.now)) self.old self.new) }
+        ensures counted { OnOk result (entries_in_all self.new ≡ entries_in_all self.old + 1) }
         ensures err { OnErr result (self.new ≡ self.old) }
         ensures kept { IsSome (list_of self.old word.now) → markers.new ≡ markers.old }
         ensures taken { OnOk result (markers.new.next
@@ -87,7 +95,12 @@ impl<P: Payload> Dictionary<P> {
         ensures rises { markers.old.next ≤ markers.new.next }
         ensures once { markers.new.next ≤ markers.old.next + 1 }
     {
-        add_entry(&mut self.lists, self.alloc, word, id, hit, markers)
+        let Some(count) = self.count.checked_add(1) else {
+            return Err(NoMemory);
+        };
+        add_entry(&mut self.lists, self.alloc, word, id, hit, markers)?;
+        self.count = count;
+        Ok(())
     }
 
     /// The least word above `after` that has the prefix. The search begins at the prefix, or behind
@@ -100,43 +113,57 @@ impl<P: Payload> Dictionary<P> {
         Ok(first_from(&self.lists, start, prefix))
     }
 
-    /// Hands a word's list out, and leaves one with its marker and without entries in its place.
-    /// It takes no memory.
-    pub fn take_list(&mut self, word: &[u8]) -> Option<List<P>>
-        ensures list { result ≡ list_of self.old word.now }
-        ensures left { IfSome result (λ l. Sets word.now (Some (bare l)) self.old self.new) }
-        ensures none { IfNone result (self.new ≡ self.old) }
+    /// The words above `after` in rising order, each with its list: all words where it is none.
+    pub fn walk(&self, after: Option<&[u8]>) -> Result<Walk<'_, P>, NoMemory>
+        ensures { IfOk result (λ walk. walk ≡ rows_after (option_copied after.entry) self.now) }
     {
-        take_from(&mut self.lists, self.alloc, word)
+        let start = behind(self.alloc, after)?;
+        Ok(Walk {
+            left: Some(self.lists.range((start, Bound::Unbounded))),
+        })
     }
 
-    /// Puts a list in the place of the one that the word has. It takes no memory.
-    pub fn put_list(&mut self, word: &[u8], list: List<P>)
-        requires { IsSome (list_of self.old word.now) }
-        ensures { Sets word.now (Some list) self.old self.new }
+    /// Lays a repair over a word's list, which then has the marker. A list that is left without an entry goes out with its
+    /// word. It takes no memory, and leaves what the list held before in the repair.
+    pub fn splice(&mut self, word: &[u8], repair: &mut Repair<P>, marker: Marker) -> Spliced
+        requires { IfSome (list_of self.old word.now) (λ l.
+            repair.old.seen ≡ l.marker → (live : ℕ → Bool) × Fits live repair.old (picture_of l)) }
+        ensures gone { IfNone (list_of self.old word.now) ((result ≡ Spliced.Gone) × (self.new ≡ self.old)) }
+        ensures there { IfSome (list_of self.old word.now) (λ l.
+            SplicesWord word.now repair.old marker l self.old self.new result) }
+        ensures counted { entries_in_all self.new + removed_by result ≡ entries_in_all self.old }
     {
-        put_into(&mut self.lists, word, list);
+        let spliced = splice_word(&mut self.lists, word, repair, marker);
+        self.count -= removed(spliced);
+        spliced
     }
 
-    /// Takes a word out whose list has no entry, and answers whether it did. It takes no memory.
-    pub fn drop_empty(&mut self, word: &[u8]) -> bool
-        ensures drained { result ≡ is_drained (list_of self.old word.now) }
-        ensures gone { IsTrue result → Sets word.now None self.old self.new }
-        ensures kept { result ≡ false → self.new ≡ self.old }
+    /// Takes the dead entries out of a word's list, which then has the marker that is given next. A list that is left without
+    /// an entry goes out with its word; one without a dead entry stays as it is. Where there is no marker left, it counts as
+    /// out of memory.
+    pub fn collect<L: Live>(
+        &mut self,
+        word: &[u8],
+        live: &L,
+        markers: &mut Markers,
+    ) -> Result<(), NoMemory>
+        ensures gone { IfNone (list_of self.old word.now) ((self.new ≡ self.old) × (markers.new ≡ markers.old)) }
+        ensures ok { OnOk result (IfSome (list_of self.old word.now) (λ l.
+            CollectsWord (L.is live.now) word.now l self.old self.new markers.old markers.new)) }
+        ensures err { OnErr result ((self.new ≡ self.old) × (markers.new ≡ markers.old)) }
+        ensures fewer { entries_in_all self.new ≤ entries_in_all self.old }
     {
-        drop_from(&mut self.lists, word)
+        let removed = collect_word(&mut self.lists, self.alloc, word, live, markers)?;
+        self.count -= removed;
+        Ok(())
     }
-}
 
-fn entries_in_all<P: Payload>(lists: &BTreeMap<Vec<u8>, List<P>>) -> Option<u64>
-    ensures some { IfSome result (λ n. n ≡ entries_in_all (lists_of lists.now.entries)) }
-    ensures none { IfNone result (2 ^ 64 ≤ entries_in_all (lists_of lists.now.entries)) }
-{
-    let mut total: u64 = 0;
-    for (_, list) in lists {
-        total = total.checked_add(list.len())?;
+    /// The number of entries of all lists.
+    pub(crate) fn count(&self) -> u64
+        ensures { result ≡ entries_in_all self.now }
+    {
+        self.count
     }
-    Some(total)
 }
 
 // An entry of a word goes behind the others, or into a new list.
@@ -152,6 +179,8 @@ fn add_entry<P: Payload>(
     ensures ok { OnOk result (Sets word.now
         (Some (with_entry (list_or_fresh (lists_of lists.old.entries) word.now markers.old) id hit.now))
         (lists_of lists.old.entries) (lists_of lists.new.entries)) }
+    ensures counted { OnOk result (entries_in_all (lists_of lists.new.entries)
+        ≡ entries_in_all (lists_of lists.old.entries) + 1) }
     ensures err { OnErr result (lists.new.entries ≡ lists.old.entries) }
     ensures kept { IsSome (list_of (lists_of lists.old.entries) word.now) → markers.new ≡ markers.old }
     ensures taken { OnOk result (markers.new.next
@@ -178,6 +207,9 @@ fn add_word<P: Payload>(
     requires { 0 < id }
     ensures ok { OnOk result (Sets word.now (Some (with_entry (fresh_list markers.old) id hit.now))
         (lists_of lists.old.entries) (lists_of lists.new.entries)) }
+    ensures counted { list_of (lists_of lists.old.entries) word.now ≡ None
+        → OnOk result (entries_in_all (lists_of lists.new.entries)
+        ≡ entries_in_all (lists_of lists.old.entries) + 1) }
     ensures err { OnErr result (lists.new.entries ≡ lists.old.entries) }
     ensures taken { OnOk result (markers.new.next ≡ markers.old.next + 1) }
     ensures event { markers.new.event ≡ markers.old.event }
@@ -212,6 +244,18 @@ fn first_list<P: Payload>(
     Ok(list)
 }
 
+// Where a walk begins: behind a word, or at the first.
+fn behind(alloc: Global, after: Option<&[u8]>) -> Result<Bound<Vec<u8>>, NoMemory>
+    ensures { IfOk result (λ start. bound_map (λ word. word.items) start
+        ≡ behind (option_copied after.entry)) }
+{
+    let Some(word) = after else {
+        return Ok(Bound::Unbounded);
+    };
+    let word = Vec::from_slice(alloc, word)?;
+    Ok(Bound::Excluded(word))
+}
+
 // Where a search by prefix begins: at the prefix, or behind a word above it.
 fn start_of(alloc: Global, prefix: &[u8], after: Option<&[u8]>) -> Result<Bound<Vec<u8>>, NoMemory>
     ensures { IfOk result (λ start. bound_map (λ word. word.items) start
@@ -242,54 +286,5 @@ fn first_from<'a, P: Payload>(
         Some(word)
     } else {
         None
-    }
-}
-
-fn take_from<P: Payload>(
-    lists: &mut BTreeMap<Vec<u8>, List<P>>,
-    alloc: Global,
-    word: &[u8],
-) -> Option<List<P>>
-    ensures list { result ≡ list_of (lists_of lists.old.entries) word.now }
-    ensures left { IfSome result (λ l. Sets word.now (Some (bare l))
-        (lists_of lists.old.entries) (lists_of lists.new.entries)) }
-    ensures none { IfNone result (lists.new.entries ≡ lists.old.entries) }
-{
-    let list = lists.get_mut(word)?;
-    let marker = list.marker();
-    Some(replace(list, List::new(alloc, marker)))
-}
-
-fn put_into<P: Payload>(lists: &mut BTreeMap<Vec<u8>, List<P>>, word: &[u8], list: List<P>)
-    requires { IsSome (list_of (lists_of lists.old.entries) word.now) }
-    ensures sets { Sets word.now (Some list) (lists_of lists.old.entries) (lists_of lists.new.entries) }
-    ensures rises { RisesAbove 0 list.entries }
-{
-    let _ = list.len();
-    if let Some(place) = lists.get_mut(word) {
-        *place = list;
-    }
-}
-
-fn drop_from<P: Payload>(lists: &mut BTreeMap<Vec<u8>, List<P>>, word: &[u8]) -> bool
-    ensures drained { result ≡ is_drained (list_of (lists_of lists.old.entries) word.now) }
-    ensures gone { IsTrue result → Sets word.now None
-        (lists_of lists.old.entries) (lists_of lists.new.entries) }
-    ensures kept { result ≡ false → lists.new.entries ≡ lists.old.entries }
-{
-    if !has_drained(lists, word) {
-        return false;
-    }
-    lists.remove(word);
-    true
-}
-
-// Whether a word's list has no entry.
-fn has_drained<P: Payload>(lists: &BTreeMap<Vec<u8>, List<P>>, word: &[u8]) -> bool
-    ensures { result ≡ is_drained (list_of (lists_of lists.now.entries) word.now) }
-{
-    match lists.get(word) {
-        Some(list) => list.len() == 0,
-        None => false,
     }
 }

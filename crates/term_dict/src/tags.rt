@@ -1,13 +1,19 @@
 //! Posting lists by field and tag: a dictionary for each field.
-ghost use Rattle.std.specs.Prelude.{◌≡◌, ◌<◌, ◌≤◌, ◌+◌, ◌^◌, ℕ, [], None, Some, false, is_some, length, IfOk, IfNone, IfSome, IsSome, IsTrue, OnOk, OnErr, if◌then◌else◌};
+ghost use Rattle.std.specs.Prelude.{◌≡◌, ◌<◌, ◌≤◌, ◌+◌, ◌^◌, ℕ, Bool, [], None, Some, is_some, length, IfOk, IfNone, IfSome, IsSome, OnOk, OnErr, if◌then◌else◌};
+ghost use Rattle.std.specs.Map.{keys_of};
 ghost use Rattle.std.specs.Option.{option_copied};
 ghost use Rattle.inverted_list.specs.Listing.{last_id, with_entry};
-ghost use Rattle.term_dict.specs.Terms.{Sets, bare, entries_of, list_of, list_or_fresh, next_word, is_drained};
-ghost use Rattle.term_dict.specs.Tags.{FieldTags, FieldsRise, TagsRise, SetsTag, tags_of, list_in, entries_in, entries_in_fields};
+ghost use Rattle.gc_splice.specs.Splice.{Fits, picture_of};
+ghost use Rattle.term_dict.specs.Splices.{CollectsTag, CollectsWord, SplicesTag, removed_by};
+ghost use Rattle.term_dict.specs.Terms.{Sets, entries_in_all, entries_of, list_of, list_or_fresh, next_word, rows_after};
+ghost use Rattle.term_dict.specs.Tags.{FieldsRise, TagsRise, SetsTag, tags_of, list_in, entries_in, entries_in_fields, first_field};
 
+use crate::collect::removed;
 use crate::dictionary::Dictionary;
+use crate::walk::Walk;
 use ft_base::NoMemory;
-use inverted_list::{List, Markers};
+use gc_splice::{Live, Repair, Spliced};
+use inverted_list::{List, Marker, Markers};
 use posting_block::TagHit;
 use std::alloc::Global;
 use std::collections::BTreeMap;
@@ -18,17 +24,18 @@ use std::marker::Model;
 pub struct TagLists {
     alloc: Global,
     fields: BTreeMap<u16, Dictionary<TagHit>>,
+    // The number of entries of all lists.
+    count: u64,
 }
 
 impl Model for TagLists {
-    ghost use Rattle.std.specs.Prelude.{ℕ};
-    ghost use Rattle.term_dict.specs.Tags.{FieldTags, TagsRise, tags_of};
+    ghost use Rattle.term_dict.specs.Tags.{FieldTags, FieldsKept};
 
     ghost Value = { FieldTags };
 
     ghost view = { λ t. t.fields.entries };
 
-    ghost invariant = { λ t. (field : ℕ) → TagsRise (tags_of t.fields.entries field) };
+    ghost invariant = { λ t. FieldsKept t.fields.entries t.count };
 }
 
 impl TagLists {
@@ -39,6 +46,7 @@ impl TagLists {
         TagLists {
             alloc,
             fields: BTreeMap::new(alloc),
+            count: 0,
         }
     }
 
@@ -51,13 +59,12 @@ impl TagLists {
         self.fields.len()
     }
 
-    /// The number of entries of all lists: none where it is no `u64`. It walks over the fields and their
-    /// tags, and reads no entry.
+    /// The number of entries of all lists: none where it is no `u64`. It is kept, so nothing is walked over.
     pub fn entries(&self) -> Option<u64>
         ensures some { IfSome result (λ n. n ≡ entries_in_fields self.now) }
         ensures none { IfNone result (2 ^ 64 ≤ entries_in_fields self.now) }
     {
-        entries_in_fields(&self.fields)
+        Some(self.count)
     }
 
     /// The list of a field's tag.
@@ -69,7 +76,8 @@ impl TagLists {
     }
 
     /// Adds an entry to the list of a field's tag, behind the others. A tag without a list gets
-    /// one, with the marker that is given next; where there is none, it counts as out of memory.
+    /// one, with the marker that is given next; where there is none, it counts as out of memory, and so
+    /// does an entry past 2^64 - 1 of them.
     pub fn add(
         &mut self,
         field: u16,
@@ -82,6 +90,7 @@ impl TagLists {
         ensures ok { OnOk result (SetsTag field tag.now (Some (with_entry
             (list_or_fresh (tags_of self.old field) tag.now markers.old) id hit.now))
             self.old self.new) }
+        ensures counted { OnOk result (entries_in_fields self.new ≡ entries_in_fields self.old + 1) }
         ensures err { OnErr result (self.new ≡ self.old) }
 
         // What becomes of the markers.
@@ -92,7 +101,12 @@ impl TagLists {
         ensures rises { markers.old.next ≤ markers.new.next }
         ensures once { markers.new.next ≤ markers.old.next + 1 }
     {
-        add_entry(&mut self.fields, self.alloc, field, tag, id, hit, markers)
+        let Some(count) = self.count.checked_add(1) else {
+            return Err(NoMemory);
+        };
+        add_entry(&mut self.fields, self.alloc, field, tag, id, hit, markers)?;
+        self.count = count;
+        Ok(())
     }
 
     /// The least tag of the field above `after` that has the prefix.
@@ -111,45 +125,88 @@ impl TagLists {
         }
     }
 
-    /// Hands the list of a field's tag out, and leaves one with its marker and without entries in
-    /// its place. It takes no memory.
-    pub fn take_list(&mut self, field: u16, tag: &[u8]) -> Option<List<TagHit>>
-        ensures list { result ≡ list_in self.old field tag.now }
-        ensures left { IfSome result (λ l.
-            SetsTag field tag.now (Some (bare l)) self.old self.new) }
-        ensures none { IfNone result (self.new ≡ self.old) }
+    /// The tags of a field above `after` in rising order, each with its list: all tags where it is none.
+    pub fn walk(&self, field: u16, after: Option<&[u8]>) -> Result<Walk<'_, TagHit>, NoMemory>
+        ensures { IfOk result (λ walk. walk
+            ≡ rows_after (option_copied after.entry) (tags_of self.now field)) }
     {
-        take_from(&mut self.fields, field, tag)
+        let Some(tags) = self.fields.get(&field) else {
+            return Ok(Walk { left: None });
+        };
+        tags.walk(after)
     }
 
-    /// Puts a list in the place of the one that the field's tag has. It takes no memory.
-    pub fn put_list(&mut self, field: u16, tag: &[u8], list: List<TagHit>)
-        requires { IsSome (list_in self.old field tag.now) }
-        ensures { SetsTag field tag.now (Some list) self.old self.new }
+    /// The fields that were given a tag, in rising order.
+    pub fn fields(&self) -> Result<Vec<u16>, NoMemory>
+        ensures { IfOk result (λ fields. fields.items ≡ keys_of self.now) }
     {
-        put_into(&mut self.fields, field, tag, list);
+        fields_of(&self.fields, self.alloc)
     }
 
-    /// Takes a tag out of its field whose list has no entry, and answers whether it did. It takes
-    /// no memory.
-    pub fn drop_empty(&mut self, field: u16, tag: &[u8]) -> bool
-        ensures drained { result ≡ is_drained (list_in self.old field tag.now) }
-        ensures gone { IsTrue result → SetsTag field tag.now None self.old self.new }
-        ensures kept { result ≡ false → self.new ≡ self.old }
+    /// The least field of at least `from` that was given a tag.
+    pub fn next_field(&self, from: u16) -> Option<u16>
+        ensures { result ≡ first_field from self.now }
     {
-        drop_from(&mut self.fields, field, tag)
+        let (field, _) = self.fields.range(from..).next()?;
+        Some(*field)
+    }
+
+    /// Lays a repair over the list of a field's tag, which then has the marker. A list that is left without an entry goes out
+    /// with its tag. It takes no memory, and leaves what the list held before in the repair.
+    pub fn splice(
+        &mut self,
+        field: u16,
+        tag: &[u8],
+        repair: &mut Repair<TagHit>,
+        marker: Marker,
+    ) -> Spliced
+        requires { IfSome (list_in self.old field tag.now) (λ l.
+            repair.old.seen ≡ l.marker → (live : ℕ → Bool) × Fits live repair.old (picture_of l)) }
+        ensures gone { IfNone (list_in self.old field tag.now)
+            ((result ≡ Spliced.Gone) × (self.new ≡ self.old)) }
+        ensures there { IfSome (list_in self.old field tag.now) (λ l.
+            SplicesTag field tag.now repair.old marker l self.old self.new result) }
+        ensures counted { entries_in_fields self.new + removed_by result ≡ entries_in_fields self.old }
+    {
+        let spliced = splice_tag(&mut self.fields, field, tag, repair, marker);
+        self.count -= removed(spliced);
+        spliced
+    }
+
+    /// Takes the dead entries out of the list of a field's tag, which then has the marker that is given next. A list that is
+    /// left without an entry goes out with its tag; one without a dead entry stays as it is. Where there is no marker left, it
+    /// counts as out of memory.
+    pub fn collect<L: Live>(
+        &mut self,
+        field: u16,
+        tag: &[u8],
+        live: &L,
+        markers: &mut Markers,
+    ) -> Result<(), NoMemory>
+        ensures gone { IfNone (list_in self.old field tag.now)
+            ((self.new ≡ self.old) × (markers.new ≡ markers.old)) }
+        ensures ok { OnOk result (IfSome (list_in self.old field tag.now) (λ l.
+            CollectsTag (L.is live.now) field tag.now l self.old self.new markers.old markers.new)) }
+        ensures err { OnErr result ((self.new ≡ self.old) × (markers.new ≡ markers.old)) }
+        ensures fewer { entries_in_fields self.new ≤ entries_in_fields self.old }
+    {
+        let removed = collect_tag(&mut self.fields, field, tag, live, markers)?;
+        self.count -= removed;
+        Ok(())
     }
 }
 
-fn entries_in_fields(fields: &BTreeMap<u16, Dictionary<TagHit>>) -> Option<u64>
-    ensures some { IfSome result (λ n. n ≡ entries_in_fields fields.now.entries) }
-    ensures none { IfNone result (2 ^ 64 ≤ entries_in_fields fields.now.entries) }
+fn fields_of(
+    fields: &BTreeMap<u16, Dictionary<TagHit>>,
+    alloc: Global,
+) -> Result<Vec<u16>, NoMemory>
+    ensures { IfOk result (λ numbers. numbers.items ≡ keys_of fields.now.entries) }
 {
-    let mut total: u64 = 0;
-    for (_, tags) in fields {
-        total = total.checked_add(tags.entries()?)?;
+    let mut numbers = Vec::with_capacity(alloc, fields.len())?;
+    for (field, _) in fields {
+        numbers.push(*field)?;
     }
-    Some(total)
+    Ok(numbers)
 }
 
 // An entry of a tag goes into its field's dictionary, or into one that is made with it.
@@ -166,6 +223,8 @@ fn add_entry(
     ensures ok { OnOk result (SetsTag field tag.now (Some (with_entry
         (list_or_fresh (tags_of fields.old.entries field) tag.now markers.old) id hit.now))
         fields.old.entries fields.new.entries) }
+    ensures counted { OnOk result (entries_in_fields fields.new.entries
+        ≡ entries_in_fields fields.old.entries + 1) }
     ensures err { OnErr result (fields.new.entries ≡ fields.old.entries) }
     ensures tags { OnOk result (TagsRise (tags_of fields.new.entries field)) }
     ensures kept { IsSome (list_in fields.old.entries field tag.now) → markers.new ≡ markers.old }
@@ -196,6 +255,7 @@ fn add_tag(
     ensures ok { OnOk result (Sets tag.now
         (Some (with_entry (list_or_fresh tags.old tag.now markers.old) id hit.now))
         tags.old tags.new) }
+    ensures counted { OnOk result (entries_in_all tags.new ≡ entries_in_all tags.old + 1) }
     ensures err { OnErr result (tags.new ≡ tags.old) }
     ensures rise { TagsRise tags.new }
     ensures kept { IsSome (list_of tags.old tag.now) → markers.new ≡ markers.old }
@@ -210,52 +270,79 @@ fn add_tag(
     added
 }
 
-fn take_from(
+// Lays a repair over the list of a field's tag, where the field has tags.
+fn splice_tag(
     fields: &mut BTreeMap<u16, Dictionary<TagHit>>,
     field: u16,
     tag: &[u8],
-) -> Option<List<TagHit>>
-    ensures list { result ≡ list_in fields.old.entries field tag.now }
-    ensures left { IfSome result (λ l.
-        SetsTag field tag.now (Some (bare l)) fields.old.entries fields.new.entries) }
-    ensures tags { IfSome result (λ _. TagsRise (tags_of fields.new.entries field)) }
-    ensures none { IfNone result (fields.new.entries ≡ fields.old.entries) }
+    repair: &mut Repair<TagHit>,
+    marker: Marker,
+) -> Spliced
+    requires { IfSome (list_in fields.old.entries field tag.now) (λ l.
+        repair.old.seen ≡ l.marker → (live : ℕ → Bool) × Fits live repair.old (picture_of l)) }
+    ensures gone { IfNone (list_in fields.old.entries field tag.now)
+        ((result ≡ Spliced.Gone) × (fields.new.entries ≡ fields.old.entries)) }
+    ensures there { IfSome (list_in fields.old.entries field tag.now) (λ l.
+        SplicesTag field tag.now repair.old marker l fields.old.entries fields.new.entries result) }
+    ensures counted { entries_in_fields fields.new.entries + removed_by result
+        ≡ entries_in_fields fields.old.entries }
+    ensures tags { ((f : ℕ) → TagsRise (tags_of fields.old.entries f))
+        → (f : ℕ) → TagsRise (tags_of fields.new.entries f) }
 {
-    let tags = fields.get_mut(&field)?;
-    let list = tags.take_list(tag);
+    let Some(tags) = fields.get_mut(&field) else {
+        return Spliced::Gone;
+    };
+    let spliced = tags.splice(tag, repair, marker);
     let _ = tags.len();
-    list
+    spliced
 }
 
-fn put_into(
+// Takes the dead entries out of the list of a field's tag, where the field has tags, and answers how many went.
+fn collect_tag<L: Live>(
     fields: &mut BTreeMap<u16, Dictionary<TagHit>>,
     field: u16,
     tag: &[u8],
-    list: List<TagHit>,
-)
-    requires { IsSome (list_in fields.old.entries field tag.now) }
-    ensures sets { SetsTag field tag.now (Some list) fields.old.entries fields.new.entries }
-    ensures tags { TagsRise (tags_of fields.new.entries field) }
+    live: &L,
+    markers: &mut Markers,
+) -> Result<u64, NoMemory>
+    ensures gone { IfNone (list_in fields.old.entries field tag.now)
+        ((fields.new.entries ≡ fields.old.entries) × (markers.new ≡ markers.old)) }
+    ensures ok { OnOk result (IfSome (list_in fields.old.entries field tag.now) (λ l.
+        CollectsTag (L.is live.now) field tag.now l fields.old.entries fields.new.entries
+        markers.old markers.new)) }
+    ensures err { OnErr result
+        ((fields.new.entries ≡ fields.old.entries) × (markers.new ≡ markers.old)) }
+    ensures counted { IfOk result (λ removed. entries_in_fields fields.new.entries + removed
+        ≡ entries_in_fields fields.old.entries) }
+    ensures tags { ((f : ℕ) → TagsRise (tags_of fields.old.entries f))
+        → (f : ℕ) → TagsRise (tags_of fields.new.entries f) }
 {
-    if let Some(tags) = fields.get_mut(&field) {
-        tags.put_list(tag, list);
-        let _ = tags.len();
-    }
+    let Some(tags) = fields.get_mut(&field) else {
+        return Ok(0);
+    };
+    collect_in(tags, tag, live, markers)
 }
 
-fn drop_from(fields: &mut BTreeMap<u16, Dictionary<TagHit>>, field: u16, tag: &[u8]) -> bool
-    ensures drained { result ≡ is_drained (list_in fields.old.entries field tag.now) }
-    ensures gone { IsTrue result
-        → SetsTag field tag.now None fields.old.entries fields.new.entries }
-    ensures tags { IsTrue result → TagsRise (tags_of fields.new.entries field) }
-    ensures kept { result ≡ false → fields.new.entries ≡ fields.old.entries }
+// The dictionary's own call, how many entries went, and what is true of any dictionary.
+fn collect_in<L: Live>(
+    tags: &mut Dictionary<TagHit>,
+    tag: &[u8],
+    live: &L,
+    markers: &mut Markers,
+) -> Result<u64, NoMemory>
+    ensures gone { IfNone (list_of tags.old tag.now)
+        ((tags.new ≡ tags.old) × (markers.new ≡ markers.old)) }
+    ensures ok { OnOk result (IfSome (list_of tags.old tag.now) (λ l.
+        CollectsWord (L.is live.now) tag.now l tags.old tags.new markers.old markers.new)) }
+    ensures err { OnErr result ((tags.new ≡ tags.old) × (markers.new ≡ markers.old)) }
+    ensures counted { IfOk result (λ removed.
+        entries_in_all tags.new + removed ≡ entries_in_all tags.old) }
+    ensures rise { TagsRise tags.new }
 {
-    match fields.get_mut(&field) {
-        Some(tags) => {
-            let dropped = tags.drop_empty(tag);
-            let _ = tags.len();
-            dropped
-        }
-        None => false,
-    }
+    let before = tags.count();
+    let collected = tags.collect(tag, live, markers);
+    let after = tags.count();
+    let _ = tags.len();
+    collected?;
+    Ok(before - after)
 }

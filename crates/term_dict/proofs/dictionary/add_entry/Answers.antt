@@ -1,4 +1,4 @@
-use Rattle.std.proofs.Common.{◌∙◌, ap, sym, subst, refl, arith, is_some, IsSome, Some, None}
+use Rattle.std.proofs.Common.{◌≡◌, ◌+◌, ◌∙◌, List, ap, sym, subst, refl, arith, is_some, IsSome, Some, None}
 use Rattle.std.proofs.lemmas.Bool.{false≢true}
 use Rattle.std.proofs.lemmas.Map.Steps.{set_value_same}
 use Rattle.std.proofs.lemmas.Result.{on_ok_weaker, on_err_weaker}
@@ -8,7 +8,10 @@ use Rattle.std.specs.Option.{unwrap_or}
 use Rattle.inverted_list.specs.Listing.{with_entry}
 use Rattle.term_dict.specs.Terms.{Sets, fresh_list, list_or_fresh}
 use Rattle.term_dict.specs.Rows.{lists_of}
-use Rattle.term_dict.proofs.TermLaws.{sets_rows, sets_same, found, above_last, word_at}
+use Rattle.std.specs.Result.{OnOk}
+use Rattle.term_dict.specs.Terms.{entries_in_all, list_of}
+use Rattle.term_dict.proofs.CountLaws.{counted_appended}
+use Rattle.term_dict.proofs.TermLaws.{Row, sets_rows, sets_same, found, above_last, word_at}
 use Rattle.term_dict.proofs.dictionary.add_entry.Goals as goal
 
 pub append-requires : goal.append-requires
@@ -51,3 +54,17 @@ returns-clause-ok g c =
 
 pub returns-clause-taken : goal.returns-clause-taken
 returns-clause-taken g c = rw (found c.args.word.now c.args.lists.now.entries None c.in_default.ensures.value) c.add_word.ensures.taken
+
+pub returns-in-Some-clause-counted : goal.returns-in-Some-clause-counted
+returns-in-Some-clause-counted g c =
+    on_ok_weaker c.append.result
+    (λ e. counted_appended c.args.word.now c.args.lists.now.entries (c.get_mut.follows.lender c.append.new.self).entries c.in-Some.list.now c.append.new.self c.args.id c.args.hit.now
+    (sym c.in-Some.ensures.value) (c.get_mut.follows.holds c.append.new.self).0 e)
+    c.append.ensures.ok
+
+pub returns-clause-counted : goal.returns-clause-counted
+returns-clause-counted g c =
+    let before = ap (λ m. m.entries) c.get_mut.follows.holds-at-none in
+    subst (λ (es : List (Row g.row.P.Denot)). OnOk c.add_word.result (entries_in_all (lists_of c.add_word.new.lists.entries) ≡ entries_in_all (lists_of es) + 1)) before
+    (c.add_word.ensures.counted (ap (λ (es : List (Row g.row.P.Denot)). list_of (lists_of es) c.args.word.now) before
+    ∙ found c.args.word.now c.args.lists.now.entries None c.in_default.ensures.value))

@@ -1,8 +1,12 @@
-use Rattle.std.proofs.Common.{◌<◌, ◌∙◌, ap, sym, subst, refl, IsSome, Some, None}
+use Rattle.std.specs.BTreeMap.{is_at}
+use Rattle.std.specs.Map.{lookup}
+use Rattle.std.specs.Ordering.{nat_cmp}
+use Rattle.std.proofs.Common.{◌≡◌, ◌+◌, ◌<◌, ◌∙◌, ap, sym, subst, refl, IsSome, Some, None}
 use Rattle.std.proofs.lemmas.Result.{on_ok_weaker, on_err_weaker}
 use Rattle.inverted_list.specs.Listing.{last_id, with_entry}
 use Rattle.term_dict.specs.Terms.{entries_of, list_of, list_or_fresh}
-use Rattle.term_dict.specs.Tags.{FieldTags}
+use Rattle.term_dict.specs.Tags.{FieldTags, entries_in_fields}
+use Rattle.term_dict.proofs.CountLaws.{fields_first, fields_more}
 use Rattle.term_dict.proofs.TagLaws.{Puts, tags_found, puts_rows, sets_tag, written_same}
 use Rattle.term_dict.proofs.tags.add_entry.Goals as goal
 
@@ -59,3 +63,17 @@ pub returns-clause-kept : goal.returns-clause-kept
 returns-clause-kept c = λ some.
     c.add_tag-2.ensures.kept (subst (λ tags. IsSome (list_of tags c.args.tag.now))
     (tags_found c.args.field c.args.fields.now.entries None c.in_default.ensures.value ∙ sym c.new-tags.ensures) some)
+
+pub returns-in-Some-clause-counted : goal.returns-in-Some-clause-counted
+returns-in-Some-clause-counted c =
+    on_ok_weaker c.add_tag.result
+    (λ more. fields_more c.args.field c.args.fields.now.entries (c.get_mut.follows.lender c.add_tag.new.tags).entries c.in-Some.tags.now c.add_tag.new.tags
+    (sym c.in-Some.ensures.value) (c.get_mut.follows.holds c.add_tag.new.tags).0 more)
+    c.add_tag.ensures.counted
+
+pub returns-clause-counted : goal.returns-clause-counted
+returns-clause-counted c =
+    let before = ap (λ m. m.entries) c.get_mut.follows.holds-at-none in
+    subst (λ (old : FieldTags). entries_in_fields c.insert.new.self.entries ≡ entries_in_fields old + 1) before
+    (fields_first c.args.field c.get_mut.follows.lender-at-none.entries c.insert.new.self.entries c.new-tags.result c.add_tag-2.new.tags
+    c.insert.ensures.was_ordered (ap (lookup (is_at (nat_cmp c.args.field))) before ∙ sym c.in_default.ensures.value) c.in_ok-insert.ensures.entries c.new-tags.ensures c.in_ok-add_tag.ensures.counted)

@@ -1,4 +1,3 @@
-use Rattle.std.proofs.lemmas.Grind.{elements}
 use Rattle.std.specs.Prelude.{◌+◌}
 use Rattle.std.proofs.Common.{arith, subst, sym}
 use Rattle.std.proofs.lemmas.Result.{IfOk-weaker}
@@ -32,4 +31,10 @@ invariant_of-self-2 c = record {
 }
 
 pub invariant_of-self : goal.invariant_of-self
-invariant_of-self c = grind (arith, elements)
+invariant_of-self c = record {
+  step = in_step-read c.self.inside.store c.index_over.new.store c.self.inside.indexes.items c.self.inside.next c.index_over.ensures.space c.index_over.ensures.last c.self.invariant.step;
+  kept = book-until c.self.inside.opens c.self.inside.cursors c.self.inside.next (c.self.inside.next + 1) (omega arith) c.self.invariant.kept;
+  few = c.self.invariant.few;
+  room = c.self.invariant.room;
+  ids = c.self.invariant.ids;
+}

@@ -29,7 +29,7 @@ returns-clause-met c = λ i less.
     let to = reach_cast items c.as_slice-2.result.now c.args.high c.reach-2.result c.as_slice-2.ensures.value c.reach-2.ensures.reach c.ranges.high in
     let within : i < length (rows_of items) = subst (λ (rows : Rows). i < length rows) (sym c.self.view_is) less in
     subst (λ (rows : Rows). ((c.reach.result - 1 ≤ i) × (i < c.reach-2.result)) ↔ IsTrue (meets rows i c.args.low c.args.high)) c.self.view_is
-    (meets_span (rows_of items) i c.args.low c.args.high (c.reach.result - 1) c.reach-2.result order c.self.invariant.partition.lows within (ap (λ (n : ℕ). n - 1) from) to)
+    (meets_span (rows_of items) i c.args.low c.args.high (c.reach.result - 1) c.reach-2.result order c.self.invariant.held.partition.lows within (ap (λ (n : ℕ). n - 1) from) to)
 
 pub returns-clause-within : goal.returns-clause-within
 returns-clause-within c = grind (arith, common_steps)

@@ -1,0 +1,47 @@
+use Rattle.std.proofs.Common.{ℕ, set, slice_index_or, sym, subst, ap, inl, inr, Option}
+use Rattle.std.proofs.lemmas.Result.{on_ok_weaker}
+use Rattle.numeric_ranges.specs.Ranges.{Rows}
+use Rattle.ft_index.specs.Lists.{rows_of}
+use Rattle.ft_index.specs.Markers.{AllBefore, TakesMarkers, range_marker, slot_marker}
+use Rattle.ft_index.specs.Thinned.{RowsLive, SlotThins}
+use Rattle.ft_index.proofs.FieldLaws.{decided}
+use Rattle.ft_index.proofs.SlotLaws.{rows-here, rows-set_here, rows-set_other}
+use Rattle.ft_index.proofs.TakingLaws.{takes-field}
+use Rattle.ft_index.proofs.ThinLaws.{slot-same}
+use Rattle.ft_index.proofs.collecting_ranges.collect_at.Goals as goal
+
+pub collect_slot-requires : goal.collect_slot-requires
+collect_slot-requires g c = record {
+  before = subst (λ (slot : Option Rows). AllBefore c.args.markers.now (slot_marker slot)) (rows-here c.args.ranges.now c.args.number c.index-ranges-number.result c.requires.within)
+      (λ low. c.requires.before (c.args.number, low));
+}
+
+pub returns-clause-others : goal.returns-clause-others
+returns-clause-others g c = rows-set_other c.args.ranges.now c.args.number c.collect_slot.new.slot
+
+pub returns-clause-here : goal.returns-clause-here
+returns-clause-here g c =
+    on_ok_weaker c.collect_slot.result (λ live.
+    subst (RowsLive (g.L.Live.is c.args.live.now)) (sym (rows-set_here c.args.ranges.now c.args.number c.collect_slot.new.slot c.requires.within)) live) c.collect_slot.ensures.live
+
+pub returns-clause-thin : goal.returns-clause-thin
+returns-clause-thin g c field =
+    let live = g.L.Live.is c.args.live.now in
+    let ranges = c.args.ranges.now in
+    let slot = c.collect_slot.new.slot in
+    elim (decided field c.args.number) [
+      | inl is ↦ subst (λ (n : ℕ). SlotThins live (rows_of ranges n) (rows_of (set ranges c.args.number slot) n)) (sym is)
+          (subst (λ (old : Option Rows). SlotThins live old (rows_of (set ranges c.args.number slot) c.args.number)) (sym (rows-here ranges c.args.number c.index-ranges-number.result c.requires.within))
+          (subst (SlotThins live (slice_index_or ranges c.args.number c.index-ranges-number.result)) (sym (rows-set_here ranges c.args.number slot c.requires.within)) c.collect_slot.ensures.thin))
+      | inr away ↦ subst (SlotThins live (rows_of ranges field)) (sym (rows-set_other ranges c.args.number slot field away)) (slot-same live (rows_of ranges field))
+    ]
+
+pub returns-clause-takes : goal.returns-clause-takes
+returns-clause-takes g c =
+    let ranges = c.args.ranges.now in
+    let slot = c.collect_slot.new.slot in
+    takes-field c.args.number c.args.markers.now c.collect_slot.new.markers (range_marker ranges) (range_marker (set ranges c.args.number slot)) c.requires.before
+    (subst (λ (old : Option Rows). TakesMarkers c.args.markers.now c.collect_slot.new.markers (slot_marker old) (slot_marker (rows_of (set ranges c.args.number slot) c.args.number))) (sym (rows-here ranges c.args.number c.index-ranges-number.result c.requires.within))
+    (subst (λ (new : Option Rows). TakesMarkers c.args.markers.now c.collect_slot.new.markers (slot_marker (slice_index_or ranges c.args.number c.index-ranges-number.result)) (slot_marker new))
+    (sym (rows-set_here ranges c.args.number slot c.requires.within)) c.collect_slot.ensures.takes))
+    (λ name away. ap (λ (found : Option Rows). slot_marker found name.1) (rows-set_other ranges c.args.number slot name.0 away))

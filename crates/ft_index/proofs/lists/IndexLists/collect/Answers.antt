@@ -1,0 +1,117 @@
+-- The lists of each kind lose their dead entries in turn.
+use Rattle.std.proofs.Common.{◌≡◌, List, Option, sym, subst, ◌∙◌, rules}
+use Rattle.std.proofs.lemmas.List.{with_items_is}
+use Rattle.std.proofs.lemmas.Result.{on_ok_weaker}
+use Rattle.std.specs.Vec.{with_items}
+use Rattle.id_iters.specs.declared.list_name.ListName.TheVariants as names
+use Rattle.numeric_ranges.specs.Ranges.{Rows}
+use Rattle.ft_index.specs.Lists.{AllLists, rows_of}
+use Rattle.ft_index.specs.Markers.{AllBefore, AreBefore, GainsMarkers, MarkersDiffer, TakesMarkers, marker_at, range_marker}
+use Rattle.ft_index.specs.Thinned.{ListsThin, RangesLive, RangesThin}
+use Rattle.ft_index.specs.contracts.lists.IndexLists.{the_view}
+use Rattle.ft_index.proofs.CollectLaws.{tags-same}
+use Rattle.ft_index.proofs.ListsLaws.{differ-taken, gains-taken, takes-three, takes-two, takes-words}
+use Rattle.ft_index.proofs.TakingLaws.{before-taken}
+use Rattle.ft_index.proofs.ThinLaws.{slot-same}
+use Rattle.ft_index.proofs.lists.IndexLists.collect.Goals as goal
+
+pub collect_words-requires : goal.collect_words-requires
+collect_words-requires g c =
+    let old : AllLists = the_view c.self.inside in
+    let before : AreBefore c.args.markers.now old = subst (AreBefore c.args.markers.now) (sym c.self.view_is) c.requires.before in
+    record { before = λ word. before (names.Word word) }
+
+pub returns-in_err-collect_words : goal.returns-in_err-collect_words
+returns-in_err-collect_words g c =
+    let live = g.L.Live.is c.args.live.now in
+    let old : AllLists = the_view c.self.inside in
+    let before : AreBefore c.args.markers.now old = subst (AreBefore c.args.markers.now) (sym c.self.view_is) c.requires.before in
+    let differ : MarkersDiffer old = subst MarkersDiffer (sym c.self.view_is) c.requires.differ in
+    let new : AllLists = record old { words = c.collect_words.new.terms } in
+    let takes : TakesMarkers c.args.markers.now c.collect_words.new.markers (marker_at old) (marker_at new) = takes-words c.args.markers.now c.collect_words.new.markers old c.collect_words.new.terms before c.collect_words.ensures.takes in
+    let thin : ListsThin live old new = record { words = c.collect_words.ensures.thin; tags = tags-same live old.tags; ranges = λ field. slot-same live (rows_of old.ranges field) } in
+    record {
+      thin = subst (λ (lists : AllLists). ListsThin live lists new) c.self.view_is thin;
+      live = search rules;
+      differ = differ-taken c.args.markers.now c.collect_words.new.markers old new differ takes;
+      before = before-taken c.args.markers.now c.collect_words.new.markers (marker_at old) (marker_at new) before takes;
+      gains = subst (λ (lists : AllLists). GainsMarkers lists new c.args.markers.now c.collect_words.new.markers) c.self.view_is (gains-taken c.args.markers.now c.collect_words.new.markers old new takes);
+      event = takes.event;
+      next = takes.next;
+    }
+
+pub collect_tags-requires : goal.collect_tags-requires
+collect_tags-requires g c =
+    let old : AllLists = the_view c.self.inside in
+    let before : AreBefore c.args.markers.now old = subst (AreBefore c.args.markers.now) (sym c.self.view_is) c.requires.before in
+    let new : AllLists = record old { words = c.collect_words.new.terms } in
+    let takes : TakesMarkers c.args.markers.now c.collect_words.new.markers (marker_at old) (marker_at new) = takes-words c.args.markers.now c.collect_words.new.markers old c.collect_words.new.terms before c.collect_words.ensures.takes in
+    record { before = λ name. before-taken c.args.markers.now c.collect_words.new.markers (marker_at old) (marker_at new) before takes (names.Tag name.0 name.1) }
+
+pub returns-in_err-collect_tags : goal.returns-in_err-collect_tags
+returns-in_err-collect_tags g c =
+    let live = g.L.Live.is c.args.live.now in
+    let old : AllLists = the_view c.self.inside in
+    let before : AreBefore c.args.markers.now old = subst (AreBefore c.args.markers.now) (sym c.self.view_is) c.requires.before in
+    let differ : MarkersDiffer old = subst MarkersDiffer (sym c.self.view_is) c.requires.differ in
+    let new : AllLists = record old { words = c.collect_words.new.terms; tags = c.collect_tags.new.tags } in
+    let takes : TakesMarkers c.args.markers.now c.collect_tags.new.markers (marker_at old) (marker_at new) =
+    takes-two c.args.markers.now c.collect_words.new.markers c.collect_tags.new.markers old c.collect_words.new.terms c.collect_tags.new.tags before c.collect_words.ensures.takes c.collect_tags.ensures.takes in
+    let thin : ListsThin live old new = record { words = c.collect_words.ensures.thin; tags = c.collect_tags.ensures.thin; ranges = λ field. slot-same live (rows_of old.ranges field) } in
+    record {
+      thin = subst (λ (lists : AllLists). ListsThin live lists new) c.self.view_is thin;
+      live = search rules;
+      differ = differ-taken c.args.markers.now c.collect_tags.new.markers old new differ takes;
+      before = before-taken c.args.markers.now c.collect_tags.new.markers (marker_at old) (marker_at new) before takes;
+      gains = subst (λ (lists : AllLists). GainsMarkers lists new c.args.markers.now c.collect_tags.new.markers) c.self.view_is (gains-taken c.args.markers.now c.collect_tags.new.markers old new takes);
+      event = takes.event;
+      next = takes.next;
+    }
+
+pub collect_ranges-requires : goal.collect_ranges-requires
+collect_ranges-requires g c =
+    let old : AllLists = the_view c.self.inside in
+    let before : AreBefore c.args.markers.now old = subst (AreBefore c.args.markers.now) (sym c.self.view_is) c.requires.before in
+    let new : AllLists = record old { words = c.collect_words.new.terms; tags = c.collect_tags.new.tags } in
+    let takes : TakesMarkers c.args.markers.now c.collect_tags.new.markers (marker_at old) (marker_at new) =
+    takes-two c.args.markers.now c.collect_words.new.markers c.collect_tags.new.markers old c.collect_words.new.terms c.collect_tags.new.tags before c.collect_words.ensures.takes c.collect_tags.ensures.takes in
+    record {
+      before = subst (λ (ranges : List (Option Rows)). AllBefore c.collect_tags.new.markers (range_marker ranges)) (sym c.as_mut_slice.ensures.value)
+          (λ name. before-taken c.args.markers.now c.collect_tags.new.markers (marker_at old) (marker_at new) before takes (names.Range name.0 name.1));
+    }
+
+-- what holds of the ranges that were lent, and of those that came back, holds of the ranges of the lists
+lent : (P : List (Option Rows) → List (Option Rows) → Type 0) (given old made written : List (Option Rows)) → given ≡ old → written ≡ made → P given made → P old written
+lent P given old made written same back h = subst (λ (rs : List (Option Rows)). P rs written) same (subst (λ (rs : List (Option Rows)). P given rs) (sym back) h)
+
+pub returns : goal.returns
+returns g c =
+    let live = g.L.Live.is c.args.live.now in
+    let old : AllLists = the_view c.self.inside in
+    let ranges : List (Option Rows) = (with_items c.self.inside.ranges c.collect_ranges.new.ranges).items in
+    let written : ranges ≡ c.collect_ranges.new.ranges = with_items_is c.self.inside.ranges c.collect_ranges.new.ranges (c.collect_ranges.auto.ranges ∙ c.as_mut_slice.ensures.len) in
+    let before : AreBefore c.args.markers.now old = subst (AreBefore c.args.markers.now) (sym c.self.view_is) c.requires.before in
+    let differ : MarkersDiffer old = subst MarkersDiffer (sym c.self.view_is) c.requires.differ in
+    let new : AllLists = record { words = c.collect_words.new.terms; tags = c.collect_tags.new.tags; ranges = ranges } in
+    let numbers : TakesMarkers c.collect_tags.new.markers c.collect_ranges.new.markers (range_marker old.ranges) (range_marker ranges) =
+    lent (λ was now. TakesMarkers c.collect_tags.new.markers c.collect_ranges.new.markers (range_marker was) (range_marker now)) _ _ _ _ c.as_mut_slice.ensures.value written c.collect_ranges.ensures.takes in
+    let takes : TakesMarkers c.args.markers.now c.collect_ranges.new.markers (marker_at old) (marker_at new) =
+    takes-three c.args.markers.now c.collect_words.new.markers c.collect_tags.new.markers c.collect_ranges.new.markers old c.collect_words.new.terms c.collect_tags.new.tags ranges before c.collect_words.ensures.takes c.collect_tags.ensures.takes numbers in
+    let thin : ListsThin live old new = record {
+      words = c.collect_words.ensures.thin;
+      tags = c.collect_tags.ensures.thin;
+      ranges = lent (λ was now. RangesThin live was now) _ _ _ _ c.as_mut_slice.ensures.value written c.collect_ranges.ensures.thin;
+    } in
+    record {
+      thin = subst (λ (lists : AllLists). ListsThin live lists new) c.self.view_is thin;
+      live = on_ok_weaker c.collect_ranges.result (λ each. record {
+        words = c.in_ok-collect_words.ensures.live;
+        tags = c.in_ok-collect_tags.ensures.live;
+        ranges = subst (RangesLive live) (sym written) each;
+      }) c.collect_ranges.ensures.live;
+      differ = differ-taken c.args.markers.now c.collect_ranges.new.markers old new differ takes;
+      before = before-taken c.args.markers.now c.collect_ranges.new.markers (marker_at old) (marker_at new) before takes;
+      gains = subst (λ (lists : AllLists). GainsMarkers lists new c.args.markers.now c.collect_ranges.new.markers) c.self.view_is (gains-taken c.args.markers.now c.collect_ranges.new.markers old new takes);
+      event = takes.event;
+      next = takes.next;
+    }

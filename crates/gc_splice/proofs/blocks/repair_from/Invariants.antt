@@ -1,0 +1,6 @@
+use Rattle.std.proofs.Common.{◌≡◌, ◌++◌, take, map}
+use Rattle.gc_splice.specs.Repaired.{repair_of_block}
+use Rattle.gc_splice.proofs.blocks.repair_from.Given as goal
+
+abbrev pub invariant-each : goal.invariant-each
+invariant-each g l = l.repairs.items ≡ l.initial.repairs.items ++ map (repair_of_block (g.L.Live.is l.live)) (take l.block-index l.blocks)
