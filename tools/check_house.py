@@ -192,7 +192,10 @@ def functions(lines):
         if not found:
             continue
         margin, opened = found[1], at
-        while opened < len(lines) and not re.match(rf"{margin}(?:\S.*)?[{{;]$|{margin}.*\{{\}}$", lines[opened]):
+        # A method of a trait may end with its last clause.
+        while opened < len(lines) and not re.match(
+            rf"{margin}(?:\S.*)?[{{;]$|{margin}.*\{{\}}$|{margin}    (?:ensures|requires)\b.*;$", lines[opened]
+        ):
             opened += 1
         if opened < len(lines) and lines[opened].endswith("{"):
             ends = (end for end in range(opened, len(lines)) if lines[end] == margin + "}")

@@ -9,8 +9,9 @@ A seed has the same sessions each time. tools/plain works out what each command 
 requests as `rsearch script`. It is that of ./rsearch, built where it is missing or old, or the one that RSEARCH names.
 
 Prints of each session that differs the commands that are needed for its first difference, as rows with the replies of
-the plain machine, and what came in place of the last one; then a line that counts. With --rows, each row that differs,
-but for those of FT.INFO, which the plain machine does not have. The status is 1 where something differs.
+the plain machine, and what came in place of the last one; then a line that counts. With --rows, each row that differs.
+The number of records that FT.INFO tells may be any from that of the live ones on, unless FT.DEBUG has left no others.
+The status is 1 where something differs.
 """
 import os
 import pathlib
@@ -21,11 +22,12 @@ from plain.drawn_cursors import is_short_lived
 from plain.machine import Machine
 from plain.rows import is_reply, read_sessions, spelled_reply, spelled_row
 from plain.sessions import session
-from plain.wire import request, split_replies
+from plain.wire import RECORDS, request, split_replies, with_numbers_of
 
 PROGRAM = "crates/rsearch/out/rsearch"
 MOST_SECONDS = 60
-LEFT_OUT = (b"FT.INFO",)
+# More than the members of any session have.
+ANY_RECORDS = 10**9
 
 
 def wanted(commands: list) -> list:
@@ -49,7 +51,7 @@ def first_difference(program: str, commands: list):
     wants, came = wanted(commands), written(program, commands)
     came += [b""] * (len(wants) - len(came))
     for number, want in enumerate(wants):
-        if came[number] != want:
+        if came[number] != with_numbers_of(want, came[number]):
             return number, came[number]
     return (len(wants) - 1, b"".join(came[-2:])) if len(came) > len(wants) else None
 
@@ -115,16 +117,20 @@ def program_to_run() -> str:
     return PROGRAM
 
 
+def told_in(lines: list) -> bytes:
+    """The number of records that a row wants, in a reply; any great one where it wants none."""
+    behind = lines[lines.index(b"num_records") + 1] if b"num_records" in lines else b":?"
+    return RECORDS + (b":%d" % ANY_RECORDS if behind == b":?" else behind) + b"\r\n"
+
+
 def compare_rows() -> int:
     """The rows of the standard input with the plain machine's replies."""
     rows, differ = 0, 0
     for name, session_rows in read_sessions(sys.stdin.buffer).items():
         machine = Machine()
         for words, lines, moment in session_rows:
-            # Also of those that are left out, since each command is an event.
-            reply = machine.reply(words, moment)
-            if words[0].upper() in LEFT_OUT:
-                continue
+            # A row may leave out the number of records, or say any.
+            reply = with_numbers_of(machine.reply(words, moment), told_in(lines))
             rows += 1
             if not is_reply(lines, reply):
                 differ += 1

@@ -2,7 +2,7 @@
 
 It shares no code with the server and knows nothing of its parts. It is to be read beside docs/COMMANDS.md, docs/QUERY.md
 and the command references of Redis and RediSearch, which these follow: each rule stands in one place, nothing is indexed
-or kept, and every search looks at every hash. A fault raises, and ends the command. Left out are FT.INFO and FT.DEBUG.
+or kept, and every search looks at every hash. A fault raises, and ends the command.
 The machine has no clock: each command may be told a moment.
 
     texts.py           the words, the tags and the number of a value
@@ -18,6 +18,7 @@ The machine has no clock: each command may be told a moment.
     pipeline.py        the rows of FT.AGGREGATE, step by step
     cursors.py         cursors, and FT.CURSOR
     schemas.py         the words of FT.CREATE and FT.ALTER, and which documents are members
+    told.py            what FT.INFO tells of an index
     hashes.py          the hashes, and the commands of Redis
     machine.py         the indexes, the commands of RediSearch, and the table of all commands
 

@@ -11,6 +11,7 @@ from .pipeline import rows_reply
 from .schemas import Index, are_too_many, duplicate, read_alter, read_create, too_many
 from .steps import read_aggregate
 from .texts import number, tags
+from .told import told
 from .wire import Fault, array, bulk, bulks, error, integer, line, pairs, syntax
 
 MOST_INDEXES = 256
@@ -39,8 +40,6 @@ class Machine(Hashes):
             return error(fault.text)
 
     def answer(self, name: bytes, words: list) -> bytes:
-        if name in NOT_BUILT:
-            raise Fault("ERR not built")
         if name not in COMMANDS:
             raise Fault("ERR unknown command")
         least, most, command = COMMANDS[name]
@@ -57,6 +56,20 @@ class Machine(Hashes):
     def members(self, index: Index) -> list:
         """Keys and documents in order of the last writes."""
         return [(key, document) for key, document in self.documents.items() if index.has_member(key, document)]
+
+    def write(self, key: bytes, fields: dict):
+        super().write(key, fields)
+        if fields:
+            for index in self.indexes.values():
+                index.tries(key, fields)
+
+    def tries_all(self, index: Index):
+        for key, document in self.documents.items():
+            index.tries(key, document)
+
+    def stamp(self, index: Index) -> tuple:
+        """What an index has: it changes with each member that comes, goes or is written, and with the fields."""
+        return len(index.fields), {key: self.ids[key] for key, _ in self.members(index)}
 
     def found(self, index: Index, tree: tuple) -> list:
         return [(key, document) for key, document in self.members(index) if meets(tree, index, document)]
@@ -86,6 +99,7 @@ def create(machine: Machine, words: list) -> bytes:
     if len(machine.indexes) == MOST_INDEXES:
         raise Fault("Too many indexes")
     machine.indexes[words[1]] = index
+    machine.tries_all(index)
     return line("OK")
 
 
@@ -97,6 +111,7 @@ def alter(machine: Machine, words: list) -> bytes:
     if are_too_many(index.fields + added):
         raise too_many(ALTERED_FIELD)
     index.fields += added
+    machine.tries_all(index)
     return line("OK")
 
 
@@ -115,6 +130,22 @@ def drop_index(machine: Machine, name: bytes, *mode: bytes) -> bytes:
 
 def list_indexes(machine: Machine) -> bytes:
     return bulks(machine.indexes)
+
+
+def info(machine: Machine, name: bytes) -> bytes:
+    index = machine.index(name)
+    documents = [document for _, document in machine.members(index)]
+    cursors = sum(cursor.index is index for cursor in machine.cursors.values())
+    return told(name, index, documents, index.collected == machine.stamp(index), cursors)
+
+
+def collect(machine: Machine, what: bytes, name: bytes) -> bytes:
+    """FT.DEBUG. No entry is left but those of the members."""
+    if what.upper() != b"GC_FORCEINVOKE":
+        raise syntax(1)
+    index = machine.index(name)
+    index.collected = machine.stamp(index)
+    return line("DONE")
 
 
 def tag_values(machine: Machine, name: bytes, alias: bytes) -> bytes:
@@ -226,10 +257,11 @@ COMMANDS = {
     b"FT.ALTER": (6, None, alter),
     b"FT.DROPINDEX": (2, 3, drop_index),
     b"FT._LIST": (1, 1, list_indexes),
+    b"FT.INFO": (2, 2, info),
     b"FT.TAGVALS": (3, 3, tag_values),
     b"FT.SEARCH": (3, None, search),
     b"FT.AGGREGATE": (3, None, aggregate),
     b"FT.CURSOR": (4, None, read_or_delete),
+    b"FT.DEBUG": (3, 3, collect),
 }
 TAKE_ALL_WORDS = (create, alter, search, aggregate, read_or_delete)
-NOT_BUILT = (b"FT.DEBUG",)

@@ -25,25 +25,40 @@ class Field(NamedTuple):
     kind: str
     separator: bytes = b","
     case_sensitive: bool = False
+    sortable: bool = False
     unf: bool = False
     noindex: bool = False
 
 
 class Index:
     def __init__(self):
-        self.prefixes = [b""]
+        # None where every key is taken.
+        self.prefixes = []
         self.stops = STOP_WORDS
         self.fields = []
+        # How often a document failed to be a member.
+        self.failures = 0
+        # The members when the dead entries were last taken out.
+        self.collected = None
 
     def field(self, alias: bytes) -> Optional[Field]:
         return next((field for field in self.fields if field.alias == alias), None)
 
-    def has_member(self, key: bytes, document: dict) -> bool:
-        """Whether a prefix begins the key, and each NUMERIC field that the hash has is a number."""
-        if not key.startswith(tuple(self.prefixes)):
-            return False
+    def takes_key(self, key: bytes) -> bool:
+        """Whether a prefix begins the key."""
+        return key.startswith(tuple(self.prefixes or [b""]))
+
+    def has_numbers(self, document: dict) -> bool:
+        """Whether each NUMERIC field that the hash has is a number."""
         names = [field.name for field in self.fields if field.kind == "NUMERIC"]
         return all(number(document[name]) is not None for name in names if name in document)
+
+    def has_member(self, key: bytes, document: dict) -> bool:
+        return self.takes_key(key) and self.has_numbers(document)
+
+    def tries(self, key: bytes, document: dict):
+        """A document is a member, or of no concern, or fails and is counted."""
+        self.failures += self.takes_key(key) and not self.has_numbers(document)
 
 
 def bad_option(word: int) -> Fault:
@@ -177,9 +192,11 @@ class SchemaReader:
             field = self.field_option(field, name)
 
     def field_option(self, field: Field, name: bytes) -> Field:
-        if name == b"SORTABLE" and self.next_name() == b"UNF":
-            self.word()
-            return field._replace(unf=True)
+        if name == b"SORTABLE":
+            has_unf = self.next_name() == b"UNF"
+            if has_unf:
+                self.word()
+            return field._replace(sortable=True, unf=has_unf)
         if name == b"NOINDEX":
             return field._replace(noindex=True)
         if name == b"CASESENSITIVE":

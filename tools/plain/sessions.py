@@ -23,7 +23,7 @@ SPOILT_ELSE = 0.04
 READS = ("HGETALL", "HGETALL", "HGET", "HMGET", "HKEYS", "HVALS", "HLEN", "HEXISTS", "EXISTS", "TYPE", "DBSIZE")
 OTHERS = (["PING"], ["ping", "hello"], ["ECHO", ""], ["SELECT", "0"], ["SELECT", "1"], ["SELECT", "+0"], ["FT._LIST"],
           ["ft._list"], ["NOPE"], [""], ["HELLO", "3"], ["FT.CURSOR", "READ", "ix"], ["FT.DEBUG"], ["FLUSHALL", "now"],
-          ["FLUSHALL", "a", "b"])
+          ["FLUSHALL", "a", "b"], ["FT.DEBUG", "GC_CONTINUE", "ix"], ["FT.INFO"])
 
 
 class Session:
@@ -121,7 +121,7 @@ class Session:
 
     def schema(self) -> list:
         missing = [index for index in INDEXES if index not in self.indexes()]
-        kind = self.draw.weighted({"create": 9 if missing else 1, "alter": 7, "drop": 2, "tags": 8})
+        kind = self.draw.weighted({"create": 9 if missing else 1, "alter": 7, "drop": 2, "tags": 8, "collect": 6, "info": 9})
         index = self.index()
         if kind == "create" or not self.indexes():
             return self.create(self.draw.pick(missing or INDEXES))
@@ -129,6 +129,10 @@ class Session:
             return drawn_schemas.alter(self.draw, self.kinds, index, self.fields(index))
         if kind == "drop":
             return ["FT.DROPINDEX", index] + self.draw.pick(([], ["DD"], ["dd"], ["NOPE"]))
+        if kind == "collect":
+            return [self.draw.cased("FT.DEBUG"), self.draw.cased("GC_FORCEINVOKE"), index]
+        if kind == "info":
+            return [self.draw.cased("FT.INFO"), index]
         aliases = [field.alias for field in self.fields(index) if field.kind == "TAG"]
         return ["FT.TAGVALS", index, self.draw.pick(aliases) if aliases and self.draw.chance(0.9) else self.name()]
 

@@ -1,4 +1,10 @@
 """Faults, replies and requests, as they are spelled in RESP2."""
+import re
+
+# The one number that may be unknown, in a reply of the plain machine and in another one.
+RECORDS = b"$11\r\nnum_records\r\n"
+UNKNOWN = re.compile(re.escape(RECORDS) + rb":(\d+)\.\.\r\n")
+TOLD = re.compile(re.escape(RECORDS) + rb":(\d+)\r\n")
 
 
 class Fault(Exception):
@@ -31,6 +37,19 @@ def error(text: str) -> bytes:
 
 def integer(n: int) -> bytes:
     return b":%d\r\n" % n
+
+
+def at_least(n: int) -> bytes:
+    """A number that is not known, but for the least that it is."""
+    return b":%d..\r\n" % n
+
+
+def with_numbers_of(reply: bytes, other: bytes) -> bytes:
+    """The reply with the other one's number where its own is not known, and the other's is not too low."""
+    parts, number = UNKNOWN.search(reply), TOLD.search(other)
+    if not parts or not number or int(number[1]) < int(parts[1]):
+        return reply
+    return reply[:parts.start()] + RECORDS + integer(int(number[1])) + reply[parts.end():]
 
 
 def bulk(text) -> bytes:

@@ -9,8 +9,8 @@ use Rattle.cmd_parse.specs.Read.{Plain, Search, read}
 use Rattle.cmd_parse.specs.Given.{nothing_given}
 use Rattle.cmd_parse.specs.Search.{option_at, option_with}
 use Rattle.cmd_parse.specs.Searching.{searching_of}
-use Rattle.cmd_parse.specs.declared.command.CmdFault.TheVariants.{Arity, BadDb, NotBuilt, NotInteger, Syntax, Unknown}
-use Rattle.cmd_parse.specs.declared.command.Verb.TheVariants.{DropIndex, Flushall, Hget, Hset, Hvals, Info, Select}
+use Rattle.cmd_parse.specs.declared.command.CmdFault.TheVariants.{Arity, BadDb, NotInteger, Syntax, Unknown}
+use Rattle.cmd_parse.specs.declared.command.Verb.TheVariants.{Debug, DropIndex, Flushall, Hget, Hset, Hvals, Info, Select}
 
 -- the words of the examples
 abbrev key : List ℕ
@@ -57,9 +57,15 @@ told = refl
 not_told : read 0 (codes "FT.INFO" ∷ key ∷ key ∷ []) ≡ Err Arity
 not_told = refl
 
--- a command that is not built is not counted
-not_built : read 0 (codes "FT.DEBUG" ∷ key ∷ []) ≡ Err NotBuilt
-not_built = refl
+-- FT.DEBUG with the one word that it has, with another, and without an index
+collected : read 0 (codes "ft.debug" ∷ codes "gc_forceInvoke" ∷ key ∷ []) ≡ Ok (Plain Debug (codes "gc_forceInvoke" ∷ key ∷ []))
+collected = refl
+
+debug_how : read 0 (codes "FT.DEBUG" ∷ codes "GC_CONTINUE" ∷ key ∷ []) ≡ Err (Syntax 1)
+debug_how = refl
+
+debug_nothing : read 0 (codes "FT.DEBUG" ∷ codes "GC_FORCEINVOKE" ∷ []) ≡ Err Arity
+debug_nothing = refl
 
 -- FLUSHALL with a word that it may have, and with another
 flush_later : read 0 (codes "FLUSHALL" ∷ codes "async" ∷ []) ≡ Ok (Plain Flushall (codes "async" ∷ []))

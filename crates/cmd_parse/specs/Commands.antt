@@ -2,9 +2,9 @@
 use Rattle.std.specs.Prelude.{ℕ, List, [], ◌∷◌, Option, codes, option_map}
 use Rattle.std.specs.List.{find}
 use Rattle.ft_base.specs.Names.{is_name}
-use Rattle.cmd_parse.specs.declared.command.Verb.TheVariants.{Ping, Echo, Select, Quit, Hset, Hsetnx, Hget, Hmget, Hgetall, Hdel, Hlen, Hexists, Hincrby, Hkeys, Hvals, Del, Exists, TypeOf, Dbsize, Rename, Flushall, DropIndex, ListIndexes, Info, TagVals}
+use Rattle.cmd_parse.specs.declared.command.Verb.TheVariants.{Ping, Echo, Select, Quit, Hset, Hsetnx, Hget, Hmget, Hgetall, Hdel, Hlen, Hexists, Hincrby, Hkeys, Hvals, Del, Exists, TypeOf, Dbsize, Rename, Flushall, DropIndex, ListIndexes, Info, TagVals, Debug}
 use Rattle.cmd_parse.specs.declared.table.Form.{Form}
-use Rattle.cmd_parse.specs.declared.table.Form.TheVariants.{Between, AtLeast, InPairs, Create, Alter, Search, Aggregate, Cursor, Unbuilt}
+use Rattle.cmd_parse.specs.declared.table.Form.TheVariants.{Between, AtLeast, InPairs, Create, Alter, Search, Aggregate, Cursor}
 
 -- The table of commands. The numbers are numbers of words, the name among them; in pairs only even ones are lawful.
 abbrev pub commands : List (List ℕ × Form)
@@ -39,7 +39,7 @@ commands =
     ∷ (codes "FT.SEARCH", Search)
     ∷ (codes "FT.AGGREGATE", Aggregate)
     ∷ (codes "FT.CURSOR", Cursor)
-    ∷ (codes "FT.DEBUG", Unbuilt)
+    ∷ (codes "FT.DEBUG", Between Debug 3 3)
     ∷ []
 
 -- what the first row stands for whose name a word is

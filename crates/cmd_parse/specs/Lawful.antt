@@ -7,7 +7,7 @@ use Rattle.cmd_parse.specs.LawfulAggregate.{IsLawfulAggregate}
 use Rattle.cmd_parse.specs.LawfulCursor.{IsCount, IsId}
 use Rattle.cmd_parse.specs.LawfulSearch.{IsLawfulSearch}
 use Rattle.cmd_parse.specs.declared.command.Verb.{Verb}
-use Rattle.cmd_parse.specs.declared.command.Verb.TheVariants.{Ping, Echo, Select, Quit, Hset, Hsetnx, Hget, Hmget, Hgetall, Hdel, Hlen, Hexists, Hincrby, Hkeys, Hvals, Del, Exists, TypeOf, Dbsize, Rename, Flushall, DropIndex, ListIndexes, Info, TagVals}
+use Rattle.cmd_parse.specs.declared.command.Verb.TheVariants.{Ping, Echo, Select, Quit, Hset, Hsetnx, Hget, Hmget, Hgetall, Hdel, Hlen, Hexists, Hincrby, Hkeys, Hvals, Del, Exists, TypeOf, Dbsize, Rename, Flushall, DropIndex, ListIndexes, Info, TagVals, Debug}
 use Rattle.cmd_parse.specs.declared.table.Form.{Form}
 use Rattle.cmd_parse.specs.declared.table.Form.TheVariants.{Between, AtLeast, InPairs}
 
@@ -39,6 +39,7 @@ LawfulNumber DropIndex n = (1 ≤ n) × (n ≤ 2)
 LawfulNumber ListIndexes n = n ≡ 0
 LawfulNumber Info n = n ≡ 1
 LawfulNumber TagVals n = n ≡ 2
+LawfulNumber Debug n = n ≡ 2
 
 -- a row of the table lets through lawful numbers of arguments alone, which are the words but the name
 abbrev pub IsLawfulForm : Form → Type 0

@@ -1,4 +1,4 @@
--- What a command asks, in the order of refusals: an unknown name, a command that is not built, a wrong number of words,
+-- What a command asks, in the order of refusals: an unknown name, a wrong number of words,
 -- and the first fault of the words from the left. An index that is created has a serial, which is not among the words.
 use Rattle.std.specs.Prelude.{ℕ, ℤ, pos, suc, List, [], ◌∷◌, length, Bool, Option, Some, None, Result, Ok, Err, codes, is_none, ◌&&◌, ◌||◌, ◌==◌, ◌%◌, nat_le, slice_index_or, false, if◌then◌else◌}
 use Rattle.std.specs.Ordering.{int_eq}
@@ -14,11 +14,11 @@ use Rattle.cmd_parse.specs.Commands.{form_of}
 use Rattle.cmd_parse.specs.Cursor.{cursor}
 use Rattle.cmd_parse.specs.Searching.{Searching, search}
 use Rattle.cmd_parse.specs.declared.command.Verb.{Verb}
-use Rattle.cmd_parse.specs.declared.command.Verb.TheVariants.{Select, Hincrby, Flushall, DropIndex}
+use Rattle.cmd_parse.specs.declared.command.Verb.TheVariants.{Select, Hincrby, Flushall, DropIndex, Debug}
 use Rattle.cmd_parse.specs.declared.command.CmdFault.{CmdFault}
-use Rattle.cmd_parse.specs.declared.command.CmdFault.TheVariants.{Unknown, Arity, Syntax, NotInteger, BadDb, NotBuilt, Schema}
+use Rattle.cmd_parse.specs.declared.command.CmdFault.TheVariants.{Unknown, Arity, Syntax, NotInteger, BadDb, Schema}
 use Rattle.cmd_parse.specs.declared.table.Form.{Form}
-use Rattle.cmd_parse.specs.declared.table.Form.TheVariants.{Between, AtLeast, InPairs, Create, Alter, Unbuilt}
+use Rattle.cmd_parse.specs.declared.table.Form.TheVariants.{Between, AtLeast, InPairs, Create, Alter}
 use Rattle.cmd_parse.specs.declared.table.Form.TheVariants as form
 
 -- whether a word may stand behind FLUSHALL
@@ -28,6 +28,10 @@ is_flush_word word = is_name word (codes "ASYNC") || is_name word (codes "SYNC")
 -- the word behind FT.DROPINDEX and its index
 abbrev pub is_drop_word : List ℕ → Bool
 is_drop_word word = is_name word (codes "DD")
+
+-- the word between FT.DEBUG and its index
+abbrev pub is_collect_word : List ℕ → Bool
+is_collect_word word = is_name word (codes "GC_FORCEINVOKE")
 
 -- the only data base is 0
 abbrev pub select_fault : Option ℤ → Option CmdFault
@@ -40,6 +44,7 @@ first_fault Select (index ∷ _) = select_fault (int_of index)
 first_fault Hincrby (_ ∷ _ ∷ increment ∷ _) = if is_none (int_of increment) then Some NotInteger else None
 first_fault Flushall (how ∷ _) = if is_flush_word how then None else Some (Syntax 1)
 first_fault DropIndex (_ ∷ how ∷ _) = if is_drop_word how then None else Some (Syntax 2)
+first_fault Debug (how ∷ _) = if is_collect_word how then None else Some (Syntax 1)
 first_fault _ _ = None
 
 -- the fault where there is one
@@ -84,7 +89,6 @@ read_as (Some Alter) serial name args =
 read_as (Some form.Search) serial name args = searched (search (name ∷ args))
 read_as (Some form.Aggregate) serial name args = aggregated (aggregate (name ∷ args))
 read_as (Some form.Cursor) serial name args = if nat_le 4 (suc (length args)) then cursor (name ∷ args) else Err Arity
-read_as (Some Unbuilt) serial name args = Err NotBuilt
 
 -- What the words of a command ask, where an index that it creates has this serial.
 abbrev pub read : ℕ → List (List ℕ) → Result Asked CmdFault

@@ -5,11 +5,7 @@ use Rattle.ft_base.specs.Memory.{want_of_memory}
 use Rattle.ft_schema.specs.Refusals.{schema_refusal}
 use Rattle.std.specs.Str.{str_to_ascii_lowercase}
 use Rattle.cmd_parse.specs.declared.command.CmdFault.{CmdFault}
-use Rattle.cmd_parse.specs.declared.command.CmdFault.TheVariants.{Unknown, Arity, Syntax, Limit, OutOfScope, NotInteger, BadDb, NotBuilt, Schema, NoMemory}
-
--- the text for a command that is not built
-abbrev pub not_built : List ℕ
-not_built = codes "ERR not built"
+use Rattle.cmd_parse.specs.declared.command.CmdFault.TheVariants.{Unknown, Arity, Syntax, Limit, OutOfScope, NotInteger, BadDb, Schema, NoMemory}
 
 -- the text for a command of this name whose words ask nothing
 abbrev pub refusal : List ℕ → CmdFault → List ℕ
@@ -20,6 +16,5 @@ refusal name (Limit at) = codes "ERR limit exceeded at word " ++ decimal at
 refusal name (OutOfScope at) = codes "ERR not supported at word " ++ decimal at
 refusal name NotInteger = codes "ERR value is not an integer or out of range"
 refusal name BadDb = codes "ERR DB index is out of range"
-refusal name NotBuilt = not_built
 refusal name (Schema fault) = schema_refusal fault
 refusal name NoMemory = want_of_memory

@@ -10,8 +10,8 @@ use std::fmt;
 use std::fmt::{Debug, Display, Formatter, Write};
 use thiserror::Error;
 
-/// A command of the connection, of hashes, of keys or of indexes. `TypeOf` is TYPE; the last four are
-/// FT.DROPINDEX, FT._LIST, FT.INFO and FT.TAGVALS.
+/// A command of the connection, of hashes, of keys or of indexes. `TypeOf` is TYPE; the last five are
+/// FT.DROPINDEX, FT._LIST, FT.INFO, FT.TAGVALS and FT.DEBUG.
 #[derive(Clone, Copy, Debug)]
 pub enum Verb {
     Ping,
@@ -39,6 +39,7 @@ pub enum Verb {
     ListIndexes,
     Info,
     TagVals,
+    Debug,
 }
 
 /// What a command asks.
@@ -86,7 +87,6 @@ pub enum CmdFault {
     OutOfScope { at: u32 },
     NotInteger,
     BadDb,
-    NotBuilt,
     /// The words of a schema have a fault.
     Schema(SchemaFault),
     NoMemory,
@@ -104,7 +104,6 @@ impl CmdFault {
                 "the number of SELECT or the increment of HINCRBY is not a whole number of 64 bits"
             }
             Self::BadDb => "the only data base is 0",
-            Self::NotBuilt => "the command is not built",
             Self::Schema(_) => "the words are no schema",
             Self::NoMemory => "out of memory",
         }

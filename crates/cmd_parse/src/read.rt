@@ -1,5 +1,5 @@
-//! A command from its words, in the order of refusals: an unknown name, a command that is not built,
-//! a wrong number of words, and the first fault of the words from the left.
+//! A command from its words, in the order of refusals: an unknown name, a wrong number of words, and the first fault of
+//! the words from the left.
 ghost use Rattle.std.specs.Prelude.{◌≡◌, ◌≢◌, ◌<◌, ◌≤◌, [], length, drop, slice_index_or, Err, Some, IfOk};
 ghost use Rattle.cmd_parse.specs.Asking.{AreWords, IsAsked};
 ghost use Rattle.cmd_parse.specs.Commands.{form_of};
@@ -62,7 +62,6 @@ fn read_as<'a>(
         Form::Search if 3 <= count => search(alloc, words),
         Form::Aggregate if 3 <= count => aggregate(alloc, words),
         Form::Cursor if 4 <= count => read_cursor(words),
-        Form::Unbuilt => Err(CmdFault::NotBuilt),
         _ => Err(CmdFault::Arity),
     }
 }
@@ -95,6 +94,9 @@ fn first_fault(verb: Verb, args: &Words<'_>) -> Option<CmdFault>
         }
         Verb::DropIndex if args.len() == 2 && !is_name(args.word(1), b"DD") => {
             Some(CmdFault::Syntax { at: 2 })
+        }
+        Verb::Debug if !is_name(args.word(0), b"GC_FORCEINVOKE") => {
+            Some(CmdFault::Syntax { at: 1 })
         }
         _ => None,
     }

@@ -25,8 +25,6 @@ pub enum Form {
     Aggregate,
     /// FT.CURSOR.
     Cursor,
-    /// A command that is not built.
-    Unbuilt,
 }
 
 /// What stands for a name, in any case; `None` where it is none.
@@ -65,7 +63,7 @@ pub fn form_of(name: &[u8]) -> Option<Form>
         (b"FT.SEARCH", Form::Search),
         (b"FT.AGGREGATE", Form::Aggregate),
         (b"FT.CURSOR", Form::Cursor),
-        (b"FT.DEBUG", Form::Unbuilt),
+        (b"FT.DEBUG", Form::Between(Verb::Debug, 3, 3)),
     ];
     find(name, rows)
 }

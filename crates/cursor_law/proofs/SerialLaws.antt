@@ -17,7 +17,7 @@ use Rattle.cmd_parse.specs.declared.cursor.Subcommand.{Subcommand}
 use Rattle.cmd_parse.specs.declared.cursor.Subcommand.TheVariants as subcommand
 use Rattle.cmd_parse.specs.declared.stop.Stop.{Stop}
 use Rattle.cmd_parse.specs.declared.table.Form.{Form}
-use Rattle.cmd_parse.specs.declared.table.Form.TheVariants.{Between, AtLeast, InPairs, Create, Alter, Unbuilt}
+use Rattle.cmd_parse.specs.declared.table.Form.TheVariants.{Between, AtLeast, InPairs, Create, Alter}
 use Rattle.cmd_parse.specs.declared.table.Form.TheVariants as form
 use Rattle.ft_base.specs.Reading.{◌>>=◌}
 use Rattle.ft_base.specs.declared.definition.Field.{Field}
@@ -100,7 +100,6 @@ module _ (serial : ℕ) where
   form-says (Some form.Search) name args = searched-says (search (name ∷ args))
   form-says (Some form.Aggregate) name args = aggregated-says (aggregate (name ∷ args))
   form-says (Some form.Cursor) name args = if-says (nat_le 4 (suc (length args))) _ (cursor-says (name ∷ args))
-  form-says (Some Unbuilt) name args = tt
 
   words-says : (words : List (List ℕ)) → Says (read serial words)
   words-says [] = tt

@@ -8,7 +8,7 @@ use Rattle.cmd_parse.specs.Asked.{Asked, Plain, CreateIndex, AlterIndex, Search,
 use Rattle.cmd_parse.specs.Lawful.{HasSerial}
 use Rattle.cmd_parse.specs.declared.aggregate_words.CursorSpec.{CursorSpec}
 use Rattle.cmd_parse.specs.declared.command.Verb.{Verb}
-use Rattle.cmd_parse.specs.declared.command.Verb.TheVariants.{Ping, Echo, Select, Quit, Hset, Hsetnx, Hget, Hmget, Hgetall, Hdel, Hlen, Hexists, Hincrby, Hkeys, Hvals, Del, Exists, TypeOf, Dbsize, Rename, Flushall, DropIndex, ListIndexes, Info, TagVals}
+use Rattle.cmd_parse.specs.declared.command.Verb.TheVariants.{Ping, Echo, Select, Quit, Hset, Hsetnx, Hget, Hmget, Hgetall, Hdel, Hlen, Hexists, Hincrby, Hkeys, Hvals, Del, Exists, TypeOf, Dbsize, Rename, Flushall, DropIndex, ListIndexes, Info, TagVals, Debug}
 use Rattle.cursor_book.specs.Cursors.{body_left, cursor_of, cursor_read as read_cursor, cursors_of, is_cursor, read_one}
 use Rattle.cursor_book.specs.declared.cursor.Cursor.{Cursor}
 use Rattle.cursor_book.specs.declared.cursor.Taken.{Taken}
@@ -231,6 +231,7 @@ module _ (cursor : StreamCursor) (number : ℕ) (state : State) where
   plain-kept Dbsize args o e = told _ o e
   plain-kept ListIndexes args o e = told _ o e
   plain-kept TagVals args o e = told _ o e
+  plain-kept Debug args o e = told _ o e
   plain-kept Hset args o e = by _ o e (put-kept _ _)
   plain-kept Hsetnx args o e = by _ o e (unless-kept (is_some (get_field (hash_of state (first args)) (second args))) args)
   plain-kept Hdel args o e =

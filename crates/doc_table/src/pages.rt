@@ -4,7 +4,7 @@
 //! behind it: they are gone over once more than an eighth of them may be spent. Where the first page
 //! with an id stands is kept, so that who takes the least id out time and again does not pass over
 //! the spent pages each time.
-ghost use Rattle.std.specs.Prelude.{◌≡◌, ◌<◌, ◌≤◌, ◌+◌, ◌-◌, ◌/◌, ◌^◌, ℕ, [], length, OnOk, OnErr};
+ghost use Rattle.std.specs.Prelude.{◌≡◌, ◌<◌, ◌≤◌, ◌+◌, ◌-◌, ◌/◌, ◌^◌, ℕ, [], length, IfOk, OnOk, OnErr};
 ghost use Rattle.doc_table.specs.Pages.{has_id, word_at, number_at, Rises, with_id, without_id, IsNext};
 
 use crate::changes::{clear_id, drop_spent, push_id};
@@ -66,6 +66,18 @@ impl IdPages {
     {
         let pages = self.pages.as_slice();
         first_from(pages, place_of(pages, from / 64), self.start, from)
+    }
+
+    /// The same ids once more, in pages of their own.
+    pub fn copied(&self) -> Result<IdPages, NoMemory>
+        ensures { IfOk result (λ ids. ids ≡ self.now) }
+    {
+        let pages = Vec::from_slice(*self.pages.allocator(), self.pages.as_slice())?;
+        Ok(IdPages {
+            pages,
+            start: self.start,
+            spent: self.spent,
+        })
     }
 
     /// Takes an id in, whose page is the last one or comes behind all others.

@@ -9,6 +9,7 @@ ghost use Rattle.doc_table.specs.Pages.{has_id, Rises, with_id, without_waiting}
 ghost use Rattle.doc_table.specs.Table.{number_in};
 
 use crate::doc_rows::DocRows;
+use crate::live_ids::LiveIds;
 use crate::pages::IdPages;
 use crate::sorting_vector::SortingVector;
 use ft_base::{ListOf, NoMemory};
@@ -138,6 +139,15 @@ impl DocTable {
         Ok(ListOf::from_vec(ids))
     }
 
+    /// Which ids are live, copied as bits: it goes over all pages and over no row.
+    pub fn live_bits(&self) -> Result<LiveIds, NoMemory>
+        ensures { IfOk result (λ ids. (id : ℕ) → has_id ids id ≡ is_some (lookup (nat_eq id) self.now.live)) }
+    {
+        let mut ids = self.ids.copied()?;
+        clear(&mut ids, self.pending);
+        Ok(LiveIds::new(ids))
+    }
+
     /// Takes a document out that was prepared and never committed. It goes over all pages of ids, and
     /// gives back what they do not need.
     pub fn compact(&mut self)
@@ -185,6 +195,15 @@ fn take_out(docs: &mut DocRows, ids: &mut IdPages, pending: Option<u64>)
 {
     if let Some(id) = pending {
         docs.remove(id);
+        ids.remove(id);
+    }
+}
+
+// Takes the bit of the id that waits out, if there is one.
+fn clear(ids: &mut IdPages, pending: Option<u64>)
+    ensures { (other : ℕ) → has_id ids.new other ≡ without_waiting pending (has_id ids.old) other }
+{
+    if let Some(id) = pending {
         ids.remove(id);
     }
 }

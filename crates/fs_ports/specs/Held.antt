@@ -33,9 +33,9 @@ module _ {L : Type 0} (port : Link.Ghosts L) where
     pub later : port.write_faults before ≤ port.write_faults after
     pub other : port.read_faults after ≡ port.read_faults before
 
-  -- The link below may be read once all that is held was handed on.
+  -- The link below may be read once what is held was handed on as far as it was taken.
   abbrev pub IsReadableBelow : Held L → Type 0
-  IsReadableBelow link = (after : L) → HandsOn link.below after link.held [] → port.readable after
+  IsReadableBelow link = (after : L) (rest : List ℕ) → HandsOn link.below after link.held rest → port.readable after
 
   -- A call of the link below failed.
   abbrev pub FailedBelow : L → L → Type 0

@@ -4,8 +4,9 @@ ghost use Rattle.fs_ports.specs.Causes.{HasCause};
 ghost use Rattle.fs_ports.specs.Doors.{Accepts, handed_back};
 ghost use Rattle.fs_ports.specs.HeldDoors.{AcceptsBelow, GoesBack, without_links};
 
+use crate::backlog::HELD_ROOM;
 use crate::door::Door;
-use crate::held_link::{HELD_ROOM, HeldLink};
+use crate::held_link::HeldLink;
 use crate::link::Failed;
 use ft_base::NoMemory;
 use std::alloc::Global;
@@ -22,7 +23,7 @@ pub struct HeldDoor<D: Door + Drop> {
 
 impl<D: Door + Drop> Model for HeldDoor<D> {
     ghost use Rattle.std.specs.Prelude.{◌≡◌, ◌≤◌, [], false, vec_capacity};
-    ghost use Rattle.fs_ports.specs.declared.held_link.TheConstants.{HELD_ROOM};
+    ghost use Rattle.fs_ports.specs.declared.backlog.TheConstants.{HELD_ROOM};
 
     // In a clause it is the door below.
     ghost Value = { D };

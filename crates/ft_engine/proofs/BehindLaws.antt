@@ -8,6 +8,7 @@ use Rattle.indexed_store.specs.DefinitionsOf.{definitions_of}
 use Rattle.indexed_store.specs.Holding.{Holding}
 use Rattle.indexed_store.specs.Preparing.{OnlyReads, Stays, WaitsFor}
 use Rattle.indexed_store.specs.Writing.{Waits}
+use Rattle.indexed_store.proofs.MovingLaws.{moves-again, moves-kept}
 
 -- a hash that is made of the documents, and waits behind a read, waits
 pub waits-behind : (key : List ℕ) (hash : List Doc → Hash) (put : ℕ) (old mid new : Holding) → OnlyReads old mid → WaitsFor key (hash mid.space) put mid new → WaitsFor key (hash old.space) put old new
@@ -26,6 +27,7 @@ stays-behind old mid new reads stays = record {
   cursors = stays.cursors ∙ reads.cursors;
   latest = stays.latest ∙ reads.latest;
   next = omega (arith, stays.next, reads.next);
+  moves = moves-again old.next mid.next old.indexes mid.indexes new.indexes (omega (arith, reads.next)) (moves-kept old.next old.indexes mid.indexes reads.indexes) stays.moves;
 }
 
 -- a read is not seen
@@ -36,6 +38,7 @@ stays-read old new reads = record {
   cursors = reads.cursors;
   latest = reads.latest;
   next = omega (arith, reads.next);
+  moves = moves-kept old.next old.indexes new.indexes reads.indexes;
 }
 
 -- what is the same only reads

@@ -94,7 +94,7 @@ prepares-quiet asks old new written change quiet stays same does = record {
   does = does;
   stays = stays;
   ready = quiet-ready change old.next new.space new.waits new.indexes quiet;
-  still = λ nothing. inr same;
+  still = λ nothing. inr (inl same);
 }
 
 -- ---- FT.CURSOR READ

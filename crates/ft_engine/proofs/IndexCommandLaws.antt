@@ -1,5 +1,5 @@
 -- What the commands of indexes give.
-use Rattle.std.proofs.Common.{◌≡◌, ◌<◌, ◌≤◌, ◌+◌, ℕ, Bool, true, false, cond, List, [], ◌∷◌, ◌++◌, length, map, Option, Some, None, refl, sym, ap, ◌∙◌, subst, arith, inr}
+use Rattle.std.proofs.Common.{◌≡◌, ◌<◌, ◌≤◌, ◌+◌, ℕ, Bool, true, false, cond, List, [], ◌∷◌, ◌++◌, length, map, Option, Some, None, refl, sym, ap, ◌∙◌, subst, arith, inl, inr}
 use Rattle.std.specs.Prelude.{◌||◌, Result, Ok, Err, IfOk, IsTrue, codes, drop, find, is_some, nat_le, nat_lt}
 use Rattle.std.specs.Borrow.{Bor}
 use Rattle.std.specs.List.{All}
@@ -23,6 +23,7 @@ use Rattle.ft_schema.specs.declared.fault.SchemaFault.{SchemaFault}
 use Rattle.ft_schema.specs.declared.fault.SchemaFault.TheVariants as schema
 use Rattle.indexed_store.proofs.NamedLaws.{index_of-named}
 use Rattle.ft_machine.specs.Definitions.{Defined, failures_over, index_of, with_index, without_index, without_members}
+use Rattle.indexed_store.proofs.MovingLaws.{moves_same}
 use Rattle.indexed_store.specs.DefinitionsOf.{defined, definitions_of}
 use Rattle.indexed_store.specs.Named.{is_named}
 use Rattle.ft_base.proofs.RepliesLaws.{fits-Bulk, shown-fits}
@@ -62,7 +63,7 @@ named-none indexes definitions name same found = ap (λ (ds : List Defined). ind
 
 -- nothing is seen of what was only looked at
 pub stays-same : (held : Holding) → Stays held held
-stays-same held = record { space = refl; definitions = refl; cursors = refl; latest = refl; next = omega arith }
+stays-same held = record { space = refl; definitions = refl; cursors = refl; latest = refl; next = omega arith; moves = moves_same held.next held.indexes }
 
 -- a command that changes nothing is prepared
 pub prepares-stays : (asks : Asked) (old new : Holding) (written : List ℕ) → Stays old new → new.indexes ≡ old.indexes → Does asks old.next (state_of old) written (state_of old) → Prepares asks old new written Nothing
@@ -70,7 +71,7 @@ prepares-stays asks old new written stays same does = record {
   does = does;
   stays = stays;
   ready = tt;
-  still = λ nothing. inr same;
+  still = λ nothing. inr (inl same);
 }
 
 -- where memory ran out for an index, no change is prepared
@@ -206,6 +207,7 @@ alter-prepares name fields old new index made read def count written found some 
         alter-more old.indexes new.indexes name fields index made same found some all,
         done.stands,
         subst (All (AreApart made)) (sym same) done.apart,
+        done.given,
       );
       still = λ nothing. cc (nothing);
     }

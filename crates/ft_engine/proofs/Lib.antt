@@ -1,12 +1,14 @@
 pub mod AggregateLaws
 pub mod AnsweringLaws
 mod BehindLaws
+pub mod CollectionLaws
 pub mod CursorLaws
 pub mod EngineLaws
 pub mod ExactLaws
 pub mod FilterLaws
 pub mod IndexCommandLaws
 pub mod InfoLaws
+pub mod MovesLaws
 pub mod OpeningLaws
 mod PlainLaws
 mod PreparedLaws

@@ -20,6 +20,7 @@ use Rattle.ft_machine.specs.Step.{Does, given}
 use Rattle.ft_engine.proofs.CursorLaws.{prepares-quiet}
 use Rattle.ft_engine.specs.Parts.{DoesFirst, GoesOn, IsFirst, IsKept, KeptBy, first_left}
 use Rattle.ft_engine.specs.declared.indexes.opening.First.{First}
+use Rattle.indexed_store.proofs.MovingLaws.{moves-again, moves-kept}
 use Rattle.indexed_store.specs.Changing.{changed}
 use Rattle.indexed_store.specs.DefinitionsOf.{definitions_of}
 use Rattle.indexed_store.specs.Holding.{Holding, state_of}
@@ -84,6 +85,7 @@ kept-behind first spec old mid new before written change reads is = record {
     cursors = is.stays.cursors ∙ reads.cursors;
     latest = is.stays.latest ∙ reads.latest;
     next = omega (arith, is.stays.next, reads.next);
+    moves = moves-again old.next mid.next old.indexes mid.indexes new.indexes (omega (arith, reads.next)) (moves-kept old.next old.indexes mid.indexes reads.indexes) is.stays.moves;
   };
   indexes = is.indexes ∙ reads.indexes;
   kept = subst (λ (cursors : List Cursor). KeptBy (is_full first cursors) new.opens (cursor_for first spec old.next old.latest) before written change) reads.cursors

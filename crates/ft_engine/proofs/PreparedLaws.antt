@@ -110,7 +110,7 @@ hdel-prepares args old new said key fields change gone k f taken stays is = reco
       (taken.change state refl ∙ (ap (λ (word : List ℕ). fields_gone word fields old.next state) k ∙ ap (λ (words : List (List ℕ)). fields_gone (first args) words old.next state) f)));
   stays = stays;
   ready = taken.ready.ready;
-  still = λ nothing. inr (taken.ready.still nothing);
+  still = λ nothing. inr (inl (taken.ready.still nothing));
 }
   where
     lost : List ℕ → List (List ℕ) → ℕ

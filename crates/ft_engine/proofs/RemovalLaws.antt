@@ -1,5 +1,5 @@
 -- What DEL and FLUSHALL give.
-use Rattle.std.proofs.Common.{◌≡◌, ◌≢◌, ◌<◌, ◌+◌, ℕ, List, [], length, refl, sym, ap, ◌∙◌, subst, arith, inr}
+use Rattle.std.proofs.Common.{◌≡◌, ◌≢◌, ◌<◌, ◌+◌, ℕ, List, [], length, refl, sym, ap, ◌∙◌, subst, arith, inl, inr}
 use Rattle.std.specs.Prelude.{◌-◌, pos, codes, drop, ◌⊎◌}
 use Rattle.cmd_parse.specs.Read.{Plain}
 use Rattle.cmd_parse.specs.declared.command.Verb.TheVariants.{Del, Flushall}
@@ -11,6 +11,7 @@ use Rattle.ft_machine.specs.Machine.{State}
 use Rattle.ft_machine.specs.Step.{Does}
 use Rattle.ft_machine.specs.Writes.{del}
 use Rattle.ft_machine.proofs.Stepping.{gives}
+use Rattle.indexed_store.proofs.MovingLaws.{moves_same}
 use Rattle.indexed_store.specs.DefinitionsOf.{definitions_of}
 use Rattle.indexed_store.specs.Holding.{Holding, state_of}
 use Rattle.indexed_store.specs.Preparing.{Prepares, Stays}
@@ -51,7 +52,7 @@ closed args number state written none nothing said =
 
 -- what is the same is not seen
 unseen : (held : Holding) → Stays held held
-unseen held = record { space = refl; definitions = refl; cursors = refl; latest = refl; next = omega arith }
+unseen held = record { space = refl; definitions = refl; cursors = refl; latest = refl; next = omega arith; moves = moves_same held.next held.indexes }
 
 -- DEL of keys that have some documents
 pub del-prepares : (args rest : List (List ℕ)) (old new : Holding) (said : List ℕ) (count : ℕ) → rest ≡ drop 0 args → new ≡ old → count + length (without_keys old.space args) ≡ length old.space → count ≢ 0
@@ -83,5 +84,5 @@ close-prepares args held said is none nothing = record {
   does = closed args held.next (state_of held) said none nothing is;
   stays = unseen held;
   ready = tt;
-  still = λ same. inr refl;
+  still = λ same. inr (inl refl);
 }

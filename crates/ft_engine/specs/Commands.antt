@@ -10,6 +10,7 @@ use Rattle.cmd_parse.specs.declared.command.Command.{Command}
 use Rattle.ft_base.specs.Reply.{spelling}
 use Rattle.ft_base.specs.declared.reply.Reply.TheVariants.{Fault}
 pub use Rattle.ft_base.specs.Words.{KeepsLimits}
+use Rattle.ft_engine.specs.Collecting.{Collects}
 use Rattle.ft_engine.specs.Quiet.{IsQuietFor}
 use Rattle.ft_index.specs.Index.{Index}
 use Rattle.ft_machine.specs.Step.{last_event, last_number}
@@ -42,6 +43,10 @@ TellsAsAsked command indexes written = TellsExactly (command_of command) indexes
 abbrev pub IsQuietAsAsked : Command → Change → Type 0
 IsQuietAsAsked command change = IsQuietFor (command_of command) change
 
+-- where it is said to be done, the lists of these indexes are collected as it asks
+abbrev pub CollectsAsAsked : Command → List Index → List ℕ → Type 0
+CollectsAsAsked command indexes written = Collects (command_of command) indexes written
+
 -- what words ask at this number reads as many documents, and no more
 abbrev pub WordsRead : ℕ → List (List ℕ) → List ℕ → ℕ → ℕ → Type 0
 WordsRead number words written old new = (asks : Asked) → read number words ≡ Ok asks → ReadsFew asks written old new
@@ -49,6 +54,10 @@ WordsRead number words written old new = (asks : Asked) → read number words �
 -- and it tells as many records
 abbrev pub WordsTell : ℕ → List (List ℕ) → List Index → List ℕ → Type 0
 WordsTell number words indexes written = (asks : Asked) → read number words ≡ Ok asks → TellsExactly asks indexes written
+
+-- and where it is said to be done, the lists are collected
+abbrev pub WordsCollect : ℕ → List (List ℕ) → List Index → List ℕ → Type 0
+WordsCollect number words indexes written = (asks : Asked) → read number words ≡ Ok asks → Collects asks indexes written
 
 -- words have this fault
 abbrev pub AreRefused : ℕ → List (List ℕ) → CmdFault → Type 0

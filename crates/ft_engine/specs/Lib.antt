@@ -1,3 +1,4 @@
+pub mod Collecting
 pub mod Commands
 pub mod Exactness
 pub mod Found

@@ -5,8 +5,10 @@ use Rattle.cmd_parse.specs.declared.command.Command.{Command}
 use Rattle.ft_base.specs.Memory.{out_of_memory}
 use Rattle.ft_base.specs.Reply.{spelling}
 use Rattle.indexed_store.specs.Changing.{IsReady, changed, is_change, is_write}
+use Rattle.indexed_store.specs.Collecting.{MayCollect}
 use Rattle.indexed_store.specs.Standing.{AreWritten}
 use Rattle.indexed_store.specs.declared.change.Change.{Change}
+use Rattle.indexed_store.specs.declared.change.Change.TheVariants.{Nothing}
 use Rattle.ft_machine.specs.Machine.{State}
 use Rattle.ft_machine.specs.Step.{At, last_number, outcomes}
 use Rattle.ft_engine.specs.Stands.{Stands}
@@ -28,13 +30,18 @@ Writes old new = new.space ≡ old.space → new.definitions ≢ old.definitions
 abbrev pub WritesAsSaid : Change → Stands → Type 0
 WritesAsSaid change engine = IsTrue (is_write change) → Writes engine.state (committed change engine)
 
--- where it does not write, nothing is entered into an index, unless memory ran out
-abbrev pub EntersAsSaid : Change → Stands → List ℕ → Stands → Type 0
-EntersAsSaid change old written new = is_write change ≡ false → (written ≡ spelling out_of_memory) ⊎ (new.indexes ≡ old.indexes)
+-- where it does not write, nothing is entered into an index, nor taken out but by FT.DEBUG, unless memory ran out
+abbrev pub EntersAsSaid : Command → Change → Stands → List ℕ → Stands → Type 0
+EntersAsSaid command change old written new =
+    is_write change ≡ false → (written ≡ spelling out_of_memory) ⊎ ((new.indexes ≡ old.indexes) ⊎ MayCollect (command_of command))
 
 -- and then its commit reads no document
 abbrev pub CommitReads : Change → Stands → Stands → Type 0
 CommitReads change old new = is_write change ≡ false → new.reads ≡ old.reads
+
+-- where nothing is to be changed, a commit leaves the indexes as they are
+abbrev pub CommitKeeps : Change → Stands → Stands → Type 0
+CommitKeeps change old new = change ≡ Nothing → new.indexes ≡ old.indexes
 
 -- A prepared command fits the engine, as the one does that it prepared last: what it changes is ready.
 pub record IsLast (change : Change) (engine : Stands) : Type 0 where

@@ -5,6 +5,7 @@ use Rattle.history_core.specs.Running.{IsStep}
 use Rattle.history_core.specs.declared.entry.Entry.{Entry}
 use Rattle.ft_machine.specs.History.{IsLegal}
 use Rattle.ft_machine.specs.Step.{Answers, last_number, next_number}
+use Rattle.indexed_store.specs.Moving.{IndexesMove}
 use Rattle.ft_engine.specs.Stands.{Stands, opened}
 
 -- words are answered at a moment by a step of the machine, at the engine's number
@@ -18,6 +19,12 @@ Counts old new = new.next ≡ next_number old.next
 -- the engine once an event that was prepared has ended
 abbrev pub ended : Stands → Stands
 ended engine = record engine { next = next_number engine.next; pending = false }
+
+-- The event leaves what there was: each index has only grown since, or is made in this event, and no id of before comes to
+-- life.
+pub record Moves (old new : Stands) : Type 0 where
+  pub next : old.next ≤ new.next
+  pub indexes : IndexesMove old.next old.indexes new.indexes
 
 -- One event: a step of the machine of plain hashes, at the engine's number, and the next number.
 pub record Steps (old : Stands) (moment : ℕ) (words : List (List ℕ)) (reply : List ℕ) (new : Stands) : Type 0 where

@@ -1,9 +1,9 @@
 //! The engine: a state of the machine, and the events that lead from one to the next.
 ghost use Rattle.std.specs.Prelude.{◌≡◌, ◌<◌, ◌≤◌, ◌^◌, true, false, length, vec_capacity, IfOk};
-ghost use Rattle.ft_engine.specs.Commands.{AreRefused, IsLastText, IsLawful, IsQuietAsAsked, IsReadFor, KeepsLimits, ReadsAsAsked, TellsAsAsked, TellsFault, TellsLast, WordsRead, WordsTell};
-ghost use Rattle.ft_engine.specs.Preparing.{CommitReads, EntersAsSaid, IsLast, StepsBy, WritesAsSaid, committed};
+ghost use Rattle.ft_engine.specs.Commands.{AreRefused, CollectsAsAsked, IsLastText, IsLawful, IsQuietAsAsked, IsReadFor, KeepsLimits, ReadsAsAsked, TellsAsAsked, TellsFault, TellsLast, WordsCollect, WordsRead, WordsTell};
+ghost use Rattle.ft_engine.specs.Preparing.{CommitKeeps, CommitReads, EntersAsSaid, IsLast, StepsBy, WritesAsSaid, committed};
 ghost use Rattle.ft_engine.specs.Stands.{IsIndexed, begun, opened};
-ghost use Rattle.ft_engine.specs.Stepping.{AnswersAt, Counts, ended};
+ghost use Rattle.ft_engine.specs.Stepping.{AnswersAt, Counts, Moves, ended};
 
 use crate::prepared::Prepared;
 use crate::step::begin_command;
@@ -109,6 +109,11 @@ impl Engine {
         ensures reads { WordsRead self.old.next words.entry out.new.items self.old.reads self.new.reads }
         ensures records { WordsTell self.old.next words.entry self.old.indexes out.new.items }
 
+        // Where FT.DEBUG says that it is done, no list of the index has a dead entry.
+        ensures collects { WordsCollect self.old.next words.entry self.new.indexes out.new.items }
+        // What there was has only grown, or is gone.
+        ensures moves { Moves self.old self.new }
+
         ensures free { self.new.pending ≡ false }
         ensures room { vec_capacity out.old ≤ vec_capacity out.new }
     {
@@ -140,9 +145,12 @@ impl Engine {
         ensures indexed { IsIndexed self.new }
         ensures reads { ReadsAsAsked command.entry out.new.items self.old.reads self.new.reads }
         ensures records { TellsAsAsked command.entry self.old.indexes out.new.items }
+        ensures collects { CollectsAsAsked command.entry self.new.indexes out.new.items }
         ensures quiet { IsQuietAsAsked command.entry result }
-        // Where no document and no definition changes, nothing is entered into an index either.
-        ensures still { EntersAsSaid result self.old out.new.items self.new }
+        // Where no document and no definition changes, nothing is entered into an index either, nor taken out but by FT.DEBUG.
+        ensures still { EntersAsSaid command.entry result self.old out.new.items self.new }
+        // What there was has only grown, or is gone.
+        ensures moves { Moves self.old self.new }
         ensures room { vec_capacity out.old ≤ vec_capacity out.new }
     {
         let mut reply = ReplyBuffer::over(self.alloc, out);
@@ -168,8 +176,10 @@ impl Engine {
         ensures indexed { IsIndexed self.new }
         ensures reads { ReadsAsAsked command.entry reply.new.bytes self.old.reads self.new.reads }
         ensures records { TellsAsAsked command.entry self.old.indexes reply.new.bytes }
+        ensures collects { CollectsAsAsked command.entry self.new.indexes reply.new.bytes }
         ensures quiet { IsQuietAsAsked command.entry result }
-        ensures still { EntersAsSaid result self.old reply.new.bytes self.new }
+        ensures still { EntersAsSaid command.entry result self.old reply.new.bytes self.new }
+        ensures moves { Moves self.old self.new }
         ensures room { reply.old.room ≤ reply.new.room }
     {
         if LAST_NUMBER <= self.next {
@@ -206,6 +216,9 @@ impl Engine {
         ensures indexed { IsIndexed self.new }
         // Where no document and no definition changes, none is read.
         ensures quiet { CommitReads prepared.entry self.old self.new }
+        ensures kept { CommitKeeps prepared.entry self.old self.new }
+        // What there was has only grown, or is gone.
+        ensures moves { Moves self.old self.new }
         ensures free { self.new.pending ≡ false }
     {
         self.held.make(self.next, prepared.change);
@@ -218,6 +231,8 @@ impl Engine {
         ensures state { self.new.state ≡ self.old.state }
         ensures next { Counts self.old self.new }
         ensures indexed { IsIndexed self.new }
+        // What there was has only grown, or is gone.
+        ensures moves { Moves self.old self.new }
         ensures free { self.new.pending ≡ false }
     {
         drop(prepared);
@@ -241,6 +256,8 @@ impl Engine {
         ensures reads { self.new.reads ≡ self.old.reads }
         ensures next { Counts self.old self.new }
         ensures indexed { IsIndexed self.new }
+        // What there was has only grown, or is gone.
+        ensures moves { Moves self.old self.new }
         ensures free { self.new.pending ≡ false }
         ensures room { vec_capacity out.old ≤ vec_capacity out.new }
     {
@@ -261,6 +278,8 @@ impl Engine {
         ensures reads { self.new.reads ≡ self.old.reads }
         ensures next { Counts self.old self.new }
         ensures indexed { IsIndexed self.new }
+        // What there was has only grown, or is gone.
+        ensures moves { Moves self.old self.new }
         ensures free { self.new.pending ≡ false }
         ensures room { reply.old.room ≤ reply.new.room }
     {
@@ -278,6 +297,7 @@ impl Engine {
     fn end(&mut self)
         requires pending { self.old.pending ≡ true }
         ensures ended { self.new ≡ ended self.old }
+        ensures later { self.old.next ≤ self.new.next }
         ensures indexed { IsIndexed self.new }
     {
         self.held.stand();

@@ -4,8 +4,9 @@ ghost use Rattle.cmd_parse.specs.Asked.{Plain};
 ghost use Rattle.cmd_parse.specs.Asking.{AreWords};
 ghost use Rattle.cmd_parse.specs.Lawful.{Lawful};
 ghost use Rattle.ft_machine.specs.Step.{last_number};
+ghost use Rattle.ft_engine.specs.Collecting.{Collects};
 ghost use Rattle.ft_engine.specs.Exactness.{TellsExactly};
-ghost use Rattle.ft_engine.specs.Quiet.{ChangesNothing};
+ghost use Rattle.ft_engine.specs.Quiet.{ChangesNothing, IsQuietFor};
 ghost use Rattle.ft_engine.specs.Reading.{IsAnswered};
 ghost use Rattle.indexed_store.specs.Preparing.{OnlyReads, Prepares};
 
@@ -16,6 +17,7 @@ use crate::hashes::reads::{answer_count, answer_values};
 use crate::hashes::removals::{del, flush};
 use crate::hashes::renaming::rename;
 use crate::hashes::setting::{hset, hsetnx};
+use crate::indexes::collection::collect;
 use crate::indexes::definitions::drop_named;
 use crate::indexes::index_reads::{answer_names, answer_tag_vals};
 use crate::indexes::info::answer_info;
@@ -37,6 +39,8 @@ pub fn prepare_plain<'a>(
     requires none { held.old.opens ≡ None }
     ensures prepares { Prepares (Plain verb args.now) held.old held.new reply.new.bytes result }
     ensures records { TellsExactly (Plain verb args.now) held.old.indexes reply.new.bytes }
+    ensures collects { Collects (Plain verb args.now) held.new.indexes reply.new.bytes }
+    ensures quiet { IsQuietFor (Plain verb args.now) result }
     ensures room { reply.old.room ≤ reply.new.room }
 {
     match verb {
@@ -48,6 +52,7 @@ pub fn prepare_plain<'a>(
         Verb::Del => del(held, args, reply),
         Verb::Flushall => flush(held, args, reply),
         Verb::DropIndex => drop_named(held, args, reply),
+        Verb::Debug => collect(held, args, reply),
         _ => {
             answer_plain(held, verb, args, reply);
             Change::Nothing

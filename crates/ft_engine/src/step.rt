@@ -1,6 +1,6 @@
 //! What a command asks is prepared: the reply is written, and what it needs is made ready.
 ghost use Rattle.std.specs.Prelude.{◌≡◌, ◌<◌, ◌≤◌, None, true};
-ghost use Rattle.ft_engine.specs.Commands.{IsLawful, IsPreparedAs, IsQuietAsAsked, ReadsAsAsked, TellsAsAsked};
+ghost use Rattle.ft_engine.specs.Commands.{CollectsAsAsked, IsLawful, IsPreparedAs, IsQuietAsAsked, ReadsAsAsked, TellsAsAsked};
 ghost use Rattle.ft_engine.specs.Stands.{IsIndexed, stands_of};
 ghost use Rattle.ft_machine.specs.Step.{last_number};
 ghost use Rattle.indexed_store.specs.Holding.{begun};
@@ -33,6 +33,7 @@ pub fn begin_command<'a>(
     ensures prepares { IsPreparedAs command.entry (begun number moment held.old) held.new reply.new.bytes result }
     ensures reads { ReadsAsAsked command.entry reply.new.bytes held.old.reads held.new.reads }
     ensures records { TellsAsAsked command.entry held.old.indexes reply.new.bytes }
+    ensures collects { CollectsAsAsked command.entry held.new.indexes reply.new.bytes }
     ensures quiet { IsQuietAsAsked command.entry result }
     ensures room { reply.old.room ≤ reply.new.room }
 {
@@ -55,6 +56,7 @@ fn prepare_command<'a>(
     ensures prepares { IsPreparedAs command.entry held.old held.new reply.new.bytes result }
     ensures reads { ReadsAsAsked command.entry reply.new.bytes held.old.reads held.new.reads }
     ensures records { TellsAsAsked command.entry held.old.indexes reply.new.bytes }
+    ensures collects { CollectsAsAsked command.entry held.new.indexes reply.new.bytes }
     ensures quiet { IsQuietAsAsked command.entry result }
     ensures room { reply.old.room ≤ reply.new.room }
 {

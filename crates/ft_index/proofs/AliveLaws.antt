@@ -43,7 +43,7 @@ has_id-below low id (row ∷ rows) rises below =
     rw (below-no id row.0 first) (has_id-below row.0 id rows rises.1 (omega (arith, first)))
 
 -- a row more is there for its own id alone
-has_id-other : (rows : List (ℕ × Vector)) (id a : ℕ) (vector : Vector) → nat_eq a id ≡ false → has_id (rows ++ (id, vector) ∷ []) a ≡ has_id rows a
+pub has_id-other : (rows : List (ℕ × Vector)) (id a : ℕ) (vector : Vector) → nat_eq a id ≡ false → has_id (rows ++ (id, vector) ∷ []) a ≡ has_id rows a
 has_id-other [] id a vector apart = rw apart refl
 has_id-other (row ∷ rows) id a vector apart =
     elim (cases_Bool (nat_eq a row.0)) [

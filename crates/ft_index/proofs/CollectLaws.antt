@@ -10,7 +10,9 @@ use Rattle.std.proofs.lemmas.Bool.{cases_Bool, ne_eqb}
 use Rattle.std.proofs.lemmas.Bool.Decides.{nat_tests}
 use Rattle.std.proofs.lemmas.List.{drop_more, nil_from_length}
 use Rattle.gc_splice.specs.Alive.{Without, alive, all_alive}
+use Rattle.gc_splice.specs.Growing.{ComesFrom}
 use Rattle.gc_splice.specs.Markers.{marker_after}
+use Rattle.gc_splice.proofs.GrowingLaws.{comes_same}
 use Rattle.gc_splice.proofs.WithoutLaws.{without_alive, without_same}
 use Rattle.inverted_list.specs.Listing.{Listing, marker_of}
 use Rattle.inverted_list.specs.declared.marker.Marker.{Marker}
@@ -21,12 +23,13 @@ use Rattle.term_dict.specs.Splices.{Collects, CollectsTag, some_filled}
 use Rattle.term_dict.specs.Tags.{FieldTags, entries_in, list_in, tags_of}
 use Rattle.term_dict.specs.Terms.{Lists, Sets, entries_of, list_of, rows_after}
 use Rattle.ft_index.specs.Collecting.{LiveBut, RowsLiveBut, TagsLiveBut}
-use Rattle.ft_index.specs.Markers.{AllBefore, IsGiven, TakesMarkers, marker_in, tag_marker}
+use Rattle.ft_index.specs.Markers.{AllBefore, IsGiven, TakesLists, TakesMarkers, marker_in, tag_list, tag_marker}
 use Rattle.ft_index.specs.Markers as markers
 use Rattle.ft_index.specs.Thinned.{TagsThin, WordsThin}
 use Rattle.ft_index.proofs.FieldLaws.{decided}
 use Rattle.ft_index.proofs.ListLaws.{list-here, list-others}
 use Rattle.ft_index.proofs.OutcomeLaws.{either}
+use Rattle.ft_index.proofs.PlacingLaws.{filled-comes}
 use Rattle.ft_index.proofs.TakingLaws.{takes-at}
 use Rattle.ft_index.proofs.ThinLaws.{without-again}
 
@@ -95,6 +98,11 @@ module _ {P : Type 0} (live : ℕ → Bool) (word : List ℕ) (old new : Lists P
     word-event (inl same) = (ap (λ (m : Markers). m.event) same.1, omega (arith, ap (λ (m : Markers). m.next) same.1))
     word-event (inr (l, is, k, entries, marker, sets, after)) = (ap (λ (m : Markers). m.event) after, omega (arith, ap (λ (m : Markers). m.next) after))
 
+    -- each list stays, is made in this event, or goes
+    pub word-comes : WordCollected live word old new from to → (other : List ℕ) → ComesFrom from.event (list_of old other) (list_of new other)
+    word-comes (inl same) other = subst (λ (lists : Lists P). ComesFrom from.event (list_of old other) (list_of lists other)) (sym same.0) (comes_same from.event (list_of old other))
+    word-comes (inr (l, is, k, entries, marker, sets, after)) other = filled-comes from.event old new word k (omega (arith, ap (λ (m : Marker). m.event) marker)) sets other
+
     -- the list has its old marker, or the one that was given
     pub word-marker : WordCollected live word old new from to → (marker : Marker) → marker_in (list_of new word) ≡ Some marker → (marker_in (list_of old word) ≡ Some marker) ⊎ IsGiven from to marker
     word-marker (inl same) marker has = inl (sym (ap (λ (lists : Lists P). marker_in (list_of lists word)) same.0) ∙ has)
@@ -146,12 +154,13 @@ module _ {P : Type 0} (live : ℕ → Bool) (word : List ℕ) (old new : Lists P
       ]
 
 pub word-takes : (live : ℕ → Bool) (word : List ℕ) (old new : Lists TextHit) (from to : Markers) → AllBefore from (markers.word_marker old) → WordCollected live word old new from to
-    → TakesMarkers from to (markers.word_marker old) (markers.word_marker new)
+    → TakesLists from to (list_of old) (list_of new)
 word-takes live word old new from to before collected =
     let event = word-event live word old new from to collected in
-    takes-at word from to (markers.word_marker old) (markers.word_marker new) event.0 event.1 before
+    let takes : TakesMarkers from to (markers.word_marker old) (markers.word_marker new) = takes-at word from to (markers.word_marker old) (markers.word_marker new) event.0 event.1 before
     (λ other. elim (word-lists live word old new from to collected other) [ inl is ↦ inl is | inr same ↦ inr (ap marker_in same) ])
-    (word-marker live word old new from to collected)
+    (word-marker live word old new from to collected) in
+    record { markers = takes; come = word-comes live word old new from to collected }
 
 -- ---- tags
 
@@ -214,11 +223,21 @@ module _ (live : ℕ → Bool) (field : ℕ) (tag : List ℕ) (old new : FieldTa
     | inr away ↦ subst (λ (tags : Lists TagHit). Without live (entries_in old other name) (entries_of tags name)) (sym (collected.others other away)) (without_same live (entries_in old other name))
   ]
 
-  pub tag-takes : AllBefore from (tag_marker old) → TagCollected live field tag old new from to → TakesMarkers from to (tag_marker old) (tag_marker new)
+  pub tag-takes : AllBefore from (tag_marker old) → TagCollected live field tag old new from to → TakesLists from to (tag_list old) (tag_list new)
   tag-takes before collected =
       let event = word-event live tag (tags_of old field) (tags_of new field) from to collected.here in
-      takes-at (field, tag) from to (tag_marker old) (tag_marker new) event.0 event.1 before others (word-marker live tag (tags_of old field) (tags_of new field) from to collected.here)
+      record {
+        markers = takes-at (field, tag) from to (tag_marker old) (tag_marker new) event.0 event.1 before others (word-marker live tag (tags_of old field) (tags_of new field) from to collected.here);
+        come = come;
+      }
     where
+      come : (name : ℕ × List ℕ) → ComesFrom from.event (tag_list old name) (tag_list new name)
+      come name = elim (decided name.0 field) [
+        | inl is ↦ subst (λ (n : ℕ). ComesFrom from.event (tag_list old (n, name.1)) (tag_list new (n, name.1))) (sym is)
+            (word-comes live tag (tags_of old field) (tags_of new field) from to collected.here name.1)
+        | inr away ↦ subst (λ (tags : Lists TagHit). ComesFrom from.event (tag_list old name) (list_of tags name.1)) (sym (collected.others name.0 away)) (comes_same from.event (tag_list old name))
+      ]
+
       others : (name : ℕ × List ℕ) → (name ≡ (field, tag)) ⊎ (tag_marker new name ≡ tag_marker old name)
       others name = elim (decided name.0 field) [
         | inl is ↦ elim (word-lists live tag (tags_of old field) (tags_of new field) from to collected.here name.1) [

@@ -2,6 +2,7 @@ pub mod AddingLaws
 pub mod AliveLaws
 pub mod CollectLaws
 pub mod CollectedLaws
+pub mod ComingLaws
 pub mod CountLaws
 pub mod ExactLaws
 pub mod FieldLaws
@@ -9,9 +10,13 @@ pub mod IndexLaws
 pub mod ListLaws
 pub mod ListsLaws
 pub mod MemberLaws
+pub mod NamedLaws
+pub mod NamesLaws
 pub mod NumberLaws
 pub mod OutcomeLaws
 pub mod PartedLaws
+pub mod PictureLaws
+pub mod PlacingLaws
 pub mod RangeLaws
 pub mod ReadingLaws
 pub mod RecordsLaws

@@ -1,6 +1,6 @@
 -- What an entry more in one list of a dictionary says of all its lists.
 use Rattle.std.specs.Prelude.{◌≡◌, ◌<◌, ◌⊎◌, ℕ, ◌+◌, List, [], ◌∷◌, ◌++◌, Option, None, Some, is_some, if◌then◌else◌, refl}
-use Rattle.std.proofs.Common.{sym, ap, ◌∙◌, inl, inr, arith}
+use Rattle.std.proofs.Common.{sym, ap, ◌∙◌, subst, inl, inr, arith}
 use Rattle.std.specs.Cmp.Lexicographic.{bytes_decides}
 use Rattle.std.specs.Option.{option_map, unwrap_or}
 use Rattle.std.specs.Str.{bytes_eq}
@@ -10,8 +10,10 @@ use Rattle.inverted_list.specs.Listing.{Listing, RisesAbove, last_id, with_entry
 use Rattle.inverted_list.specs.declared.marker.Marker.{Marker}
 use Rattle.inverted_list.specs.declared.marker.Markers.{Markers}
 use Rattle.term_dict.specs.Terms.{Lists, Sets, list_of, entries_of, list_or_fresh, fresh_list}
+use Rattle.gc_splice.specs.Growing.{ComesFrom}
 use Rattle.ft_index.specs.Markers.{IsGiven, marker_in}
 use Rattle.ft_index.specs.UpTo.{RisesUpTo}
+use Rattle.gc_splice.proofs.GrowingLaws.{comes_same, comes_entry, comes_fresh}
 
 module _ {P : Type 0} where
   pub last_id-push : (low id : ℕ) (hit : P) (es : List (ℕ × P)) → last_id low (es ++ (id, hit) ∷ []) ≡ id
@@ -70,3 +72,16 @@ module _ {P : Type 0} where
       by_list (Some l) some has =
           let is : ◌≡◌ {A = Option Marker} (Some l.marker) (Some marker) = rw some at has in
           inl (ap marker_in some ∙ is)
+
+  -- each list grows by the entry, or is made with it, or stays
+  pub lists-come : (old new : Lists P) (word : List ℕ) (markers : Markers) (id : ℕ) (hit : P) → Sets word (added_list old word markers id hit) old new
+      → (other : List ℕ) → ComesFrom markers.event (list_of old other) (list_of new other)
+  lists-come old new word markers id hit sets other = elim (list-others old new word _ sets other) [
+    | inl is ↦ subst (λ (name : List ℕ). ComesFrom markers.event (list_of old name) (list_of new name)) (sym is)
+        (subst (λ (o : Option (Listing P)). ComesFrom markers.event (list_of old word) o) (sym (list-here old new word _ sets)) (here (list_of old word)))
+    | inr same ↦ subst (λ (o : Option (Listing P)). ComesFrom markers.event (list_of old other) o) (sym same) (comes_same markers.event (list_of old other))
+  ]
+    where
+      here : (o : Option (Listing P)) → ComesFrom markers.event o (Some (with_entry (unwrap_or o (fresh_list markers)) id hit))
+      here None = comes_fresh markers.event None (with_entry (fresh_list markers) id hit) (omega arith)
+      here (Some l) = comes_entry markers.event l id hit

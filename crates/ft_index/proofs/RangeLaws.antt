@@ -10,12 +10,14 @@ use Rattle.inverted_list.specs.declared.marker.Marker.{Marker}
 use Rattle.inverted_list.specs.declared.marker.Markers.{Markers}
 use Rattle.numeric_ranges.proofs.HalfLaws.{last_filter, rises_filter}
 use Rattle.numeric_ranges.proofs.ValueLaws.{eq_true}
-use Rattle.numeric_ranges.specs.Added.{added, marker_after, parts_of}
-use Rattle.numeric_ranges.specs.Ranges.{IsAbove, Rows, is_below, low_of}
+use Rattle.numeric_ranges.specs.Added.{added, left_half, marker_after, parts_of, right_half}
+use Rattle.numeric_ranges.specs.Ranges.{IsAbove, Rows, is_below, list_at, low_of}
 use Rattle.numeric_ranges.specs.Values.{Entries, cut_of, splits, values}
 use Rattle.posting_block.specs.declared.hits.NumHit.{NumHit}
+use Rattle.gc_splice.specs.Growing.{ComesFrom}
 use Rattle.ft_index.specs.Markers.{AllBefore, IsGiven, TakesMarkers, slot_marker}
 use Rattle.ft_index.specs.UpTo.{RisesUpTo, RowsUpTo}
+use Rattle.gc_splice.proofs.GrowingLaws.{comes_same, comes_entry, comes_fresh}
 use Rattle.ft_index.proofs.ListLaws.{last_id-push}
 use Rattle.ft_index.proofs.TakingLaws.{before-of, not-again}
 
@@ -156,3 +158,30 @@ added-takes rows id value from to before event next taken = elim (changes rows i
     same low other at cut marker (inl mine) (inr theirs) = absurd (omega (arith, ap (λ (m : Marker). m.nth) mine.1, ap (λ (m : Marker). m.nth) theirs.1))
     same low other at cut marker (inr mine) (inl theirs) = absurd (omega (arith, ap (λ (m : Marker). m.nth) mine.1, ap (λ (m : Marker). m.nth) theirs.1))
     same low other at cut marker (inr mine) (inr theirs) = mine.0 ∙ sym theirs.0
+
+-- a range grows, or its halves are made in this event
+parts-come : (row : ℤ × Listing NumHit) (rows : Rows) (list : Listing NumHit) (markers : Markers) (low : ℤ) → ComesFrom markers.event (Some row.1) (Some list)
+    → ComesFrom markers.event (list_at (row ∷ rows) low) (list_at (parts_of row.0 list markers ++ rows) low)
+parts-come row rows list markers low come = elim (cases_Bool (splits list.entries)) [
+  | inl y ↦ rw y (elim (cases_Bool (int_eq low row.0)) [
+    | inl is ↦ rw is (comes_fresh markers.event (Some row.1) (left_half (cut_of (values list.entries)) list.entries markers) (omega arith))
+    | inr away ↦ elim (cases_Bool (int_eq low (cut_of (values list.entries)))) [
+      | inl is ↦ rw (away, is) (comes_fresh markers.event (list_at rows low) (right_half (cut_of (values list.entries)) list.entries markers) (omega arith))
+      | inr other ↦ rw (away, other) (comes_same markers.event (list_at rows low))
+    ]
+  ])
+  | inr n ↦ rw n (elim (cases_Bool (int_eq low row.0)) [
+    | inl is ↦ rw is come
+    | inr away ↦ rw away (comes_same markers.event (list_at rows low))
+  ])
+]
+
+pub added-come : (rows : Rows) (id : ℕ) (value : ℤ) (markers : Markers) (low : ℤ) → ComesFrom markers.event (list_at rows low) (list_at (added rows id value markers) low)
+added-come [] id value markers low = comes_same markers.event (list_at [] low)
+added-come (row ∷ rows) id value markers low = elim (cases_Bool (is_below (low_of rows) value)) [
+  | inl y ↦ rw y (parts-come row rows (with_entry row.1 id (record { value = value })) markers low (comes_entry markers.event row.1 id (record { value = value })))
+  | inr n ↦ rw n (elim (cases_Bool (int_eq low row.0)) [
+    | inl is ↦ rw is (comes_same markers.event (Some row.1))
+    | inr away ↦ rw away (added-come rows id value markers low)
+  ])
+]

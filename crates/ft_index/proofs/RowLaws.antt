@@ -7,7 +7,9 @@ use Rattle.std.specs.List.{list_any}
 use Rattle.std.specs.Ordering.{int_eq}
 use Rattle.std.proofs.lemmas.Bool.{cases_Bool}
 use Rattle.gc_splice.specs.Alive.{Without, all_alive}
+use Rattle.gc_splice.specs.Growing.{ComesFrom}
 use Rattle.gc_splice.specs.Markers.{marker_after}
+use Rattle.gc_splice.proofs.GrowingLaws.{comes_same}
 use Rattle.gc_splice.proofs.WithoutLaws.{without_same}
 use Rattle.inverted_list.specs.Listing.{Listing, marker_of}
 use Rattle.inverted_list.specs.declared.marker.Marker.{Marker}
@@ -17,10 +19,12 @@ use Rattle.numeric_ranges.specs.Ranges.{Rows, list_at, with_list}
 use Rattle.numeric_ranges.specs.Splicing.{CollectsRange, IsCollected}
 use Rattle.posting_block.specs.declared.hits.NumHit.{NumHit}
 use Rattle.ft_index.specs.Collecting.{LowsLiveBut, RangesLiveBut}
-use Rattle.ft_index.specs.Markers.{AllBefore, IsGiven, TakesMarkers, marker_in, slot_marker}
+use Rattle.ft_index.specs.Lists.{list_from}
+use Rattle.ft_index.specs.Markers.{AllBefore, IsGiven, TakesLists, marker_in, slot_marker}
 use Rattle.ft_index.specs.Thinned.{RowsLive, RowsThin}
 use Rattle.ft_index.proofs.CollectLaws.{all-live, less-alive}
 use Rattle.ft_index.proofs.OutcomeLaws.{either}
+use Rattle.ft_index.proofs.PlacingLaws.{range-comes}
 use Rattle.ft_index.proofs.TakingLaws.{takes-at}
 use Rattle.ft_index.proofs.ThinLaws.{rows-same}
 
@@ -118,15 +122,25 @@ module _ (live : ℕ → Bool) (low : ℤ) (old new : Rows) (from to : Markers) 
         below = omega (arith, ap (λ (m : Marker). m.nth) given, ap (λ (m : Markers). m.next) after);
       })
 
-  pub row-takes : AllBefore from (slot_marker (Some old)) → RowCollected live low old new from to → TakesMarkers from to (slot_marker (Some old)) (slot_marker (Some new))
+  -- each list stays, or is made in this event
+  row-comes : RowCollected live low old new from to → (other : ℤ) → ComesFrom from.event (list_at old other) (list_at new other)
+  row-comes (inl same) other = subst (λ (rows : Rows). ComesFrom from.event (list_at old other) (list_at rows other)) (sym same.0) (comes_same from.event (list_at old other))
+  row-comes (inr (l, is, k, collected, set, after)) other =
+      subst (λ (rows : Rows). ComesFrom from.event (list_at old other) (list_at rows other)) (sym set)
+      (range-comes from.event old low k (omega (arith, ap (λ (m : Marker). m.event) collected.marker)) other)
+
+  pub row-takes : AllBefore from (slot_marker (Some old)) → RowCollected live low old new from to → TakesLists from to (list_from (Some old)) (list_from (Some new))
   row-takes before collected =
       let event = row-event collected in
-      takes-at low from to (slot_marker (Some old)) (slot_marker (Some new)) event.0 event.1 before
-      (λ other. elim (cases_Bool (int_eq low other)) [
-        | inl y ↦ inl (sym (eq_true low other y))
-        | inr n ↦ inr (ap marker_in (row-others collected other n))
-      ])
-      (row-marker collected)
+      record {
+        markers = takes-at low from to (slot_marker (Some old)) (slot_marker (Some new)) event.0 event.1 before
+            (λ other. elim (cases_Bool (int_eq low other)) [
+              | inl y ↦ inl (sym (eq_true low other y))
+              | inr n ↦ inr (ap marker_in (row-others collected other n))
+            ])
+            (row-marker collected);
+        come = row-comes collected;
+      }
 
 module _ (live : ℕ → Bool) where
   any-more : (q : ℤ → Bool) (lows : List ℤ) (low : ℤ) → list_any q lows ≡ true → list_any q (lows ++ low ∷ []) ≡ true

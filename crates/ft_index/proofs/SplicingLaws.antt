@@ -1,6 +1,6 @@
 -- What the splice of one list says of all lists.
 use Rattle.std.specs.Prelude.{◌≡◌, ◌≢◌, ◌⊎◌, ◌==◌, ℕ, ℤ, List, [], Bool, true, false, Option, None, Some, IfNone, IfSome, length, refl}
-use Rattle.std.proofs.Common.{sym, ap, subst, ◌∙◌, inl, inr}
+use Rattle.std.proofs.Common.{sym, ap, subst, ◌∙◌, inl, inr, arith}
 use Rattle.std.specs.Cmp.Lexicographic.{bytes_decides}
 use Rattle.std.specs.Option.{unwrap_or}
 use Rattle.std.specs.Ordering.{int_eq}
@@ -10,7 +10,9 @@ use Rattle.gc_splice.specs.Alive.{Without}
 use Rattle.gc_splice.specs.declared.repair.Repair.{Repair}
 use Rattle.gc_splice.specs.declared.splice.Spliced.{Spliced}
 use Rattle.gc_splice.specs.declared.splice.Spliced.TheVariants.{Gone}
+use Rattle.gc_splice.specs.Growing.{ComesFrom}
 use Rattle.gc_splice.specs.Splice.{spliced}
+use Rattle.gc_splice.proofs.GrowingLaws.{comes_same}
 use Rattle.gc_splice.proofs.SpliceLaws.{without_list}
 use Rattle.gc_splice.proofs.WithoutLaws.{without_same}
 use Rattle.id_iters.specs.declared.list_name.ListName.{ListName}
@@ -25,6 +27,7 @@ use Rattle.posting_block.specs.declared.hits.TextHit.{TextHit}
 use Rattle.term_dict.specs.Splices.{Splices, SplicesTag, some_filled}
 use Rattle.term_dict.specs.Tags.{FieldTags, entries_in, list_in, tags_of}
 use Rattle.term_dict.specs.Terms.{Lists, Sets, entries_of, list_of}
+use Rattle.ft_index.specs.Coming.{ListsCome}
 use Rattle.ft_index.specs.Lists.{AllLists, list_from, rows_of}
 use Rattle.ft_index.specs.Markers.{AreBefore, IsBefore, MarkersDiffer, marker_at, marker_in}
 use Rattle.inverted_list.specs.declared.marker.Markers.{Markers}
@@ -35,6 +38,7 @@ use Rattle.ft_index.specs.Thinned.{ListsThin, SlotThins, TagsThin}
 use Rattle.ft_index.proofs.CollectLaws.{entries-kept, entries-set, entries_at}
 use Rattle.ft_index.proofs.FieldLaws.{decided}
 use Rattle.ft_index.proofs.ListLaws.{list-here, list-others}
+use Rattle.ft_index.proofs.PlacingLaws.{filled-comes, range-comes}
 use Rattle.ft_index.proofs.RowLaws.{list-kept, list-set, set-thin}
 use Rattle.ft_index.proofs.ThinLaws.{slot-same}
 
@@ -78,6 +82,11 @@ module _ {P : Type 0} (live : ℕ → Bool) (word : List ℕ) (marker : Marker) 
   pub splice-lists : WordSpliced live word marker old new → (other : List ℕ) → (other ≡ word) ⊎ (list_of new other ≡ list_of old other)
   splice-lists (inl same) other = inr (ap (λ (lists : Lists P). list_of lists other) same)
   splice-lists (inr (l, is, k, less, mark, sets)) other = list-others old new word (some_filled k) sets other
+
+  -- each list stays, is made in this event, or goes
+  pub splice-comes : WordSpliced live word marker old new → (other : List ℕ) → ComesFrom marker.event (list_of old other) (list_of new other)
+  splice-comes (inl same) other = subst (λ (lists : Lists P). ComesFrom marker.event (list_of old other) (list_of lists other)) (sym same) (comes_same marker.event (list_of old other))
+  splice-comes (inr (l, is, k, less, mark, sets)) other = filled-comes marker.event old new word k (omega (arith, ap (λ (m : Marker). m.event) mark)) sets other
 
   pub splice-marker : WordSpliced live word marker old new → (m : Marker) → marker_in (list_of new word) ≡ Some m → (marker_in (list_of old word) ≡ Some m) ⊎ (m ≡ marker)
   splice-marker (inl same) m has = inl (sym (ap (λ (lists : Lists P). marker_in (list_of lists word)) same) ∙ has)
@@ -128,6 +137,12 @@ module _ (live : ℕ → Bool) (field : ℕ) (tag : List ℕ) (marker : Marker) 
     | inr away ↦ subst (λ (tags : Lists TagHit). Without live (entries_in old other name) (entries_of tags name)) (sym (done.others other away)) (without_same live (entries_in old other name))
   ]
 
+  pub tag-comes : TagSpliced live field tag marker old new → (other : ℕ) (name : List ℕ) → ComesFrom marker.event (list_in old other name) (list_in new other name)
+  tag-comes done other name = elim (decided other field) [
+    | inl is ↦ subst (λ (n : ℕ). ComesFrom marker.event (list_in old n name) (list_in new n name)) (sym is) (splice-comes live tag marker (tags_of old field) (tags_of new field) done.here name)
+    | inr away ↦ subst (λ (tags : Lists TagHit). ComesFrom marker.event (list_in old other name) (list_of tags name)) (sym (done.others other away)) (comes_same marker.event (list_in old other name))
+  ]
+
 -- ---- a field's range
 
 -- A range's list was spliced, or nothing was done.
@@ -135,6 +150,7 @@ pub record SlotSpliced (live : ℕ → Bool) (low : ℤ) (marker : Marker) (old 
   pub thin : SlotThins live old new
   pub others : (other : ℤ) → (other ≡ low) ⊎ (list_from new other ≡ list_from old other)
   pub here : (m : Marker) → marker_in (list_from new low) ≡ Some m → (marker_in (list_from old low) ≡ Some m) ⊎ (m ≡ marker)
+  pub comes : (other : ℤ) → ComesFrom marker.event (list_from old other) (list_from new other)
 
 module _ (live : ℕ → Bool) (low : ℤ) (marker : Marker) where
   same-slot : (old new : Option Rows) → new ≡ old → SlotSpliced live low marker old new
@@ -142,6 +158,7 @@ module _ (live : ℕ → Bool) (low : ℤ) (marker : Marker) where
     thin = subst (SlotThins live old) (sym same) (slot-same live old);
     others = λ other. inr (ap (λ (slot : Option Rows). list_from slot other) same);
     here = λ m has. inl (sym (ap (λ (slot : Option Rows). marker_in (list_from slot low)) same) ∙ has);
+    comes = λ other. subst (λ (slot : Option Rows). ComesFrom marker.event (list_from old other) (list_from slot other)) (sym same) (comes_same marker.event (list_from old other));
   }
 
   set-slot : (rows : Rows) (l k : Listing NumHit) (new : Option Rows) → list_at rows low ≡ Some l → Without live l.entries k.entries → k.marker ≡ marker → new ≡ Some (with_list rows low k)
@@ -156,6 +173,7 @@ module _ (live : ℕ → Bool) (low : ℤ) (marker : Marker) where
         let some : ◌≡◌ {A = Option Marker} (Some k.marker) (Some m) = sym (ap marker_in (list-set rows low k l is)) ∙ has in
         let one : k.marker ≡ m = cc (some) in
         inr (sym one ∙ mark);
+    comes = range-comes marker.event rows low k (omega (arith, ap (λ (m : Marker). m.event) mark));
   })
 
   pub slot-spliced : (repair : Repair NumHit) (outcome : Spliced) (old new : Option Rows) → FitsList live repair (list_from old low)
@@ -219,10 +237,11 @@ module _ (at : ListName) (marker : Marker) (old new : AllLists) (changes : OneCh
 
 -- ---- the lists of a name
 
--- What a splice made of the lists of an index: they lost nothing that is live, and one of them may have a new marker.
+-- What a splice made of the lists of an index: they lost nothing that is live, one of them may have a new marker, and each other one stays.
 pub record NameSpliced (live : ℕ → Bool) (at : ListName) (marker : Marker) (old new : AllLists) : Type 0 where
   pub thin : ListsThin live old new
   pub changes : OneChanges at marker old new
+  pub comes : ListsCome marker.event old new
 
 module _ (live : ℕ → Bool) (marker : Marker) (old : AllLists) where
   words-spliced : (text : List ℕ) (words : Lists TextHit) → WordSpliced live text marker old.words words → NameSpliced live (names.Word text) marker old (record old { words = words })
@@ -233,6 +252,11 @@ module _ (live : ℕ → Bool) (marker : Marker) (old : AllLists) where
       ranges = λ field. slot-same live (rows_of old.ranges field);
     };
     changes = record { others = others; here = splice-marker live text marker old.words words done };
+    comes = record {
+      words = splice-comes live text marker old.words words done;
+      tags = λ field tag. comes_same marker.event (list_in old.tags field tag);
+      ranges = λ field low. comes_same marker.event (list_from (rows_of old.ranges field) low);
+    };
   }
     where
       others : (name : ListName) → (name ≡ names.Word text) ⊎ (marker_at (record old { words = words }) name ≡ marker_at old name)
@@ -248,6 +272,11 @@ module _ (live : ℕ → Bool) (marker : Marker) (old : AllLists) where
       ranges = λ number. slot-same live (rows_of old.ranges number);
     };
     changes = record { others = others; here = splice-marker live tag marker (tags_of old.tags field) (tags_of tags field) done.here };
+    comes = record {
+      words = λ word. comes_same marker.event (list_of old.words word);
+      tags = tag-comes live field tag marker old.tags tags done;
+      ranges = λ number low. comes_same marker.event (list_from (rows_of old.ranges number) low);
+    };
   }
     where
       others : (name : ListName) → (name ≡ names.Tag field tag) ⊎ (marker_at (record old { tags = tags }) name ≡ marker_at old name)
@@ -273,6 +302,15 @@ module _ (live : ℕ → Bool) (marker : Marker) (old : AllLists) where
       ];
     };
     changes = record { others = others; here = done.here };
+    comes = record {
+      words = λ word. comes_same marker.event (list_of old.words word);
+      tags = λ number tag. comes_same marker.event (list_in old.tags number tag);
+      ranges = λ number other. elim (decided number field) [
+        | inl is ↦ subst (λ (n : ℕ). ComesFrom marker.event (list_from (rows_of old.ranges n) other) (list_from (rows_of ranges n) other)) (sym is) (done.comes other)
+        | inr away ↦ subst (λ (slot : Option Rows). ComesFrom marker.event (list_from (rows_of old.ranges number) other) (list_from slot other)) (sym (others_same number away))
+            (comes_same marker.event (list_from (rows_of old.ranges number) other))
+      ];
+    };
   }
     where
       others : (name : ListName) → (name ≡ names.Range field low) ⊎ (marker_at (record old { ranges = ranges }) name ≡ marker_at old name)

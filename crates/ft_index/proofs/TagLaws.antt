@@ -21,13 +21,15 @@ use Rattle.term_dict.specs.Terms.{Lists, entries_of, list_of}
 use Rattle.ft_index.specs.Adding.{IsSeen, IsUnseen, TagsHave, tag_entry}
 use Rattle.ft_index.specs.Entries.{has_tag, searched_tags, tag_entries}
 use Rattle.ft_index.specs.Has.{alive}
-use Rattle.ft_index.specs.Markers.{AllBefore, TakesMarkers, marker_in, tag_marker}
+use Rattle.gc_splice.specs.Growing.{ComesFrom}
+use Rattle.ft_index.specs.Markers.{AllBefore, TakesMarkers, marker_in, tag_list, tag_marker}
 use Rattle.ft_index.specs.Tagging.{AreApart, FieldTagsGain, TagGains, TagsGain}
 use Rattle.ft_index.specs.UpTo.{RisesUpTo, TagsUpTo}
 use Rattle.ft_index.specs.Without.{without}
 use Rattle.ft_index.proofs.AliveLaws.{AreOf, alive-seen, alive-unseen, all-below, is_other, same-yes}
 use Rattle.ft_index.proofs.FieldLaws.{decided, fields-next, get-taken}
-use Rattle.ft_index.proofs.ListLaws.{added_list, entries-added, list-others, marker-here, up_to-push}
+use Rattle.gc_splice.proofs.GrowingLaws.{comes_same}
+use Rattle.ft_index.proofs.ListLaws.{added_list, entries-added, list-others, lists-come, marker-here, up_to-push}
 use Rattle.ft_index.proofs.TakingLaws.{takes-at}
 
 -- the tags of a value differ
@@ -127,6 +129,15 @@ tags-take old new field tag from to id hit before sets event next taken =
       ]
       | inr away ↦ inr (ap (λ (tags : Option (Lists TagHit)). marker_in (list_of (unwrap_or tags []) name.1)) (sets.others name.0 away))
     ]
+
+-- and its lists grow
+pub tags-come : (old new : FieldTags) (field : ℕ) (tag : List ℕ) (from : Markers) (id : ℕ) (hit : TagHit) → SetsTag field tag (added_list (index.tags_of old field) tag from id hit) old new
+    → (name : ℕ × List ℕ) → ComesFrom from.event (tag_list old name) (tag_list new name)
+tags-come old new field tag from id hit sets name = elim (decided name.0 field) [
+  | inl is ↦ subst (λ (n : ℕ). ComesFrom from.event (tag_list old (n, name.1)) (tag_list new (n, name.1))) (sym is)
+      (lists-come (index.tags_of old field) (index.tags_of new field) tag from id hit sets.here name.1)
+  | inr away ↦ subst (λ (tags : Option (Lists TagHit)). ComesFrom from.event (tag_list old name) (list_of (unwrap_or tags []) name.1)) (sym (sets.others name.0 away)) (comes_same from.event (tag_list old name))
+]
 
 -- one tag more of a field's tags
 pub tag-more : (tags : List (List ℕ)) (k : ℕ) (tag : List ℕ) (id : ℕ) (b : Bool) (name : List ℕ) → AreApart tags → k < length tags → slice_index_or tags k tag ≡ tag

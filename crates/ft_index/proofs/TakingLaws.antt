@@ -1,10 +1,13 @@
 -- How steps that take markers follow on one another.
 use Rattle.std.specs.Prelude.{◌≡◌, ◌≢◌, ◌≤◌, ◌⊎◌, ℕ, ℤ, Option, None, Some, IfSome, refl}
 use Rattle.std.proofs.Common.{sym, ap, ◌∙◌, subst, inl, inr, arith}
+use Rattle.inverted_list.specs.Listing.{Listing}
 use Rattle.inverted_list.specs.declared.marker.Marker.{Marker}
 use Rattle.inverted_list.specs.declared.marker.Markers.{Markers}
-use Rattle.ft_index.specs.Markers.{AllBefore, IsBefore, IsGiven, TakesMarkers}
+use Rattle.ft_index.specs.Markers.{AllBefore, IsBefore, IsGiven, TakesLists, TakesMarkers, marker_in}
+use Rattle.gc_splice.specs.Growing.{ComesFrom}
 use Rattle.ft_index.proofs.FieldLaws.{decided}
+use Rattle.gc_splice.proofs.GrowingLaws.{comes_same, comes_again}
 
 -- a marker that was given before is not given again
 pub not-again : (from to : Markers) (marker : Marker) → IsBefore from marker → IsGiven from to marker → ⊥
@@ -132,3 +135,33 @@ takes-field number from to old new before takes others = record {
     by_field : {Q : Type 0} {a b : ℕ} → (a ≡ b) ⊎ (a ≢ b) → (a ≡ b → Q) → (a ≢ b → Q) → Q
     by_field (inl is) f g = f is
     by_field (inr away) f g = g away
+
+-- The same of lists, which grow meanwhile.
+module _ {N P : Type 0} where
+  pub lists-none : (from : Markers) (held : N → Option (Listing P)) → TakesLists from from held held
+  lists-none from held = record { markers = takes-none from (λ name. marker_in (held name)); come = λ name. comes_same from.event (held name) }
+
+  pub lists-lost : (from to : Markers) (held : N → Option (Listing P)) → to.event ≡ from.event → from.next ≤ to.next → AllBefore from (λ name. marker_in (held name)) → TakesLists from to held held
+  lists-lost from to held event next before = record {
+    markers = takes-lost from to (λ name. marker_in (held name)) event next before;
+    come = λ name. comes_same from.event (held name);
+  }
+
+  pub lists-again : (from between to : Markers) (a b c : N → Option (Listing P)) → AllBefore from (λ name. marker_in (a name)) → TakesLists from between a b → TakesLists between to b c → TakesLists from to a c
+  lists-again from between to a b c before first second = record {
+    markers = takes-again from between to (λ name. marker_in (a name)) (λ name. marker_in (b name)) (λ name. marker_in (c name)) before first.markers second.markers;
+    come = λ name. comes_again from.event between.event (a name) (b name) (c name) (omega (arith, first.markers.event)) (first.come name) (second.come name);
+  }
+
+-- the lists of one field take markers, and grow
+pub lists-field : {P : Type 0} (number : ℕ) (from to : Markers) (old new : ℕ × ℤ → Option (Listing P)) → AllBefore from (λ name. marker_in (old name))
+    → TakesLists from to (λ low. old (number, low)) (λ low. new (number, low)) → ((name : ℕ × ℤ) → name.0 ≢ number → new name ≡ old name)
+    → TakesLists from to old new
+lists-field {P} number from to old new before takes others = record {
+  markers = takes-field number from to (λ name. marker_in (old name)) (λ name. marker_in (new name)) before takes.markers (λ name away. ap marker_in (others name away));
+  come = λ name. by_field name (decided name.0 number);
+}
+  where
+    by_field : (name : ℕ × ℤ) → (name.0 ≡ number) ⊎ (name.0 ≢ number) → ComesFrom from.event (old name) (new name)
+    by_field name (inl is) = subst (λ (n : ℕ). ComesFrom from.event (old (n, name.1)) (new (n, name.1))) (sym is) (takes.come name.1)
+    by_field name (inr away) = subst (λ (o : Option (Listing P)). ComesFrom from.event (old name) o) (sym (others name away)) (comes_same from.event (old name))

@@ -1,6 +1,7 @@
 pub mod Adding
 pub mod Collected
 pub mod Collecting
+pub mod Coming
 pub mod Entering
 pub mod Entries
 pub mod Fits
@@ -10,7 +11,9 @@ pub mod Kept
 pub mod Lists
 pub mod Markers
 pub mod Numbering
+pub mod Picturing
 pub mod Records
+pub mod Snapshots
 pub mod Splicing
 pub mod Tagging
 pub mod Thinned

@@ -6,9 +6,12 @@ use Rattle.inverted_list.specs.Listing.{Listing}
 use Rattle.inverted_list.specs.declared.marker.Marker.{Marker}
 use Rattle.inverted_list.specs.declared.marker.Markers.{Markers}
 use Rattle.numeric_ranges.specs.Ranges.{Rows}
+use Rattle.posting_block.specs.declared.hits.NumHit.{NumHit}
+use Rattle.posting_block.specs.declared.hits.TagHit.{TagHit}
 use Rattle.posting_block.specs.declared.hits.TextHit.{TextHit}
 use Rattle.term_dict.specs.Tags.{FieldTags, list_in}
 use Rattle.term_dict.specs.Terms.{Lists, list_of}
+use Rattle.gc_splice.specs.Growing.{ComesFrom}
 use Rattle.ft_index.specs.Lists.{AllLists, list_from, rows_of}
 
 -- the marker of a list, where there is the list
@@ -82,3 +85,16 @@ module _ {N : Type 0} where
     pub next : from.next ≤ to.next
     pub gains : (name : N) (marker : Marker) → new name ≡ Some marker → (old name ≡ Some marker) ⊎ IsGiven from to marker
     pub apart : (name other : N) (marker : Marker) → IsGiven from to marker → new name ≡ Some marker → new other ≡ Some marker → name ≡ other
+
+-- Lists by any names take markers, and each that was made before has grown from what it was.
+pub record TakesLists {N P : Type 0} (from to : Markers) (old new : N → Option (Listing P)) : Type 0 where
+  pub markers : TakesMarkers from to (λ name. marker_in (old name)) (λ name. marker_in (new name))
+  pub come : (name : N) → ComesFrom from.event (old name) (new name)
+
+-- the list of a field's tag, by its name
+abbrev pub tag_list : FieldTags → ℕ × List ℕ → Option (Listing TagHit)
+tag_list tags name = list_in tags name.0 name.1
+
+-- the list of a field's range, by its name
+abbrev pub range_list : List (Option Rows) → ℕ × ℤ → Option (Listing NumHit)
+range_list ranges name = list_from (rows_of ranges name.0) name.1

@@ -3,10 +3,10 @@ ghost use Rattle.std.specs.Prelude.{◌≡◌, ◌≢◌, ◌++◌, ◌∷◌, [
 ghost use Rattle.std.specs.Str.{bytes_eq};
 ghost use Rattle.gc_splice.specs.Alive.{all_alive};
 ghost use Rattle.ft_index.specs.Collecting.{LiveBut, RowsLiveBut};
-ghost use Rattle.ft_index.specs.Markers.{AllBefore, TakesMarkers, tag_marker, word_marker};
+ghost use Rattle.ft_index.specs.Markers.{AllBefore, TakesLists, tag_list, tag_marker, word_marker};
 ghost use Rattle.ft_index.specs.Thinned.{TagsLive, TagsThin, WordsLive, WordsThin};
 ghost use Rattle.term_dict.specs.Tags.{entries_in};
-ghost use Rattle.term_dict.specs.Terms.{entries_of};
+ghost use Rattle.term_dict.specs.Terms.{entries_of, list_of};
 
 use ft_base::{Bytes, ListOf, NoMemory};
 use gc_splice::{Live, is_clean};
@@ -25,7 +25,7 @@ pub fn collect_words<L: Live>(
     requires before { AllBefore markers.old (word_marker terms.old) }
     ensures thin { WordsThin (L.is live.now) terms.old terms.new }
     ensures live { OnOk result (WordsLive (L.is live.now) terms.new) }
-    ensures takes { TakesMarkers markers.old markers.new (word_marker terms.old) (word_marker terms.new) }
+    ensures takes { TakesLists markers.old markers.new (list_of terms.old) (list_of terms.new) }
 {
     let words = dead_names(terms.walk(None)?, alloc, live)?;
     for word in words.as_slice() {
@@ -79,7 +79,7 @@ fn collect_word<L: Live>(
     ensures here { OnOk result (all_alive (L.is live.now) (entries_of terms.new word.now) ≡ true) }
     ensures others { (other : List ℕ) → bytes_eq word.now other ≡ false
         → entries_of terms.new other ≡ entries_of terms.old other }
-    ensures takes { TakesMarkers markers.old markers.new (word_marker terms.old) (word_marker terms.new) }
+    ensures takes { TakesLists markers.old markers.new (list_of terms.old) (list_of terms.new) }
 {
     terms.collect(word, live, markers)
 }
@@ -94,7 +94,7 @@ pub fn collect_tags<L: Live>(
     requires before { AllBefore markers.old (tag_marker tags.old) }
     ensures thin { TagsThin (L.is live.now) tags.old tags.new }
     ensures live { OnOk result (TagsLive (L.is live.now) tags.new) }
-    ensures takes { TakesMarkers markers.old markers.new (tag_marker tags.old) (tag_marker tags.new) }
+    ensures takes { TakesLists markers.old markers.new (tag_list tags.old) (tag_list tags.new) }
 {
     let fields = tags.fields()?;
     for field in fields.as_slice() {
@@ -115,7 +115,7 @@ fn collect_field<L: Live>(
     ensures thin { TagsThin (L.is live.now) tags.old tags.new }
     ensures here { OnOk result ((tag : List ℕ) → all_alive (L.is live.now) (entries_in tags.new field tag) ≡ true) }
     ensures others { (other : ℕ) → other ≢ field → (tag : List ℕ) → entries_in tags.new other tag ≡ entries_in tags.old other tag }
-    ensures takes { TakesMarkers markers.old markers.new (tag_marker tags.old) (tag_marker tags.new) }
+    ensures takes { TakesLists markers.old markers.new (tag_list tags.old) (tag_list tags.new) }
 {
     let names = dead_names(tags.walk(field, None)?, alloc, live)?;
     for name in names.as_slice() {
@@ -138,7 +138,7 @@ fn collect_tag<L: Live>(
     ensures others { (other : List ℕ) → bytes_eq tag.now other ≡ false
         → entries_in tags.new field other ≡ entries_in tags.old field other }
     ensures fields { (other : ℕ) → other ≢ field → (name : List ℕ) → entries_in tags.new other name ≡ entries_in tags.old other name }
-    ensures takes { TakesMarkers markers.old markers.new (tag_marker tags.old) (tag_marker tags.new) }
+    ensures takes { TakesLists markers.old markers.new (tag_list tags.old) (tag_list tags.new) }
 {
     tags.collect(field, tag, live, markers)
 }

@@ -4,8 +4,8 @@ ghost use Rattle.std.specs.Ordering.{int_eq};
 ghost use Rattle.gc_splice.specs.Alive.{all_alive};
 ghost use Rattle.numeric_ranges.specs.Ranges.{list_at};
 ghost use Rattle.ft_index.specs.Collecting.{LowsLiveBut};
-ghost use Rattle.ft_index.specs.Lists.{rows_of};
-ghost use Rattle.ft_index.specs.Markers.{AllBefore, TakesMarkers, range_marker, slot_marker};
+ghost use Rattle.ft_index.specs.Lists.{list_from, rows_of};
+ghost use Rattle.ft_index.specs.Markers.{AllBefore, TakesLists, range_list, range_marker, slot_marker};
 ghost use Rattle.ft_index.specs.Thinned.{RangesLive, RangesThin, RowsLive, RowsThin, SlotThins};
 
 use ft_base::NoMemory;
@@ -24,7 +24,7 @@ pub fn collect_ranges<L: Live>(
     requires before { AllBefore markers.old (range_marker ranges.old) }
     ensures thin { RangesThin (L.is live.now) ranges.old ranges.new }
     ensures live { OnOk result (RangesLive (L.is live.now) ranges.new) }
-    ensures takes { TakesMarkers markers.old markers.new (range_marker ranges.old) (range_marker ranges.new) }
+    ensures takes { TakesLists markers.old markers.new (range_list ranges.old) (range_list ranges.new) }
 {
     'fields: for number in 0..ranges.len() {
         collect_at(ranges, number, alloc, live, markers)?;
@@ -45,7 +45,7 @@ fn collect_at<L: Live>(
     ensures thin { RangesThin (L.is live.now) ranges.old ranges.new }
     ensures here { OnOk result (RowsLive (L.is live.now) (rows_of ranges.new number)) }
     ensures others { (other : ℕ) → other ≢ number → rows_of ranges.new other ≡ rows_of ranges.old other }
-    ensures takes { TakesMarkers markers.old markers.new (range_marker ranges.old) (range_marker ranges.new) }
+    ensures takes { TakesLists markers.old markers.new (range_list ranges.old) (range_list ranges.new) }
 {
     collect_slot(&mut ranges[number], alloc, live, markers)
 }
@@ -60,7 +60,7 @@ fn collect_slot<L: Live>(
     requires before { AllBefore markers.old (slot_marker slot.old) }
     ensures thin { SlotThins (L.is live.now) slot.old slot.new }
     ensures live { OnOk result (RowsLive (L.is live.now) slot.new) }
-    ensures takes { TakesMarkers markers.old markers.new (slot_marker slot.old) (slot_marker slot.new) }
+    ensures takes { TakesLists markers.old markers.new (list_from slot.old) (list_from slot.new) }
 {
     match slot {
         Some(rows) => collect_rows(rows, alloc, live, markers),
@@ -77,7 +77,7 @@ fn collect_rows<L: Live>(
     requires before { AllBefore markers.old (slot_marker (Some rows.old)) }
     ensures thin { RowsThin (L.is live.now) rows.old rows.new }
     ensures live { OnOk result (RowsLive (L.is live.now) (Some rows.new)) }
-    ensures takes { TakesMarkers markers.old markers.new (slot_marker (Some rows.old)) (slot_marker (Some rows.new)) }
+    ensures takes { TakesLists markers.old markers.new (list_from (Some rows.old)) (list_from (Some rows.new)) }
 {
     let lows = dead_lows(rows, alloc, live)?;
     for low in lows.as_slice() {
@@ -110,7 +110,7 @@ fn collect_row<L: Live>(
     ensures thin { RowsThin (L.is live.now) rows.old rows.new }
     ensures here { OnOk result (IfSome (list_at rows.new low) (λ l. all_alive (L.is live.now) l.entries ≡ true)) }
     ensures others { (other : ℤ) → int_eq low other ≡ false → list_at rows.new other ≡ list_at rows.old other }
-    ensures takes { TakesMarkers markers.old markers.new (slot_marker (Some rows.old)) (slot_marker (Some rows.new)) }
+    ensures takes { TakesLists markers.old markers.new (list_from (Some rows.old)) (list_from (Some rows.new)) }
 {
     rows.collect(low, live, markers)
 }

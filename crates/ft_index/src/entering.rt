@@ -6,6 +6,7 @@ ghost use Rattle.ft_meaning.specs.Meaning.{ValuesFit};
 ghost use Rattle.ft_meaning.specs.Sortable.{sorting_vector};
 ghost use Rattle.ft_index.specs.Entering.{awaiting};
 ghost use Rattle.ft_index.specs.Kept.{AreKept};
+ghost use Rattle.ft_index.specs.Coming.{ListsCome};
 ghost use Rattle.ft_index.specs.Has.{Has};
 ghost use Rattle.ft_index.specs.Markers.{AreBefore, GainsMarkers};
 
@@ -41,6 +42,7 @@ pub fn enter(
         → Has def.now (table.old.live ++ (doc.now.id, sorting_vector def.now doc.now) ∷ []) lists.new (docs ++ doc.now ∷ [])) }
     ensures before { AreBefore markers.new lists.new }
     ensures gains { GainsMarkers lists.old lists.new markers.old markers.new }
+    ensures comes { ListsCome markers.old.event lists.old lists.new }
     ensures event { markers.new.event ≡ markers.old.event }
     ensures next { markers.old.next ≤ markers.new.next }
 {

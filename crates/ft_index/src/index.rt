@@ -3,8 +3,10 @@ ghost use Rattle.std.specs.Prelude.{◌≡◌, ◌<◌, ◌≤◌, None, Some, [
 ghost use Rattle.ft_meaning.specs.Meaning.{ValuesFit};
 ghost use Rattle.ft_meaning.specs.Member.{most_failures, one_more};
 ghost use Rattle.ft_index.specs.Fits.{fit_of};
+ghost use Rattle.ft_index.specs.Coming.{ListsCome};
 ghost use Rattle.ft_index.specs.Index.{Indexes, IsIndex, OnlyWaits, StandsBeside, StandsOn, StandsWithout, committed, is_live, killed};
 ghost use Rattle.ft_index.specs.Markers.{AreBefore, AreGiven, GainsMarkers, IsBefore};
+ghost use Rattle.ft_index.specs.Snapshots.{IsSnapshot, PicturesAll};
 ghost use Rattle.ft_index.specs.Splicing.{FitsName, GainsMarker, IsNew, SplicesName};
 ghost use Rattle.ft_index.specs.Thinned.{ListsLive, ListsThin};
 
@@ -13,6 +15,7 @@ use crate::lists::IndexLists;
 use crate::live::LiveTable;
 use crate::ready::{Fit, Ready, fit_of};
 use crate::repairs::AnyRepair;
+use crate::snapshots::Snapshot;
 use doc_table::DocTable;
 use ft_base::{Doc, IndexDef, NoMemory};
 use gc_splice::Spliced;
@@ -182,6 +185,8 @@ impl FtIndex {
         // Which markers its lists have.
         ensures before { AreBefore markers.new self.new.lists }
         ensures gains { GainsMarkers self.old.lists self.new.lists markers.old markers.new }
+        // Each list that was made before has grown from what it was.
+        ensures comes { ListsCome markers.old.event self.old.lists self.new.lists }
         ensures event { markers.new.event ≡ markers.old.event }
         ensures next { markers.old.next ≤ markers.new.next }
     {
@@ -230,6 +235,21 @@ impl FtIndex {
         self.table.kill(id)
     }
 
+    /// A picture of every list of the index, and which ids are live, at the number of an event.
+    pub fn scan(&self, number: u64) -> Result<Snapshot, NoMemory>
+        ensures scanned { IfOk result (IsSnapshot self.now number) }
+        ensures every { IfOk result (PicturesAll self.now.lists) }
+    {
+        let live = self.table.live_bits()?;
+        let lists = self.lists.pictures()?;
+        Ok(Snapshot {
+            serial: self.def.serial,
+            number,
+            live,
+            lists,
+        })
+    }
+
     /// Splices a repair into the list of a name. It takes no memory: what it takes out it leaves in the repair.
     pub fn splice(&mut self, name: &ListName, repair: &mut AnyRepair, marker: Marker) -> Spliced
         requires fits { FitsName (is_live self.old) self.old.lists name.now repair.old }
@@ -243,6 +263,8 @@ impl FtIndex {
         // Which markers its lists have.
         ensures before { (markers : Markers) → IsBefore markers marker → AreBefore markers self.old.lists → AreBefore markers self.new.lists }
         ensures gains { GainsMarker self.old.lists self.new.lists marker }
+        // The list is made anew, and each other one stays.
+        ensures comes { ListsCome marker.event self.old.lists self.new.lists }
     {
         self.lists.splice(name, repair, marker)
     }
@@ -259,6 +281,8 @@ impl FtIndex {
         // Which markers its lists have.
         ensures before { AreBefore markers.new self.new.lists }
         ensures gains { GainsMarkers self.old.lists self.new.lists markers.old markers.new }
+        // A list that lost entries is made anew, and each other one stays.
+        ensures comes { ListsCome markers.old.event self.old.lists self.new.lists }
         ensures event { markers.new.event ≡ markers.old.event }
         ensures next { markers.old.next ≤ markers.new.next }
     {

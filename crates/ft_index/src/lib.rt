@@ -5,7 +5,8 @@
 //! that is written again gets a new id: the old id is killed, and what it left in the lists is dead.
 //! So a list may hold entries that no search may answer, and whoever reads one asks what is live.
 //! Of a live document the index keeps no key, but its sorting vector: the numbers that searches are
-//! sorted by. A collection takes dead entries out of all lists (`collecting.rt`, `collecting_ranges.rt`).
+//! sorted by. A collection takes dead entries out of all lists (`collecting.rt`, `collecting_ranges.rt`). A scan takes a picture of
+//! each (`scanning.rt`), to be repaired elsewhere, and a repair is spliced into the list of its name.
 //! Read first `specs/Index.antt`, then `index.rt`; of the lists `specs/Entries.antt` and `specs/Has.antt`, which says how they
 //! stand for documents, then `lists.rt`.
 #![tactic(auto)]
@@ -21,6 +22,8 @@ mod reading;
 mod ready;
 mod records;
 mod repairs;
+mod scanning;
+mod snapshots;
 mod sorting;
 mod splicing;
 mod tags;
@@ -32,5 +35,7 @@ pub use index::FtIndex;
 pub use lists::IndexLists;
 /// The repair of one of its lists.
 pub use repairs::AnyRepair;
+/// What an index was at the number of an event, and the pictures of its lists.
+pub use snapshots::{AnyPicture, NamedPicture, Snapshot};
 /// A document that was prepared, and how it fits the index.
 pub use ready::{Fit, Ready};

@@ -1,9 +1,11 @@
 //! The lists of an index, by kind, and how a document's entries go into them.
-ghost use Rattle.std.specs.Prelude.{◌≡◌, ◌<◌, ◌≤◌, ◌^◌, ℕ, Bool, [], length, IfOk, IfNone, IfSome, OnOk, option_copied};
+ghost use Rattle.std.specs.Prelude.{◌≡◌, ◌<◌, ◌≤◌, ◌^◌, ℕ, Bool, [], length, map, IfOk, IfNone, IfSome, OnOk, option_copied};
 ghost use Rattle.ft_meaning.specs.Meaning.{ValuesFit};
 ghost use Rattle.ft_index.specs.Adding.{IsSeen, IsUnseen, ListsHave};
+ghost use Rattle.ft_index.specs.Coming.{ListsCome};
 ghost use Rattle.ft_index.specs.Lists.{rows_of};
 ghost use Rattle.ft_index.specs.Markers.{AreBefore, AreGiven, GainsMarkers, MarkersDiffer};
+ghost use Rattle.ft_index.specs.Picturing.{AreOrdered, all_named, shown};
 ghost use Rattle.ft_index.specs.Records.{CountsJust, CountsLive, all_entries};
 ghost use Rattle.ft_index.specs.Splicing.{FitsName, SplicesName};
 ghost use Rattle.ft_index.specs.Thinned.{ListsLive, ListsThin};
@@ -14,10 +16,12 @@ use crate::collecting_ranges::collect_ranges;
 use crate::numbers::{add_numbers, first_ranges};
 use crate::records::entries_in_ranges;
 use crate::repairs::AnyRepair;
+use crate::scanning::{picture_ranges, picture_tags, picture_words};
+use crate::snapshots::NamedPicture;
 use crate::splicing::splice_range;
 use crate::tags::add_tags;
 use crate::words::add_words;
-use ft_base::{Doc, IndexDef, NoMemory};
+use ft_base::{Doc, IndexDef, ListOf, NoMemory};
 use gc_splice::{Live, Spliced};
 use id_iters::ListName;
 use inverted_list::{Marker, Markers};
@@ -132,6 +136,18 @@ impl IndexLists {
         if all < WIRE_END { Some(all) } else { None }
     }
 
+    /// A picture of every list, in the order of names.
+    pub fn pictures(&self) -> Result<ListOf<NamedPicture>, NoMemory>
+        ensures named { IfOk result (λ all. map shown all ≡ all_named self.now) }
+        ensures ordered { IfOk result (λ _. AreOrdered self.now) }
+    {
+        let mut all = ListOf::new(self.alloc);
+        picture_words(&self.terms, self.alloc, &mut all)?;
+        picture_tags(&self.tags, self.alloc, &mut all)?;
+        picture_ranges(self.ranges.as_slice(), &mut all)?;
+        Ok(all)
+    }
+
     /// Puts a document's entries into the lists: one in the list of each of its words, of each of its
     /// tags, and in a range for each of its numbers. Out of memory, some may have come.
     pub fn add(&mut self, def: &IndexDef, doc: &Doc, markers: &mut Markers) -> Result<(), NoMemory>
@@ -150,6 +166,8 @@ impl IndexLists {
         ensures differ { MarkersDiffer self.new }
         ensures before { AreBefore markers.new self.new }
         ensures gains { GainsMarkers self.old self.new markers.old markers.new }
+        // Each list that was made before has grown from what it was.
+        ensures comes { ListsCome markers.old.event self.old self.new }
         ensures event { markers.new.event ≡ markers.old.event }
         ensures next { markers.old.next ≤ markers.new.next }
     {
@@ -169,6 +187,8 @@ impl IndexLists {
         ensures differ { MarkersDiffer self.new }
         ensures before { AreBefore markers.new self.new }
         ensures gains { GainsMarkers self.old self.new markers.old markers.new }
+        // A list that lost entries is made anew, and each other one stays.
+        ensures comes { ListsCome markers.old.event self.old self.new }
         ensures event { markers.new.event ≡ markers.old.event }
         ensures next { markers.old.next ≤ markers.new.next }
     {

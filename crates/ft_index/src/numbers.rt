@@ -3,8 +3,8 @@ ghost use Rattle.std.specs.Prelude.{◌≡◌, ◌≢◌, ◌≤◌, ℕ, [], No
 ghost use Rattle.ft_meaning.specs.Holds.{field_number};
 ghost use Rattle.ft_index.specs.Adding.{IsSeen, IsUnseen, RangesHaveAll, RangesUnseen};
 ghost use Rattle.ft_index.specs.Entries.{is_ranged, searched_number};
-ghost use Rattle.ft_index.specs.Lists.{rows_of};
-ghost use Rattle.ft_index.specs.Markers.{AllBefore, TakesMarkers, range_marker, slot_marker};
+ghost use Rattle.ft_index.specs.Lists.{list_from, rows_of};
+ghost use Rattle.ft_index.specs.Markers.{AllBefore, TakesLists, TakesMarkers, range_list, range_marker, slot_marker};
 ghost use Rattle.ft_index.specs.Numbering.{IsFirst, RangesGain, RowsGain, value_entry};
 ghost use Rattle.ft_index.specs.UpTo.{IsAboveRows, RangesUpTo, RowsUpTo};
 
@@ -71,8 +71,8 @@ pub fn add_numbers(
     ensures seen { OnOk result (IsSeen def.now doc.now
         (RangesHaveAll def.now ranges.old) (RangesHaveAll def.now ranges.new)) }
     ensures up_to { RangesUpTo doc.now.id ranges.new }
-    ensures takes { TakesMarkers markers.old markers.new
-        (range_marker ranges.old) (range_marker ranges.new) }
+    ensures takes { TakesLists markers.old markers.new
+        (range_list ranges.old) (range_list ranges.new) }
 {
     add_all(ranges, def.fields.as_slice(), doc, markers)
 }
@@ -90,8 +90,8 @@ fn add_all(
     ensures ok { OnOk result (RangesGain fields.now doc.now ranges.old ranges.new) }
     ensures unseen { RangesUnseen doc.now.id ranges.old ranges.new }
     ensures up_to { RangesUpTo doc.now.id ranges.new }
-    ensures takes { TakesMarkers markers.old markers.new
-        (range_marker ranges.old) (range_marker ranges.new) }
+    ensures takes { TakesLists markers.old markers.new
+        (range_list ranges.old) (range_list ranges.new) }
 {
     for (number, field) in fields.iter().enumerate() {
         let value = searched_number(field, doc);
@@ -137,8 +137,8 @@ fn add_field(
     ensures err { OnErr result (ranges.new ≡ ranges.old) }
     ensures others { (other : ℕ) → other ≢ number → rows_of ranges.new other ≡ rows_of ranges.old other }
     ensures up_to { RangesUpTo id ranges.new }
-    ensures takes { TakesMarkers markers.old markers.new
-        (range_marker ranges.old) (range_marker ranges.new) }
+    ensures takes { TakesLists markers.old markers.new
+        (range_list ranges.old) (range_list ranges.new) }
 {
     if ranges.len() <= number {
         return Ok(());
@@ -158,7 +158,7 @@ fn add_value(
     ensures gains { OnOk result (RowsGain (value_entry id value) slot.old slot.new) }
     ensures err { OnErr result (slot.new ≡ slot.old) }
     ensures up_to { IfSome slot.new (RowsUpTo id) }
-    ensures takes { TakesMarkers markers.old markers.new (slot_marker slot.old) (slot_marker slot.new) }
+    ensures takes { TakesLists markers.old markers.new (list_from slot.old) (list_from slot.new) }
 {
     let Some(rows) = slot else {
         return Ok(());

@@ -2,7 +2,7 @@
 ghost use Rattle.std.specs.Prelude.{◌≡◌, ◌≤◌, List, ℕ, Some, length, IfOk, OnOk, OnErr};
 ghost use Rattle.ft_index.specs.Adding.{IsSeen, IsUnseen, TagsHave, TagsUnseen};
 ghost use Rattle.ft_index.specs.Entries.{searched_tags};
-ghost use Rattle.ft_index.specs.Markers.{AllBefore, TakesMarkers, tag_marker};
+ghost use Rattle.ft_index.specs.Markers.{AllBefore, TakesLists, tag_list, tag_marker};
 ghost use Rattle.ft_index.specs.Tagging.{AreApart, FieldTagsGain, TagGains, TagsGain};
 ghost use Rattle.ft_index.specs.UpTo.{IsAboveTag, TagsUpTo};
 
@@ -29,7 +29,7 @@ pub fn add_tags(
     ensures unseen { IsUnseen doc.now.id (TagsHave def.now lists.old) (TagsHave def.now lists.new) }
     ensures seen { OnOk result (IsSeen def.now doc.now (TagsHave def.now lists.old) (TagsHave def.now lists.new)) }
     ensures up_to { TagsUpTo doc.now.id lists.new }
-    ensures takes { TakesMarkers markers.old markers.new (tag_marker lists.old) (tag_marker lists.new) }
+    ensures takes { TakesLists markers.old markers.new (tag_list lists.old) (tag_list lists.new) }
 {
     add_all(lists, alloc, def.fields.as_slice(), doc, markers)
 }
@@ -49,7 +49,7 @@ fn add_all(
     ensures ok { OnOk result (TagsGain fields.now doc.now lists.old lists.new) }
     ensures unseen { TagsUnseen doc.now.id lists.old lists.new }
     ensures up_to { TagsUpTo doc.now.id lists.new }
-    ensures takes { TakesMarkers markers.old markers.new (tag_marker lists.old) (tag_marker lists.new) }
+    ensures takes { TakesLists markers.old markers.new (tag_list lists.old) (tag_list lists.new) }
 {
     for (number, field) in fields.iter().enumerate() {
         let found = searched_tags(alloc, field, doc)?;
@@ -90,7 +90,7 @@ fn add_field(
     ensures ok { OnOk result (FieldTagsGain field tags.now id lists.old lists.new) }
     ensures unseen { TagsUnseen id lists.old lists.new }
     ensures up_to { TagsUpTo id lists.new }
-    ensures takes { TakesMarkers markers.old markers.new (tag_marker lists.old) (tag_marker lists.new) }
+    ensures takes { TakesLists markers.old markers.new (tag_list lists.old) (tag_list lists.new) }
 {
     for tag in tags {
         add(lists, field, tag.as_slice(), id, markers)?;
@@ -112,7 +112,7 @@ fn add(
     ensures ok { OnOk result (TagGains field tag.now id lists.old lists.new) }
     ensures err { OnErr result (lists.new ≡ lists.old) }
     ensures up_to { TagsUpTo id lists.new }
-    ensures takes { TakesMarkers markers.old markers.new (tag_marker lists.old) (tag_marker lists.new) }
+    ensures takes { TakesLists markers.old markers.new (tag_list lists.old) (tag_list lists.new) }
 {
     lists.add(field, tag, id, &TagHit {}, markers)
 }

@@ -6,8 +6,9 @@ ghost use Rattle.ft_meaning.specs.Meaning.{ValuesFit, field_tokens};
 ghost use Rattle.ft_index.specs.Adding.{IsSeen, IsUnseen, WordsHave};
 ghost use Rattle.ft_index.specs.Collected.{AreMet, GrowBy, IsNoted, WordGains, WordsGain, codes_of, occurrences_in};
 ghost use Rattle.ft_index.specs.Entries.{codes_among, occurrence};
-ghost use Rattle.ft_index.specs.Markers.{AllBefore, TakesMarkers, word_marker};
+ghost use Rattle.ft_index.specs.Markers.{AllBefore, TakesLists, word_marker};
 ghost use Rattle.ft_index.specs.UpTo.{IsAboveWord, WordsUpTo};
+ghost use Rattle.term_dict.specs.Terms.{list_of};
 
 use ft_base::{Doc, IndexDef, NoMemory};
 use ft_meaning::field_tokens;
@@ -42,7 +43,7 @@ pub fn add_words(
     ensures unseen { IsUnseen doc.now.id (WordsHave def.now terms.old) (WordsHave def.now terms.new) }
     ensures seen { OnOk result (IsSeen def.now doc.now (WordsHave def.now terms.old) (WordsHave def.now terms.new)) }
     ensures up_to { WordsUpTo doc.now.id terms.new }
-    ensures takes { TakesMarkers markers.old markers.new (word_marker terms.old) (word_marker terms.new) }
+    ensures takes { TakesLists markers.old markers.new (list_of terms.old) (list_of terms.new) }
 {
     let texts = texts_of(alloc, def, doc)?;
     let found = collected(alloc, texts.as_slice())?;
@@ -138,7 +139,7 @@ fn add_all(
     ensures ok { OnOk result (WordsGain found.entry.entries id terms.old terms.new) }
     ensures some { GrowBy id terms.old terms.new }
     ensures up_to { WordsUpTo id terms.new }
-    ensures takes { TakesMarkers markers.old markers.new (word_marker terms.old) (word_marker terms.new) }
+    ensures takes { TakesLists markers.old markers.new (list_of terms.old) (list_of terms.new) }
 {
     for (word, codes) in found {
         add(terms, word, codes, id, markers)?;
@@ -160,7 +161,7 @@ fn add(
     ensures ok { OnOk result (WordGains word.now id codes terms.old terms.new) }
     ensures err { OnErr result (terms.new ≡ terms.old) }
     ensures up_to { WordsUpTo id terms.new }
-    ensures takes { TakesMarkers markers.old markers.new (word_marker terms.old) (word_marker terms.new) }
+    ensures takes { TakesLists markers.old markers.new (list_of terms.old) (list_of terms.new) }
 {
     terms.add(word, id, &TextHit { places: codes }, markers)
 }

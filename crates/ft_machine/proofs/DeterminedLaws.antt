@@ -26,7 +26,7 @@ use Rattle.cursor_book.specs.Cursors.{body_left, cursor_of, cursors_of}
 use Rattle.cursor_book.specs.declared.cursor.Cursor.{Cursor}
 use Rattle.cmd_parse.specs.declared.command.CmdFault.{CmdFault}
 use Rattle.cmd_parse.specs.declared.command.Verb.{Verb}
-use Rattle.cmd_parse.specs.declared.command.Verb.TheVariants.{Ping, Echo, Select, Quit, Hset, Hsetnx, Hget, Hmget, Hgetall, Hdel, Hlen, Hexists, Hincrby, Hkeys, Hvals, Del, Exists, TypeOf, Dbsize, Rename, Flushall, DropIndex, ListIndexes, Info, TagVals}
+use Rattle.cmd_parse.specs.declared.command.Verb.TheVariants.{Ping, Echo, Select, Quit, Hset, Hsetnx, Hget, Hmget, Hgetall, Hdel, Hlen, Hexists, Hincrby, Hkeys, Hvals, Del, Exists, TypeOf, Dbsize, Rename, Flushall, DropIndex, ListIndexes, Info, TagVals, Debug}
 use Rattle.query_lex.specs.Lexemes.{lexemes}
 use Rattle.query_lex.specs.declared.fault.LexFault.{LexFault}
 use Rattle.query_lex.specs.declared.lexeme.Lexeme.{Lexeme}
@@ -189,6 +189,7 @@ plain-one TypeOf args number state = inl (told _ state)
 plain-one Dbsize args number state = inl (told _ state)
 plain-one ListIndexes args number state = inl (told _ state)
 plain-one TagVals args number state = inl (told _ state)
+plain-one Debug args number state = inl (told _ state)
 plain-one Hset args number state = inl (one _ state (inr (number-mark _)))
 plain-one Hsetnx args number state = inl (one _ state (unless-settled (is_some (get_field (hash_of state (first args)) (second args))) args number state))
 plain-one Hdel args number state = inl (one _ state (inr (number-mark _)))

@@ -10,7 +10,7 @@ use Rattle.cmd_parse.specs.Read.{read}
 use Rattle.cmd_parse.specs.Reading.{IsReading}
 use Rattle.cmd_parse.specs.Refusals.{refusal}
 use Rattle.cmd_parse.specs.declared.command.CmdFault.{CmdFault}
-use Rattle.cmd_parse.specs.declared.command.CmdFault.TheVariants.{Unknown, Arity, Syntax, Limit, OutOfScope, NotInteger, BadDb, NotBuilt, Schema, NoMemory}
+use Rattle.cmd_parse.specs.declared.command.CmdFault.TheVariants.{Unknown, Arity, Syntax, Limit, OutOfScope, NotInteger, BadDb, Schema, NoMemory}
 use Rattle.ft_machine.specs.Machine.{Outcome, State, answered, at_moment, wanting}
 use Rattle.ft_machine.specs.Step.{Answers, At, Does, Gives, MayWant, Told, given, last_number, outcomes, read_gives, words_give}
 
@@ -71,7 +71,6 @@ refused words number (Limit at) state written is said = refused-by words number 
 refused words number (OutOfScope at) state written is said = refused-by words number (OutOfScope at) state written is said
 refused words number NotInteger state written is said = refused-by words number NotInteger state written is said
 refused words number BadDb state written is said = refused-by words number BadDb state written is said
-refused words number NotBuilt state written is said = refused-by words number NotBuilt state written is said
 refused words number (Schema fault) state written is said = refused-by words number (Schema fault) state written is said
 refused words number NoMemory state written is said = stays (words_give words number state) state written out_of_memory (inr (is, refl)) said
 

@@ -80,3 +80,12 @@ tags_reply (Some field) def docs = Array (map Bulk (tag_values def field docs))
 abbrev pub tag_vals : Option Defined → List ℕ → List Doc → Reply
 tag_vals None alias docs = Fault unknown_index
 tag_vals (Some index) alias docs = tags_reply (tag_field index.def.fields alias) index.def docs
+
+-- what is said of an index whose lists have no dead entry any more
+abbrev pub done : Reply
+done = Line (codes "DONE")
+
+-- FT.DEBUG GC_FORCEINVOKE: dead entries are nothing that a command tells of, so it changes no state.
+abbrev pub collected : Option Defined → Reply
+collected None = Fault unknown_index
+collected (Some index) = done

@@ -1,7 +1,7 @@
 -- What the plain commands give: those of the connection, of hashes and keys, and those of indexes whose words are all that they ask.
 use Rattle.std.specs.Prelude.{◌<◌, ℕ, pos, List, [], ◌∷◌, length, drop, map, is_some, codes}
 use Rattle.cmd_parse.specs.declared.command.Verb.{Verb}
-use Rattle.cmd_parse.specs.declared.command.Verb.TheVariants.{Ping, Echo, Select, Quit, Hset, Hsetnx, Hget, Hmget, Hgetall, Hdel, Hlen, Hexists, Hincrby, Hkeys, Hvals, Del, Exists, TypeOf, Dbsize, Rename, Flushall, DropIndex, ListIndexes, Info, TagVals}
+use Rattle.cmd_parse.specs.declared.command.Verb.TheVariants.{Ping, Echo, Select, Quit, Hset, Hsetnx, Hget, Hmget, Hgetall, Hdel, Hlen, Hexists, Hincrby, Hkeys, Hvals, Del, Exists, TypeOf, Dbsize, Rename, Flushall, DropIndex, ListIndexes, Info, TagVals, Debug}
 use Rattle.ft_base.specs.Hash.{get_field, in_turn}
 use Rattle.ft_base.specs.Number.{int_of}
 use Rattle.ft_base.specs.Space.{doc_of}
@@ -9,7 +9,7 @@ use Rattle.ft_base.specs.declared.reply.Reply.TheVariants.{Line, Number, Bulk, A
 use Rattle.ft_base.specs.Words.{first, second, third}
 use Rattle.ft_machine.specs.Reads.{kind_of, names, one_if, present, value_reply, values}
 use Rattle.ft_machine.specs.Definitions.{index_of}
-use Rattle.ft_machine.specs.Indexes.{dropped, listed, tag_vals}
+use Rattle.ft_machine.specs.Indexes.{collected, dropped, listed, tag_vals}
 use Rattle.ft_machine.specs.Info.{informed}
 use Rattle.ft_machine.specs.Machine.{Outcome, State, answered, hash_of, just}
 use Rattle.ft_machine.specs.Writes.{del, hdel, hincrby, hset, hset_unless, number_in, rename}
@@ -43,6 +43,7 @@ plain DropIndex args number state = just (dropped (index_of state.definitions (f
 plain ListIndexes args number state = just (answered (listed state.definitions) state)
 plain Info args number state = informed (index_of state.definitions (first args)) state
 plain TagVals args number state = just (answered (tag_vals (index_of state.definitions (first args)) (second args) state.space) state)
+plain Debug args number state = just (answered (collected (index_of state.definitions (second args))) state)
 plain Flushall args number state = just (record { reply = Line (codes "OK"); after = record state { space = []; definitions = []; cursors = [] } })
 
 -- how many keys DEL counts without memory
@@ -66,5 +67,6 @@ PlainMayWant Rename args = Unit {0}
 PlainMayWant ListIndexes args = Unit {0}
 PlainMayWant Info args = Unit {0}
 PlainMayWant TagVals args = Unit {0}
+PlainMayWant Debug args = Unit {0}
 PlainMayWant Del keys = most_counted < length keys
 PlainMayWant _ args = ⊥

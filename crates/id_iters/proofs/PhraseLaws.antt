@@ -1,7 +1,8 @@
 -- What a phrase asks of the lists of its words.
-use Rattle.std.proofs.Common.{◌≡◌, inl, inr, ℕ, zero, suc, ◌<◌, ◌≤◌, ◌+◌, Bool, true, false, cond, ◌&&◌, ◌||◌, List, [], ◌∷◌, Option, Some, map, length, get_or, refl, sym, ap, ◌∙◌, subst, arith}
+use Rattle.std.proofs.Common.{◌≡◌, inl, inr, ℕ, zero, suc, ◌<◌, ◌≤◌, ◌+◌, Bool, true, false, cond, ◌&&◌, ◌||◌, List, [], ◌∷◌, Option, None, Some, map, length, get_or, slice_get, refl, sym, ap, ◌∙◌, subst, arith}
 use Rattle.std.specs.Prelude.{nat_eq}
-use Rattle.std.specs.List.{list_any, list_all}
+use Rattle.std.specs.List.{AllByRecursion, list_any, list_all}
+use Rattle.std.proofs.lemmas.List.Elements.{recursion_from_All}
 use Rattle.std.specs.Map.{lookup}
 use Rattle.std.specs.Str.{bytes_eq}
 use Rattle.std.proofs.lemmas.Bool.{false≢true}
@@ -11,15 +12,43 @@ use Rattle.ft_base.specs.declared.query.Fields.{Fields}
 use Rattle.phrase_match.specs.Phrase.{rises, some_choice, fits, within}
 use Rattle.phrase_match.specs.Places.{AllRise, AllEqualOrApart, AreEqualOrApart}
 use Rattle.posting_block.specs.declared.hits.TextHit.{TextHit}
-use Rattle.id_iters.specs.Entries.{has_entry, hit_codes, codes_at, field_of, places_in, looks_in, phrase_has}
+use Rattle.phrase_match.specs.Turns.{in_turn}
+use Rattle.id_iters.specs.Entries.{has_entry, hit_codes, codes_at, field_of, places_in, looks_in, phrase_has, stand_in, stand_together}
 use Rattle.id_iters.specs.Held.{Held, AreLists}
 use Rattle.id_iters.specs.Least.{IsLeastAt, NoneFrom, NoneBetween}
 use Rattle.id_iters.specs.Leaves.{has_word, list_names, phrase_ids, word_entries}
+use Rattle.id_iters.specs.Places.{AllStandAt, StandAt}
 use Rattle.id_iters.specs.declared.leaf.Leaf.{Leaf}
 use Rattle.id_iters.specs.declared.list_name.ListName.{ListName}
 use Rattle.id_iters.specs.declared.list_name.ListName.TheVariants as names
 use Rattle.id_iters.specs.declared.phrase.PhraseIter.{PhraseIter}
 use Rattle.id_iters.proofs.LeastLaws.{none_part, none_part_from, none_joined, none_longer, none_step, and_both, and_right, and_first}
+
+-- ---- words that share lists
+
+turn_map : {X Y : Type 0} (f : List X → List Y) → f [] ≡ [] → (lists : List (List X)) (at : ℕ) → get_or (map f lists) at [] ≡ f (get_or lists at [])
+turn_map f none [] at = sym none
+turn_map f none (xs ∷ lists) zero = refl
+turn_map f none (xs ∷ lists) (suc at) = turn_map f none lists at
+
+pub turns_map : {X Y : Type 0} (f : List X → List Y) → f [] ≡ [] → (lists : List (List X)) (order : List ℕ) → in_turn (map f lists) order ≡ map f (in_turn lists order)
+turns_map f none lists [] = refl
+turns_map {X} {Y} f none lists (at ∷ order) =
+    ap (λ (ys : List Y). ys ∷ in_turn (map f lists) order) (turn_map f none lists at)
+    ∙ ap (λ (rest : List (List Y)). f (get_or lists at []) ∷ rest) (turns_map f none lists order)
+
+-- words stand together in a field of the first
+pub first_stands : (fields : Fields) (slop : Option ℕ) (in_order : Bool) (words : List (List ℕ)) (order : List ℕ) (first : ℕ) → slice_get order 0 ≡ Some first
+    → list_any (λ code. stand_in fields slop in_order (in_turn words order) (field_of code)) (get_or words first []) ≡ stand_together fields slop in_order (in_turn words order)
+first_stands fields slop in_order words [] first h = absurd (cc (h))
+first_stands fields slop in_order words (at ∷ order) first h =
+    let same : at ≡ first = cc (h) in
+    ap (λ k. list_any (λ code. stand_in fields slop in_order (in_turn words (at ∷ order)) (field_of code)) (get_or words k [])) (sym same)
+
+pub none_stand : (fields : Fields) (slop : Option ℕ) (in_order : Bool) (words : List (List ℕ)) (order : List ℕ) → slice_get order 0 ≡ None
+    → false ≡ stand_together fields slop in_order (in_turn words order)
+none_stand fields slop in_order words [] h = refl
+none_stand fields slop in_order words (at ∷ order) h = absurd (cc (h))
 
 -- ---- a word that a document lacks
 
@@ -61,7 +90,7 @@ module _ (held : Held) where
   places_are id field (n ∷ ns) = ap (λ l. places_in field (codes_at (word_entries held n) id) ∷ l) (places_are id field ns)
 
   -- words stand together only where a document has each of them
-  phrase_needs : (fields : Fields) (slop : Option ℕ) (in_order : Bool) (id : ℕ) (ns : List ListName) → list_all (λ name. has_word held name id) ns ≡ false
+  pub phrase_needs : (fields : Fields) (slop : Option ℕ) (in_order : Bool) (id : ℕ) (ns : List ListName) → list_all (λ name. has_word held name id) ns ≡ false
       → phrase_has fields slop in_order (map (word_entries held) ns) id ≡ false
   phrase_needs fields slop in_order id [] h = refl
   phrase_needs fields slop in_order id (n ∷ ns) h =
@@ -75,7 +104,23 @@ module _ (held : Held) where
       → phrase_ids held new id ≡ phrase_ids held old id
   same_ids old new id same same_names =
       ap (λ (p : PhraseIter). phrase_ids held p id) same
-      ∙ ap (λ (ns : List ListName). phrase_has old.fields old.slop old.in_order (map (word_entries held) ns) id) same_names
+      ∙ ap (λ (ns : List ListName). list_all (λ name. has_word held name id) ns
+      && phrase_has old.fields old.slop old.in_order (in_turn (map (word_entries held) ns) old.order) id) same_names
+
+  -- ---- the words that leaves stand at
+
+  all_there : (id : ℕ) (words : List Leaf) → AllByRecursion (λ (leaf : Leaf). StandAt held leaf id) words → list_all (λ name. has_word held name id) (list_names words) ≡ true
+  all_there id [] all = refl
+  all_there id (word ∷ words) all = and_both (has_word held word.list id) _ all.0.entry (all_there id words all.1)
+
+  pub stands_as : (phrase : PhraseIter) (id : ℕ) → AllStandAt held phrase.words id
+      → stand_together phrase.fields phrase.slop phrase.in_order (in_turn (map (λ (word : Leaf). codes_at (word_entries held word.list) id) phrase.words) phrase.order)
+      ≡ phrase_ids held phrase id
+  stands_as phrase id all =
+      ap (λ (lists : List (List ℕ)). stand_together phrase.fields phrase.slop phrase.in_order (in_turn lists phrase.order)) (codes_are id phrase.words)
+      ∙ ap (stand_together phrase.fields phrase.slop phrase.in_order) (turns_map (λ entries. codes_at entries id) refl (map (word_entries held) (list_names phrase.words)) phrase.order)
+      ∙ ap (λ b. b && phrase_has phrase.fields phrase.slop phrase.in_order (in_turn (map (word_entries held) (list_names phrase.words)) phrase.order) id)
+      (sym (all_there id phrase.words (recursion_from_All (λ (leaf : Leaf). StandAt held leaf id) phrase.words all)))
 
   -- ---- the places of words in one document
 
@@ -119,8 +164,8 @@ module _ (held : Held) where
       (none : NoneBetween (λ id. held.live id && phrase_ids held first id) from next) where
     part : (id : ℕ) → (held.live id && list_all (λ name. has_word held name id) (list_names words)) ≡ false → (held.live id && phrase_ids held first id) ≡ false
     part id h = by_live (held.live id) (list_all (λ name. has_word held name id) (list_names words)) (phrase_ids held first id)
-        (λ e. phrase_needs first.fields first.slop first.in_order id (list_names first.words)
-        (subst (λ (ns : List ListName). list_all (λ name. has_word held name id) ns ≡ false) same e)) h
+        (λ e. ap (λ b. b && phrase_has first.fields first.slop first.in_order (in_turn (map (word_entries held) (list_names first.words)) first.order) id)
+        (ap (list_all (λ name. has_word held name id)) (sym same) ∙ e)) h
       where
         by_live : (a b c : Bool) → (b ≡ false → c ≡ false) → (a && b) ≡ false → (a && c) ≡ false
         by_live true b c k n = k n

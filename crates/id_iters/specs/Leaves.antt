@@ -1,8 +1,10 @@
 -- Which ids a leaf and a phrase have, by the names of their lists.
-use Rattle.std.specs.Prelude.{ℕ, ℤ, Bool, true, List, map, Option, None}
+use Rattle.std.specs.Prelude.{ℕ, ℤ, Bool, true, ◌&&◌, List, map, Option, None}
+use Rattle.std.specs.List.{list_all}
 use Rattle.ft_base.specs.declared.query.Fields.{Fields}
 use Rattle.inverted_list.specs.Listing.{Listing}
 use Rattle.posting_block.specs.declared.hits.TextHit.{TextHit}
+use Rattle.phrase_match.specs.Turns.{in_turn}
 use Rattle.id_iters.specs.Entries.{has_entry, word_has, tag_has, range_has, phrase_has}
 use Rattle.id_iters.specs.Held.{Held, entries_of}
 use Rattle.id_iters.specs.declared.leaf.Leaf.{Leaf}
@@ -34,11 +36,13 @@ word_entries held name = entries_of (word_list held name)
 abbrev pub list_names : List Leaf → List ListName
 list_names leaves = map (λ leaf. leaf.list) leaves
 
--- whether the words of a phrase stand together in a document
-abbrev pub phrase_ids : Held → PhraseIter → ℕ → Bool
-phrase_ids held phrase id =
-    phrase_has phrase.fields phrase.slop phrase.in_order (map (word_entries held) (list_names phrase.words)) id
-
 -- whether a document has a word, in any field
 abbrev pub has_word : Held → ListName → ℕ → Bool
 has_word held name id = has_entry (λ hit. true) (word_entries held name) id
+
+-- Whether a document has the word of each leaf of a phrase, and these stand together, each as often and in the places that the
+-- phrase's order has it.
+abbrev pub phrase_ids : Held → PhraseIter → ℕ → Bool
+phrase_ids held phrase id =
+    list_all (λ name. has_word held name id) (list_names phrase.words)
+    && phrase_has phrase.fields phrase.slop phrase.in_order (in_turn (map (word_entries held) (list_names phrase.words)) phrase.order) id

@@ -16,10 +16,12 @@ use std::alloc::Global;
 use std::sync::ledger::Ledger;
 
 /// The documents where one field has all the words, with at most `slop` places between them for others. Of the leaves
-/// only the lists are looked at, which are those of the words, and not their fields.
+/// only the lists are looked at, which are those of the words, and not their fields. A word that the phrase repeats has one
+/// leaf, and `order` tells of each word of the phrase the place of its leaf.
 pub struct PhraseIter {
     pub alloc: Global,
     pub words: ListOf<Leaf>,
+    pub order: ListOf<usize>,
     pub fields: Fields,
     pub slop: Option<u32>,
     pub in_order: bool,
@@ -31,11 +33,13 @@ impl Drop for PhraseIter {
         let PhraseIter {
             alloc: _,
             words,
+            order,
             fields,
             slop: _,
             in_order: _,
         } = self;
         drop(words);
+        drop(order);
         drop(fields);
     }
 }
@@ -60,9 +64,6 @@ impl PhraseIter {
             LeavesReady (T.held lists.now) self.new.words (id + 1))) }
         ensures counts { steps.old ≤ steps.new }
     {
-        if self.words.len() == 0 {
-            return Ok(None);
-        }
         let mut next = from;
         'met: while let Some(id) = meet(&mut self.words, lists, next, steps)? {
             if self.stands(lists, id)? {
@@ -84,6 +85,7 @@ impl PhraseIter {
         stand_together(
             self.alloc,
             codes.as_slice(),
+            self.order.as_slice(),
             &self.fields,
             self.slop,
             self.in_order,
@@ -91,7 +93,7 @@ impl PhraseIter {
     }
 }
 
-// The codes of each word in a document that has them all.
+// The codes of each leaf's word in a document that has them all.
 fn codes_of<T: Lists>(
     alloc: Global,
     words: &[Leaf],

@@ -1,11 +1,12 @@
 //! The codes of words: in which fields they lie, and whether the words stand together there.
-ghost use Rattle.std.specs.Prelude.{◌≡◌, ◌==◌, true, filter, map, IfOk};
+ghost use Rattle.std.specs.Prelude.{◌≡◌, ◌==◌, true, [], filter, get_or, map, IfOk};
 ghost use Rattle.std.specs.List.{All, list_any};
 ghost use Rattle.id_iters.specs.Entries.{field_of, looks_in, place_of, places_in, stand_in, stand_together};
 ghost use Rattle.phrase_match.specs.Places.{AllEqualOrApart, AllRise};
+ghost use Rattle.phrase_match.specs.Turns.{in_turn};
 
 use ft_base::{Fields, ListOf, NoMemory};
-use phrase_match::within;
+use phrase_match::within_in_turn;
 use posting_block::ListOfPlaces;
 use std::alloc::Global;
 
@@ -73,10 +74,11 @@ fn all_places_in(
     Ok(places)
 }
 
-// Whether words stand together in a field that is looked in.
+// Whether words stand together in a field that is looked in. Each is told by the place of its codes.
 fn stand_in(
     alloc: Global,
     words: &[ListOfPlaces],
+    order: &[usize],
     fields: &Fields,
     slop: Option<u32>,
     in_order: bool,
@@ -84,30 +86,45 @@ fn stand_in(
 ) -> Result<bool, NoMemory>
     requires rising { AllRise words.now }
     requires apart { AllEqualOrApart words.now }
-    ensures { IfOk result (λ answer. answer ≡ stand_in fields.now slop in_order words.now field) }
+    ensures { IfOk result (λ answer. answer
+        ≡ stand_in fields.now slop in_order (in_turn words.now order.now) field) }
 {
     if !is_looked_in(fields, field) {
         return Ok(false);
     }
     let places = all_places_in(alloc, words, field)?;
-    Ok(within(&places, slop, in_order))
+    Ok(within_in_turn(&places, order, slop, in_order))
 }
 
-/// Whether words stand together in some field of the first.
+/// Whether words stand together in some field of the first. Each is told by the place of its codes, so that equal words
+/// share them.
 pub fn stand_together(
     alloc: Global,
     words: &[ListOfPlaces],
+    order: &[usize],
     fields: &Fields,
     slop: Option<u32>,
     in_order: bool,
 ) -> Result<bool, NoMemory>
     requires rising { AllRise words.now }
     requires apart { AllEqualOrApart words.now }
-    ensures { IfOk result (λ answer. answer ≡ stand_together fields.now slop in_order words.now) }
+    ensures { IfOk result (λ answer. answer
+        ≡ stand_together fields.now slop in_order (in_turn words.now order.now)) }
 {
-    match words.first() {
-        Some(first) => stand_in_some(alloc, words, first.as_slice(), fields, slop, in_order),
-        None => Ok(false),
+    let Some(first) = order.first() else {
+        return Ok(false);
+    };
+    let codes = codes_at(words, *first);
+    stand_in_some(alloc, words, order, codes, fields, slop, in_order)
+}
+
+// The codes at a place, and none where nothing is there.
+fn codes_at<'a>(words: &'a [ListOfPlaces], place: usize) -> &'a [u64]
+    ensures { result.now ≡ get_or words.now place [] }
+{
+    match words.get(place) {
+        Some(codes) => codes.as_slice(),
+        None => &[],
     }
 }
 
@@ -115,6 +132,7 @@ pub fn stand_together(
 fn stand_in_some(
     alloc: Global,
     words: &[ListOfPlaces],
+    order: &[usize],
     codes: &[u64],
     fields: &Fields,
     slop: Option<u32>,
@@ -124,7 +142,7 @@ fn stand_in_some(
     requires apart { AllEqualOrApart words.now }
     ensures { IfOk result (λ answer. answer
         ≡ list_any (λ code.
-        stand_in fields.now slop in_order words.now (field_of code)) codes.now) }
+        stand_in fields.now slop in_order (in_turn words.now order.now) (field_of code)) codes.now) }
 {
     let mut asked = None;
     'codes: for code in codes {
@@ -132,7 +150,7 @@ fn stand_in_some(
         if asked == Some(field) {
             continue;
         }
-        if stand_in(alloc, words, fields, slop, in_order, field)? {
+        if stand_in(alloc, words, order, fields, slop, in_order, field)? {
             return Ok(true);
         }
         asked = Some(field);

@@ -13,7 +13,8 @@ use Rattle.ft_base.specs.Space.{erase, write}
 use Rattle.ft_base.specs.Docs.{Doc}
 use Rattle.ft_machine.specs.Machine.{State}
 use Rattle.indexed_store.specs.Changing.{HasMore, IsReady, changed, is_change, is_write, without_cursors_of}
-use Rattle.indexed_store.specs.Standing.{AreApart, AreWritten, IndexStands, InStep, markers_at}
+use Rattle.indexed_store.specs.Moving.{IndexesMove}
+use Rattle.indexed_store.specs.Standing.{AreApart, AreOfEvent, AreWritten, IndexStands, InStep, markers_at}
 use Rattle.ft_machine.specs.Definitions.{Defined, index_of, with_index, without_index}
 use Rattle.indexed_store.specs.DefinitionsOf.{defined, definitions_of}
 use Rattle.ft_machine.specs.Step.{last_number, next_number}
@@ -24,6 +25,7 @@ use Rattle.ft_index.specs.Index.{Index}
 use Rattle.hash_store.specs.Store.{Store}
 use Rattle.inverted_list.specs.Listing.{last_id}
 use Rattle.indexed_store.proofs.CursorsLaws.{AreBelow, below-filter, below-read}
+use Rattle.indexed_store.proofs.MovingLaws.{fresh-of, moves-more}
 use Rattle.indexed_store.proofs.StepLaws.{erase-there, in_step-more, row_of, written-none}
 
 -- below the last number the next one is one more
@@ -73,6 +75,19 @@ pub altered-apart : (change : Change) (index : Index) (number : ℕ) (space : Li
 altered-apart change index number space waits indexes lent is same ready =
     let here : IsReady (Alter index) number space waits indexes = subst (λ (c : Change). IsReady c number space waits indexes) is ready in
     subst (All (AreApart index)) (sym same) here.2
+
+-- and its lists are of this event
+pub altered-given : (change : Change) (index : Index) (number : ℕ) (space : List Doc) (waits : Option Doc) (indexes : List Index) → change ≡ Alter index → IsReady change number space waits indexes
+    → AreOfEvent number index
+altered-given change index number space waits indexes is ready =
+    let here : IsReady (Alter index) number space waits indexes = subst (λ (c : Change). IsReady c number space waits indexes) is ready in here.3
+
+-- as are those of a new one
+pub created-moves : (change : Change) (index : Index) (number : ℕ) (space : List Doc) (waits : Option Doc) (indexes now : List Index) → change ≡ Create index → IsReady change number space waits indexes
+    → now ≡ indexes ++ index ∷ [] → IndexesMove number indexes now
+created-moves change index number space waits indexes now is ready more =
+    let here : IsReady (Create index) number space waits indexes = subst (λ (c : Change). IsReady c number space waits indexes) is ready in
+    subst (IndexesMove number indexes) (sym more) (moves-more number indexes index (fresh-of number index here.3))
 
 -- a definition in the place of the one of its name differs from it
 with-same : (definitions : List Defined) (new : Defined) → with_index definitions new ≡ definitions → IfSome (index_of definitions new.def.name) (λ old. old ≡ new)

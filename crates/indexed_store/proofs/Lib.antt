@@ -1,5 +1,6 @@
 pub mod ApartLaws
 pub mod ChangingLaws
+pub mod CollectingLaws
 pub mod CountingLaws
 pub mod CursorsLaws
 pub mod DroppingLaws
@@ -7,6 +8,7 @@ pub mod FillingLaws
 pub mod HoldingLaws
 pub mod IndexingLaws
 pub mod KeysLaws
+pub mod MovingLaws
 pub mod NamedLaws
 pub mod PreparingLaws
 pub mod ReadsLaws

@@ -6,6 +6,8 @@ use Rattle.std.proofs.Common.{sym, ap, ◌∙◌, subst, inl, inr, arith}
 use Rattle.std.proofs.lemmas.Bool.{cases_Bool}
 use Rattle.std.proofs.lemmas.Bool.Decides.{nat_tests}
 use Rattle.std.proofs.lemmas.List.Elements.{All-cons, All-head, All-tail}
+use Rattle.std.specs.Str.{bytes_eq}
+use Rattle.ft_base.specs.declared.definition.IndexDef.{IndexDef}
 use Rattle.ft_index.specs.Index.{Index}
 use Rattle.ft_machine.specs.Definitions.{Defined, index_of, with_index, without_index}
 use Rattle.indexed_store.specs.DefinitionsOf.{defined, definitions_of}
@@ -139,3 +141,24 @@ replaced-none indexes new none = none-replaced indexes new (no-place (is_named n
 
 pub replaced-one : (indexes : List Index) (new : Index) (i : ℕ) → position (is_named new.def.name) indexes ≡ Some i → definitions_of (slice_set indexes i new) ≡ with_index (definitions_of indexes) (defined new)
 replaced-one indexes new i found = let at = place-is (is_named new.def.name) indexes i found in one-replaced indexes new i at.0 at.1
+
+-- the index of a name is another one of the name once that takes its place
+set-named : (indexes : List Index) (name : List ℕ) (i : ℕ) (d new : Index) → i ≡ position_or_len (is_named name) indexes → i < length indexes → new.def ≡ (slice_index_or indexes i d).def
+    → find (is_named name) (slice_set indexes i new) ≡ Some new
+set-named [] name i d new is less same = absurd (omega (arith, less))
+set-named (index ∷ indexes) name i d new is less same = elim (cases_Bool (is_named name index)) [
+  | inl y ↦
+      let zero : i ≡ 0 = is ∙ first-here (is_named name) index indexes y in
+      let at : new.def ≡ index.def = subst (λ (n : ℕ). new.def ≡ (slice_index_or (index ∷ indexes) n d).def) zero same in
+      let named : is_named name new ≡ true = ap (λ (def : IndexDef). bytes_eq name def.name) at ∙ y in
+      rw (zero, named) refl
+  | inr n ↦
+      let up : i ≡ suc (position_or_len (is_named name) indexes) = suc_is i (position_or_len (is_named name) indexes) (is ∙ first-later (is_named name) index indexes n) in
+      let others = set-named indexes name (position_or_len (is_named name) indexes) d new refl (omega (arith, less, up))
+      (subst (λ (n : ℕ). new.def ≡ (slice_index_or (index ∷ indexes) n d).def) up same) in
+      rw (up, n) others
+]
+
+pub one-set : (indexes : List Index) (name : List ℕ) (i : ℕ) (d new : Index) → position (is_named name) indexes ≡ Some i → new.def ≡ (slice_index_or indexes i d).def
+    → find (is_named name) (slice_set indexes i new) ≡ Some new
+one-set indexes name i d new found same = let at = place-is (is_named name) indexes i found in set-named indexes name i d new at.0 at.1 same

@@ -8,7 +8,7 @@ use Rattle.ft_base.specs.Docs.{Doc}
 use Rattle.ft_index.specs.Index.{Index}
 use Rattle.ft_machine.specs.Definitions.{Defined, all_tried, index_of, with_index, without_index, without_keys, without_members}
 use Rattle.indexed_store.specs.DefinitionsOf.{defined, definitions_of}
-use Rattle.indexed_store.specs.Standing.{AreApart, IndexStands, markers_at}
+use Rattle.indexed_store.specs.Standing.{AreApart, AreOfEvent, IndexStands, markers_at}
 use Rattle.indexed_store.specs.Writing.{Waits, written}
 use Rattle.ft_machine.specs.Indexes.{most_indexes}
 use Rattle.ft_machine.specs.Machine.{State}
@@ -96,10 +96,10 @@ IsReady (Move put from) number space waits indexes = Waits put number space inde
 IsReady (EraseKey key) number space waits indexes = IsTrue (is_some (doc_of space key.now))
 IsReady (EraseKeys keys) number space waits indexes = length (without_keys space keys) < length space
 IsReady (Create index) number space waits indexes =
-    (length indexes < most_indexes) × IndexStands space (number + 1) (markers_at (number + 1)) index × All (AreApart index) indexes
+    (length indexes < most_indexes) × IndexStands space (number + 1) (markers_at (number + 1)) index × All (AreApart index) indexes × AreOfEvent number index
 IsReady (Alter index) number space waits indexes =
     HasMore (index_of (definitions_of indexes) index.def.name) index × IndexStands space (number + 1) (markers_at (number + 1)) index
-    × All (AreApart index) indexes
+    × All (AreApart index) indexes × AreOfEvent number index
 IsReady (Drop name) number space waits indexes = IsTrue (is_some (index_of (definitions_of indexes) name.now))
 IsReady (DropMembers name) number space waits indexes = IsTrue (is_some (index_of (definitions_of indexes) name.now))
 IsReady OpenCursor number space waits indexes = Unit {0}

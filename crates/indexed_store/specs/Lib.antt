@@ -1,8 +1,10 @@
 pub mod Changing
+pub mod Collecting
 pub mod Counting
 pub mod DefinitionsOf
 pub mod Holding
 pub mod Indexing
+pub mod Moving
 pub mod Named
 pub mod Preparing
 pub mod Standing

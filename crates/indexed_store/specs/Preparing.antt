@@ -10,9 +10,11 @@ use Rattle.ft_index.specs.Index.{Index}
 use Rattle.ft_machine.specs.Definitions.{failures_over}
 use Rattle.ft_machine.specs.Step.{Does, last_number}
 use Rattle.indexed_store.specs.Changing.{IsReady, changed, is_change, is_write}
+use Rattle.indexed_store.specs.Collecting.{MayCollect}
 use Rattle.indexed_store.specs.DefinitionsOf.{definitions_of}
 use Rattle.indexed_store.specs.Holding.{Holding, state_of}
-use Rattle.indexed_store.specs.Standing.{AreApart, AreWritten, IndexStands, markers_at}
+use Rattle.indexed_store.specs.Moving.{IndexesMove}
+use Rattle.indexed_store.specs.Standing.{AreApart, AreOfEvent, AreWritten, IndexStands, markers_at}
 use Rattle.indexed_store.specs.Writing.{Waits}
 use Rattle.indexed_store.specs.declared.change.Change.{Change}
 
@@ -30,13 +32,14 @@ pub record OnlyReads (old new : Holding) : Type 0 where
   pub opens : new.opens ≡ old.opens
   pub next : new.next ≡ old.next
 
--- Nothing is seen of what may wait. The event's number is given at most.
+-- Nothing is seen of what may wait. The event's number is given at most. Each index was there and has only grown since.
 pub record Stays (old new : Holding) : Type 0 where
   pub space : new.space ≡ old.space
   pub definitions : definitions_of new.indexes ≡ definitions_of old.indexes
   pub cursors : new.cursors ≡ old.cursors
   pub latest : new.latest ≡ old.latest
   pub next : new.next ≤ old.next + 1
+  pub moves : IndexesMove old.next old.indexes new.indexes
 
 -- A key's hash waits to be written in this event, in the store and in each index.
 pub record WaitsFor (key : List ℕ) (hash : Hash) (put : ℕ) (old new : Holding) : Type 0 where
@@ -53,8 +56,8 @@ pub record Prepares (asks : Asked) (old new : Holding) (written : List ℕ) (cha
   pub does : Does asks old.next (state_of old) written (changed change new.waits new.opens (state_of old))
   pub stays : Stays old new
   pub ready : IsReady change old.next new.space new.waits new.indexes
-  -- Where no document and no definition changes, nothing is entered into an index either.
-  pub still : is_write change ≡ false → (written ≡ spelling out_of_memory) ⊎ (new.indexes ≡ old.indexes)
+  -- Where no document and no definition changes, nothing is entered into an index either, nor taken out but by FT.DEBUG.
+  pub still : is_write change ≡ false → (written ≡ spelling out_of_memory) ⊎ ((new.indexes ≡ old.indexes) ⊎ MayCollect asks)
 
 -- A change of the event of this number can be made.
 pub record CanMake (change : Change) (number : ℕ) (held : Holding) : Type 0 where
@@ -69,3 +72,4 @@ pub record IsMade (def : IndexDef) (count : ℕ) (index : Index) (old new : Hold
   pub failures : index.failures ≡ failures_over def old.space count
   pub stands : IndexStands new.space (old.next + 1) (markers_at (old.next + 1)) index
   pub apart : All (AreApart index) old.indexes
+  pub given : AreOfEvent old.next index

@@ -18,6 +18,7 @@ use std::alloc::Global;
 impl IndexedStore {
     /// An index of this event that has tried each document, and whose count of failures goes on from
     /// the one that is given.
+    #[tactic(auto, using(crate::proofs::MovingLaws::moves_same))]
     pub fn index_over(&mut self, def: IndexDef, failures: u64) -> Result<Boxed<FtIndex>, NoMemory>
         requires number { HasNumber self.old }
         requires fields { length def.fields ≤ 1_024 }

@@ -5,6 +5,7 @@ ghost use Rattle.hash_store.specs.Store.{Store};
 ghost use Rattle.ft_machine.specs.Definitions.{index_of, without_index, without_members};
 ghost use Rattle.indexed_store.specs.Changing.{without_cursors_of};
 ghost use Rattle.indexed_store.specs.DefinitionsOf.{definitions_of};
+ghost use Rattle.indexed_store.specs.Moving.{IndexesMove};
 ghost use Rattle.indexed_store.specs.Standing.{InStep};
 
 use crate::index_list::{index_named, take_index};
@@ -19,6 +20,7 @@ pub fn drop_index(indexes: &mut Vec<FtIndex>, name: &[u8])
         ≡ without_index (definitions_of indexes.old.items) name.now }
     ensures kept { (store : Store) (next : ℕ)
         → InStep store indexes.old.items next → InStep store indexes.new.items next }
+    ensures moves { (event : ℕ) → IndexesMove event indexes.old.items indexes.new.items }
     ensures fewer { length indexes.new.items ≤ length indexes.old.items }
     ensures capacity { vec_capacity indexes.old ≤ vec_capacity indexes.new }
 {
@@ -33,6 +35,7 @@ pub fn drop_with_cursors(indexes: &mut Vec<FtIndex>, cursors: &mut CursorBook, n
         ≡ without_cursors_of (index_of (definitions_of indexes.old.items) name.now) cursors.old }
     ensures kept { (store : Store) (next : ℕ)
         → InStep store indexes.old.items next → InStep store indexes.new.items next }
+    ensures moves { (event : ℕ) → IndexesMove event indexes.old.items indexes.new.items }
     ensures fewer { length indexes.new.items ≤ length indexes.old.items }
     ensures capacity { vec_capacity indexes.old ≤ vec_capacity indexes.new }
 {
@@ -59,6 +62,7 @@ pub fn drop_members(store: &mut HashStore, indexes: &mut Vec<FtIndex>, name: &[u
         ≡ without_index (definitions_of indexes.old.items) name.now }
     ensures kept { (next : ℕ)
         → InStep store.old indexes.old.items next → InStep store.new indexes.new.items next }
+    ensures moves { (event : ℕ) → IndexesMove event indexes.old.items indexes.new.items }
     ensures fewer { length indexes.new.items ≤ length indexes.old.items }
     ensures capacity { vec_capacity indexes.old ≤ vec_capacity indexes.new }
 {
@@ -68,12 +72,14 @@ pub fn drop_members(store: &mut HashStore, indexes: &mut Vec<FtIndex>, name: &[u
 }
 
 /// Takes the documents of an index's live rows out.
+#[tactic(auto, using(crate::proofs::MovingLaws::moves_same))]
 fn remove_live(store: &mut HashStore, indexes: &mut [FtIndex], dropped: &mut FtIndex)
     ensures space { store.new.space
         ≡ fold erase_id store.old.space (map (λ row. row.0) dropped.old.table.live) }
     ensures rest { store.new ≡ record store.old { space = store.new.space } }
     ensures kept { (next : ℕ) → InStep store.old indexes.old next → InStep store.new indexes.new next }
     ensures definitions { definitions_of indexes.new ≡ definitions_of indexes.old }
+    ensures moves { (event : ℕ) → IndexesMove event indexes.old indexes.new }
 {
     'removing: while let Some(id) = dropped.table().next_live(0) {
         remove_id(store, indexes, id);

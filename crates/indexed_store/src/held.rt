@@ -1,10 +1,11 @@
 //! The documents, the indexes over them and the cursors as one value, in which each index always stands for the documents.
 //! Here it begins and changes; what is asked and prepared of one part stands with that part: `reading.rt` and `answering.rt`,
-//! `index_list.rt` and `creation.rt`, `counting.rt`, `waiting.rt`.
+//! `index_list.rt` and `creation.rt`, `counting.rt`, `collecting.rt`, `waiting.rt`.
 ghost use Rattle.std.specs.Prelude.{◌≡◌, ◌≤◌, ◌<◌, ◌+◌, ℕ, false, length, IfOk};
 ghost use Rattle.ft_meaning.specs.Meaning.{ValuesFit};
 ghost use Rattle.indexed_store.specs.Changing.{changed, is_write};
 ghost use Rattle.indexed_store.specs.Holding.{AllStand, HaveDistinctKeys, begun, nothing_held, state_of};
+ghost use Rattle.indexed_store.specs.Moving.{IndexesMove};
 ghost use Rattle.indexed_store.specs.Preparing.{CanMake, HasNumber, Stays, WaitsFor};
 ghost use Rattle.indexed_store.specs.declared.change.Change.TheVariants.{Nothing};
 
@@ -121,6 +122,7 @@ impl IndexedStore {
     }
 
     /// Makes a change of the event of this number. It takes no memory.
+    #[tactic(auto, using(crate::proofs::MovingLaws::moves_same))]
     pub fn make(&mut self, number: u64, change: Change<'_>)
         requires { CanMake change number self.old }
         ensures state { state_of self.new ≡ changed change.entry self.old.waits self.old.opens (state_of self.old) }
@@ -128,6 +130,8 @@ impl IndexedStore {
         // Where no document and no definition changes, none is read.
         ensures quiet { is_write change.entry ≡ false → self.new.reads ≡ self.old.reads }
         ensures same { change.entry ≡ Nothing → self.new ≡ self.old }
+        // Each index was there and has only grown since, or is made in this event.
+        ensures moves { IndexesMove number self.old.indexes self.new.indexes }
     {
         match change {
             Change::Nothing => {}

@@ -5,6 +5,8 @@ ghost use Rattle.std.specs.Option.{option_copied};
 ghost use Rattle.hash_store.specs.Store.{Store};
 ghost use Rattle.ft_machine.specs.Definitions.{with_index};
 ghost use Rattle.indexed_store.specs.DefinitionsOf.{defined, definitions_of};
+ghost use Rattle.ft_index.specs.Coming.{IsFresh};
+ghost use Rattle.indexed_store.specs.Moving.{IndexesMove};
 ghost use Rattle.indexed_store.specs.Named.{is_named, without_named};
 ghost use Rattle.indexed_store.specs.Standing.{AreApart, IndexStands, InStep, markers_at};
 
@@ -53,6 +55,7 @@ pub fn replace_index(indexes: &mut [FtIndex], index: FtIndex)
         ≡ with_index (definitions_of indexes.old) (defined index) }
     ensures kept { (store : Store) (next : ℕ) → IndexStands store.space next (markers_at next) index
         → All (AreApart index) indexes.old → InStep store indexes.old next → InStep store indexes.new next }
+    ensures moves { (event : ℕ) → IsFresh event index → IndexesMove event indexes.old indexes.new }
 {
     if let Some(place) = place_of(indexes, index.def().name.as_slice()) {
         put(indexes, place, index);
@@ -77,7 +80,7 @@ pub fn take_index(indexes: &mut Vec<FtIndex>, name: &[u8]) -> Option<FtIndex>
 }
 
 /// The place of the index of a name.
-fn place_of(indexes: &[FtIndex], name: &[u8]) -> Option<usize>
+pub fn place_of(indexes: &[FtIndex], name: &[u8]) -> Option<usize>
     ensures { result ≡ position (is_named name.now) indexes.now }
 {
     indexes

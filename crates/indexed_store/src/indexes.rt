@@ -5,6 +5,7 @@ ghost use Rattle.ft_base.specs.Docs.{Doc};
 ghost use Rattle.ft_meaning.specs.Meaning.{ValuesFit};
 ghost use Rattle.indexed_store.specs.DefinitionsOf.{definitions_of};
 ghost use Rattle.indexed_store.specs.Indexing.{Awaits, killed, settled};
+ghost use Rattle.indexed_store.specs.Moving.{IndexesMove};
 ghost use Rattle.indexed_store.specs.Standing.{AreApart, IndexStands};
 
 use ft_base::{Doc, NoMemory};
@@ -13,6 +14,7 @@ use inverted_list::Markers;
 
 /// Puts a document's entries into each index, where nothing sees them yet. Where memory runs out,
 /// some indexes may have them.
+#[tactic(auto, using(crate::proofs::MovingLaws::moves_same))]
 pub fn prepare_all(
     indexes: &mut [FtIndex],
     doc: &Doc,
@@ -27,6 +29,7 @@ pub fn prepare_all(
     ensures definitions { definitions_of indexes.new ≡ definitions_of indexes.old }
     ensures waits { OnOk result (All (Awaits space doc.now) indexes.new) }
     ensures event { markers.new.event ≡ markers.old.event }
+    ensures moves { IndexesMove markers.old.event indexes.old indexes.new }
 {
     for index in indexes.iter_mut() {
         index.prepare(doc, markers)?;

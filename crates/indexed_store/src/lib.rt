@@ -11,6 +11,7 @@
 
 mod answering;
 mod change;
+mod collecting;
 mod counting;
 mod creation;
 mod dropping;

@@ -2,6 +2,7 @@
 ghost use Rattle.std.specs.Prelude.{◌≡◌, ◌<◌, ◌≤◌, ℕ, List, [], None, false, length, vec_capacity, IsTrue};
 ghost use Rattle.cursor_book.specs.declared.cursor.Cursor.{Cursor};
 ghost use Rattle.indexed_store.specs.Changing.{IsOfDocuments, IsReady, changed, is_change, is_write};
+ghost use Rattle.indexed_store.specs.Moving.{IndexesMove};
 ghost use Rattle.indexed_store.specs.Standing.{AreWritten, InStep};
 ghost use Rattle.indexed_store.specs.States.{state_with};
 ghost use Rattle.ft_machine.specs.Step.{last_number, next_number};
@@ -16,6 +17,7 @@ use ft_index::FtIndex;
 use hash_store::HashStore;
 
 /// Makes a change of the event with this number, where no cursor waits.
+#[tactic(auto, using(crate::proofs::MovingLaws::moves_same))]
 pub fn make(
     store: &mut HashStore,
     indexes: &mut Vec<FtIndex>,
@@ -33,6 +35,7 @@ pub fn make(
     ensures state { state_with store.new indexes.new.items cursors.new latest
         ≡ changed change.entry store.old.ready None (state_with store.old indexes.old.items cursors.old latest) }
     ensures kept { InStep store.new indexes.new.items (next_number number) }
+    ensures moves { IndexesMove number indexes.old.items indexes.new.items }
     ensures quiet { is_write change.entry ≡ false → store.new ≡ store.old }
     ensures few { length indexes.new.items ≤ MOST_INDEXES }
     ensures capacity { MOST_INDEXES ≤ vec_capacity indexes.new }
@@ -65,6 +68,7 @@ fn make_documents(store: &mut HashStore, indexes: &mut [FtIndex], number: u64, c
     ensures state { (cursors : List Cursor) (latest : ℕ) → state_with store.new indexes.new cursors latest
         ≡ changed change.entry store.old.ready None (state_with store.old indexes.old cursors latest) }
     ensures kept { InStep store.new indexes.new (next_number number) }
+    ensures moves { IndexesMove number indexes.old indexes.new }
     ensures quiet { is_write change.entry ≡ false → store.new ≡ store.old }
 {
     match change {

@@ -4,6 +4,7 @@ ghost use Rattle.ft_base.specs.Space.{erase};
 ghost use Rattle.hash_store.specs.Erasing.{erase_id};
 ghost use Rattle.indexed_store.specs.DefinitionsOf.{definitions_of};
 ghost use Rattle.ft_machine.specs.Definitions.{without_keys};
+ghost use Rattle.indexed_store.specs.Moving.{IndexesMove};
 ghost use Rattle.indexed_store.specs.Standing.{InStep};
 
 use crate::indexes::kill_all;
@@ -12,12 +13,14 @@ use ft_index::FtIndex;
 use hash_store::HashStore;
 
 /// Takes the documents of the keys out.
+#[tactic(auto, using(crate::proofs::MovingLaws::moves_same))]
 pub fn remove_all(store: &mut HashStore, indexes: &mut [FtIndex], keys: &Words<'_>)
     ensures space { store.new.space ≡ without_keys store.old.space keys.now }
     // Nothing else of the store changes.
     ensures rest { store.new ≡ record store.old { space = store.new.space } }
     ensures kept { (next : ℕ) → InStep store.old indexes.old next → InStep store.new indexes.new next }
     ensures definitions { definitions_of indexes.new ≡ definitions_of indexes.old }
+    ensures moves { (event : ℕ) → IndexesMove event indexes.old indexes.new }
 {
     for i in 0..keys.len() {
         remove(store, indexes, keys.word(i));
@@ -31,6 +34,7 @@ pub fn remove(store: &mut HashStore, indexes: &mut [FtIndex], key: &[u8])
     ensures rest { store.new ≡ record store.old { space = store.new.space } }
     ensures kept { (next : ℕ) → InStep store.old indexes.old next → InStep store.new indexes.new next }
     ensures definitions { definitions_of indexes.new ≡ definitions_of indexes.old }
+    ensures moves { (event : ℕ) → IndexesMove event indexes.old indexes.new }
 {
     if let Some(id) = store.erase(key) {
         kill_all(indexes, id);
@@ -44,6 +48,7 @@ pub fn remove_id(store: &mut HashStore, indexes: &mut [FtIndex], id: u64)
     ensures rest { store.new ≡ record store.old { space = store.new.space } }
     ensures kept { (next : ℕ) → InStep store.old indexes.old next → InStep store.new indexes.new next }
     ensures definitions { definitions_of indexes.new ≡ definitions_of indexes.old }
+    ensures moves { (event : ℕ) → IndexesMove event indexes.old indexes.new }
 {
     store.erase_id(id);
     kill_all(indexes, id);

@@ -18,6 +18,7 @@ pub struct CursorPlace {
 
 impl IndexedStore {
     /// Lets a cursor of this event wait until it is opened. Out of memory, nothing is seen of it.
+    #[tactic(auto, using(crate::proofs::MovingLaws::moves_same))]
     pub fn prepare_cursor(&mut self, cursor: Cursor) -> Result<(), NoMemory>
         requires number { HasNumber self.old }
         requires id { cursor.id ≡ self.old.next }

@@ -4,6 +4,7 @@ ghost use Rattle.std.specs.Prelude.{◌≡◌, ◌<◌, ◌+◌, ◌-◌, List, 
 ghost use Rattle.ft_base.specs.Docs.{Doc};
 ghost use Rattle.ft_base.specs.Space.{erase};
 ghost use Rattle.indexed_store.specs.Writing.{Waits, written};
+ghost use Rattle.indexed_store.specs.Moving.{IndexesMove};
 ghost use Rattle.indexed_store.specs.Standing.{AreWritten, InStep};
 ghost use Rattle.ft_machine.specs.Definitions.{all_tried};
 ghost use Rattle.indexed_store.specs.DefinitionsOf.{definitions_of};
@@ -34,6 +35,7 @@ fn prepare_write(
     ensures space { store.new.space ≡ store.old.space }
     ensures kept { InStep store.new indexes.new (doc.id + 1) }
     ensures definitions { definitions_of indexes.new ≡ definitions_of indexes.old }
+    ensures moves { IndexesMove doc.id indexes.old indexes.new }
 {
     let mut markers = Markers {
         event: doc.id(),
@@ -54,6 +56,7 @@ pub fn settle(store: &mut HashStore, indexes: &mut [FtIndex], number: u64, put: 
     ensures kept { InStep store.new indexes.new (number + 1) }
     ensures definitions { definitions_of indexes.new
         ≡ all_tried store.old.ready (definitions_of indexes.old) }
+    ensures moves { IndexesMove number indexes.old indexes.new }
 {
     let replaced = store.commit_put(put);
     commit_all(indexes, replaced);
@@ -73,12 +76,14 @@ pub fn settle_moved(
     ensures space { store.new.space ≡ erase (written store.old.ready store.old.space) from.now }
     ensures kept { InStep store.new indexes.new (number + 1) }
     ensures definitions { definitions_of indexes.new ≡ all_tried store.old.ready (definitions_of indexes.old) }
+    ensures moves { IndexesMove number indexes.old indexes.new }
 {
     settle(store, indexes, number, put);
     remove(store, indexes, from);
 }
 
 /// Lets a key's new hash wait, under a new id.
+#[tactic(auto, using(crate::proofs::MovingLaws::moves_same))]
 pub fn prepare_hash(
     store: &mut HashStore,
     indexes: &mut [FtIndex],
@@ -95,6 +100,7 @@ pub fn prepare_hash(
     ensures space { store.new.space ≡ store.old.space }
     ensures kept { InStep store.new indexes.new (id + 1) }
     ensures definitions { definitions_of indexes.new ≡ definitions_of indexes.old }
+    ensures moves { IndexesMove id indexes.old indexes.new }
 {
     let doc = Doc::new(alloc, id, key, hash)?;
     prepare_write(store, indexes, doc)

@@ -7,6 +7,7 @@ mod numbers;
 mod plans;
 mod postings;
 mod ranges;
+mod scans;
 mod splices;
 mod tables;
 mod tags;
@@ -24,4 +25,5 @@ pub fn put(alloc: Global, call: &str, words: &[Vec<u8>], out: &mut Answer) -> bo
         || ranges::put(alloc, call, words, out)
         || splices::put(alloc, call, words, out)
         || plans::put(alloc, call, words, out)
+        || scans::put(alloc, call, words, out)
 }

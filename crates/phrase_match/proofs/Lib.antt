@@ -5,3 +5,4 @@ pub mod OrderLaws
 pub mod AnyOrderLaws
 pub mod SearchLaws
 pub mod TextLaws
+pub mod TurnLaws

@@ -154,3 +154,7 @@ list_at i xs ys lists up lt is same =
       rest = drop_more lists i xs lt
           ∙ ap (λ zs. zs ∷ drop (i + 1) lists) (sym read);
     }
+
+-- the same of a list that is read with an empty one for none
+pub word_at : (i : ℕ) (xs : List ℕ) (lists : List (List ℕ)) → AllRise lists → i < length lists → xs ≡ get_or lists i [] → ListAt i xs lists
+word_at i xs lists up lt is = list_at i xs xs lists up lt (is ∙ get_or_default lists i [] xs lt) refl

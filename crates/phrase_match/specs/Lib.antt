@@ -1,3 +1,4 @@
 pub mod Look
 pub mod Phrase
 pub mod Places
+pub mod Turns

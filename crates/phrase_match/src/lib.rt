@@ -10,7 +10,11 @@ mod count;
 mod hints;
 mod look;
 mod order;
+mod turns;
 mod window;
 
 /// Whether places can be chosen that are distinct, close enough and, if asked for, in the words' order.
 pub use window::within;
+
+/// The same where words share lists.
+pub use window::within_in_turn;

@@ -5,17 +5,18 @@ ghost use Rattle.phrase_match.specs.Look.{Says};
 
 use crate::hints::Hints;
 use crate::look::{Look, earliest_start};
-use ft_base::ListOf;
+use crate::turns::Turns;
 
 /// No choice that rises from `low` on has its words earlier than this one. So where the window of this one is too
 /// wide for the first time, that of each such choice begins later.
-pub fn look_in_order(lists: &[ListOf<u32>], slop: Option<u32>, low: u32, hints: &mut Hints) -> Look
-    requires { AllRise lists.now }
-    ensures { Says lists.now slop true low result }
+pub fn look_in_order(words: &Turns, slop: Option<u32>, low: u32, hints: &mut Hints) -> Look
+    requires { AllRise words.now }
+    ensures { Says words.now slop true low result }
 {
     let mut next = u64::from(low);
-    'words: for (i, list) in lists.iter().enumerate() {
-        let Some(place) = hints.place_from(i, list.as_slice(), next, 0) else {
+    'words: for i in 0..words.len() {
+        let list = words.list(i);
+        let Some(place) = hints.place_from(i, list, next, 0) else {
             return Look::Nowhere;
         };
         let start = earliest_start(place, i, slop);

@@ -11,6 +11,7 @@ pub mod AskedLaws
 pub mod MeetLaws
 pub mod NameLaws
 pub mod HintLaws
+pub mod TurnLaws
 pub mod PlanLaws
 pub mod OtherLaws
 pub mod FoundLaws

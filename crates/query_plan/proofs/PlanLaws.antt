@@ -19,7 +19,7 @@ use Rattle.ft_meaning.specs.Meaning.{field_tokens, has_words}
 use Rattle.ft_meaning.proofs.HoldsLaws.{holds-All, holds-And, holds-Empty, holds-Not, holds-Optional, holds-Or}
 use Rattle.id_iters.specs.Entries.{codes_at, phrase_has, stand_together}
 use Rattle.id_iters.specs.Held.{Held, codes_of}
-use Rattle.id_iters.specs.Leaves.{list_has, list_names, phrase_ids, word_entries}
+use Rattle.id_iters.specs.Leaves.{list_has, phrase_ids, word_entries}
 use Rattle.id_iters.specs.Named.{Named, lies_at}
 use Rattle.id_iters.specs.Ready.{Ready}
 use Rattle.id_iters.specs.declared.list_name.ListName.{ListName}
@@ -29,10 +29,12 @@ use Rattle.phrase_match.specs.Phrase.{within}
 use Rattle.query_plan.specs.Asked.{asked_of_each}
 use Rattle.list_plan.specs.Plans.{AllReady, Joins, ids_of, some_has}
 use Rattle.query_plan.specs.Plans.{AllTell, Tells}
+use Rattle.query_plan.specs.Phrases.{AreOfWords}
 use Rattle.query_plan.specs.Sought.{all_sought, section_of, words_with}
 use Rattle.list_plan.specs.declared.size.Planned.{Planned}
 use Rattle.query_plan.proofs.AnyLaws.{any_cong}
 use Rattle.query_plan.proofs.AskedLaws.{section_as}
+use Rattle.query_plan.proofs.TurnLaws.{phrase_has_words}
 use Rattle.query_plan.proofs.MeetLaws.{phrase_meets, prefix_meets, range_meets, tags_meet, word_meets}
 
 module _ (def : IndexDef) (held : Held) (named : Named) where
@@ -89,14 +91,14 @@ module _ (def : IndexDef) (held : Held) (named : Named) where
       (λ place number above below. met place number (ap (λ (n : ℤ). int_le n number) is_low ∙ above) (ap (int_le number) is_high ∙ below))
 
   pub phrase_tells : (phrase : PhraseIter) (looked : Fields) (words : List (List ℕ)) (slop : Option ℕ) (in_order : Bool) (ids : ℕ → Bool)
-      → 0 < length words → ids ≡ phrase_ids held phrase → list_names phrase.words ≡ map (λ word. names.Word word) words
+      → 0 < length words → ids ≡ phrase_ids held phrase → AreOfWords words phrase.words phrase.order
       → phrase.fields ≡ looked → phrase.slop ≡ slop → phrase.in_order ≡ in_order
       → Tells def held named (λ doc. (has_of def doc).phrase looked words slop in_order) ids
-  phrase_tells phrase looked [] slop in_order ids some same are_named is_looked is_slop is_order = absurd (omega (arith, some))
-  phrase_tells phrase looked (word ∷ words) slop in_order ids some same are_named is_looked is_slop is_order = record {
+  phrase_tells phrase looked [] slop in_order ids some same of_words is_looked is_slop is_order = absurd (omega (arith, some))
+  phrase_tells phrase looked (word ∷ words) slop in_order ids some same of_words is_looked is_slop is_order = record {
     at = λ docs doc are among.
         ap (λ (set : ℕ → Bool). set doc.id) same
-        ∙ ap (λ ns. phrase_has phrase.fields phrase.slop phrase.in_order (map (word_entries held) ns) doc.id) are_named
+        ∙ phrase_has_words held phrase (word ∷ words) of_words doc.id
         ∙ ap (λ l. phrase_has l phrase.slop phrase.in_order (map (word_entries held) (map (λ w. names.Word w) (word ∷ words))) doc.id) is_looked
         ∙ ap (λ s. phrase_has looked s phrase.in_order (map (word_entries held) (map (λ w. names.Word w) (word ∷ words))) doc.id) is_slop
         ∙ ap (λ o. phrase_has looked slop o (map (word_entries held) (map (λ w. names.Word w) (word ∷ words))) doc.id) is_order

@@ -1,7 +1,8 @@
 //! Phrases as sets of ids.
-ghost use Rattle.std.specs.Prelude.{◌≡◌, ◌≤◌, ◌+◌, [], IfOk, IsSome, OnOk};
+ghost use Rattle.std.specs.Prelude.{◌≡◌, ◌≤◌, ◌+◌, ◌++◌, ◌∷◌, [], ℕ, List, Some, slice_get, IfOk, IsSome, IsTrue, OnOk};
 ghost use Rattle.ft_meaning.specs.Meaning.{has_words};
 ghost use Rattle.id_iters.specs.Fitting.{IsOpenAt, leaves_of};
+ghost use Rattle.id_iters.specs.Leaves.{list_names};
 ghost use Rattle.id_iters.specs.Places.{LeavesReady, WordReady};
 ghost use Rattle.id_iters.specs.Ready.{Ready};
 ghost use Rattle.list_plan.specs.Known.{KnownFit, place_of};
@@ -11,6 +12,7 @@ ghost use Rattle.query_plan.specs.Plans.{AllKnown, AllOpen, AlwaysReady, Gains, 
 use ft_base::{Bytes, Field, Fields, IndexDef, ListOf, NoMemory, Steps};
 use id_iters::{Iter, Leaf, ListName, Lists, PhraseIter};
 use list_plan::{Planned, Sources, Wanted, leaf_of, word_size};
+use std::collections::BTreeMap;
 use std::sync::ledger::Ledger;
 
 /// What is asked of a phrase.
@@ -60,7 +62,7 @@ fn phrase_iter<T: Lists, L: Ledger>(
     steps: &mut Steps<L>,
 ) -> Result<PhraseIter, NoMemory>
     requires { KnownFit (T.held sources.now.lists.now) sources.now.after (place_of sources.now.known.now) }
-    ensures words { IfOk result (λ iter. AreOfWords phrase.now.words.now iter.words) }
+    ensures words { IfOk result (λ iter. AreOfWords phrase.now.words.now iter.words iter.order) }
     ensures fields { IfOk result (λ iter. iter.fields ≡ phrase.now.fields.now) }
     ensures slop { IfOk result (λ iter. iter.slop ≡ phrase.now.slop) }
     ensures in_order { IfOk result (λ iter. iter.in_order ≡ phrase.now.in_order) }
@@ -72,11 +74,12 @@ fn phrase_iter<T: Lists, L: Ledger>(
         AllKnown (place_of sources.now.known.now) iter.words → steps.new ≡ steps.old) }
     ensures counts { steps.old ≤ steps.new }
 {
-    let words = phrase_leaves(sources, phrase, steps)?;
+    let made = phrase_leaves(sources, phrase, steps)?;
     let fields = phrase.fields.copy(sources.alloc)?;
     Ok(PhraseIter {
         alloc: sources.alloc,
-        words,
+        words: made.leaves,
+        order: made.order,
         fields,
         slop: phrase.slop,
         in_order: phrase.in_order,
@@ -136,43 +139,54 @@ fn least_size<T: Lists>(lists: &T, words: &[Bytes]) -> u64 {
     least
 }
 
-// A leaf for each word of a phrase.
+/// The leaves of the words of a phrase, one for words that are equal, and of each word the place of its leaf.
+#[derive(Drop)]
+struct WordLeaves {
+    leaves: ListOf<Leaf>,
+    order: ListOf<usize>,
+}
+
+// A leaf for each word of a phrase, and for equal words one.
 fn phrase_leaves<T: Lists, L: Ledger>(
     sources: &Sources<T>,
     phrase: &Phrase,
     steps: &mut Steps<L>,
-) -> Result<ListOf<Leaf>, NoMemory>
+) -> Result<WordLeaves, NoMemory>
     requires { KnownFit (T.held sources.now.lists.now) sources.now.after (place_of sources.now.known.now) }
-    ensures names { IfOk result (AreOfWords phrase.now.words.now) }
-    ensures ready { IfOk result (λ leaves.
-        LeavesReady (T.held sources.now.lists.now) leaves (sources.now.after + 1)) }
-    ensures placed { IfOk result (λ leaves.
-        AllOpen (T.held sources.now.lists.now) sources.now.after leaves) }
-    ensures free { IfOk result (λ leaves.
-        AllKnown (place_of sources.now.known.now) leaves → steps.new ≡ steps.old) }
+    ensures words { IfOk result (λ made. AreOfWords phrase.now.words.now made.leaves made.order) }
+    ensures ready { IfOk result (λ made.
+        LeavesReady (T.held sources.now.lists.now) made.leaves (sources.now.after + 1)) }
+    ensures placed { IfOk result (λ made.
+        AllOpen (T.held sources.now.lists.now) sources.now.after made.leaves) }
+    ensures free { IfOk result (λ made.
+        AllKnown (place_of sources.now.known.now) made.leaves → steps.new ≡ steps.old) }
     ensures counts { steps.old ≤ steps.new }
 {
-    let mut leaves = ListOf::new(sources.alloc);
-    add_leaves(sources, phrase, &mut leaves, steps)?;
-    Ok(leaves)
+    let mut made = WordLeaves {
+        leaves: ListOf::new(sources.alloc),
+        order: ListOf::new(sources.alloc),
+    };
+    add_leaves(sources, phrase, &mut made, steps)?;
+    Ok(made)
 }
 
-// The leaves of the words go into a list that has none.
+// The leaves of the words go where none are.
 fn add_leaves<T: Lists, L: Ledger>(
     sources: &Sources<T>,
     phrase: &Phrase,
-    leaves: &mut ListOf<Leaf>,
+    made: &mut WordLeaves,
     steps: &mut Steps<L>,
 ) -> Result<(), NoMemory>
     requires known { KnownFit (T.held sources.now.lists.now) sources.now.after (place_of sources.now.known.now) }
-    requires empty { leaves.old ≡ [] }
-    ensures names { OnOk result (AreOfWords phrase.now.words.now leaves.new) }
+    requires empty { made.old.leaves ≡ [] }
+    requires none { made.old.order ≡ [] }
+    ensures words { OnOk result (AreOfWords phrase.now.words.now made.new.leaves made.new.order) }
     ensures ready { OnOk result
-        (LeavesReady (T.held sources.now.lists.now) leaves.new (sources.now.after + 1)) }
+        (LeavesReady (T.held sources.now.lists.now) made.new.leaves (sources.now.after + 1)) }
     ensures placed { OnOk result
-        (AllOpen (T.held sources.now.lists.now) sources.now.after leaves.new) }
+        (AllOpen (T.held sources.now.lists.now) sources.now.after made.new.leaves) }
     ensures free { OnOk result
-        (AllKnown (place_of sources.now.known.now) leaves.new → steps.new ≡ steps.old) }
+        (AllKnown (place_of sources.now.known.now) made.new.leaves → steps.new ≡ steps.old) }
     ensures counts { steps.old ≤ steps.new }
 {
     let wanted = Wanted {
@@ -180,9 +194,68 @@ fn add_leaves<T: Lists, L: Ledger>(
         low: 0,
         high: 0,
     };
+    let mut places = BTreeMap::new(sources.alloc);
     'words: for word in phrase.words {
-        add_leaf(leaves, word_leaf(sources, word, &wanted, steps))?;
+        let place = place_in(&places, word.as_slice());
+        if is_of_word(made.leaves.as_slice(), place, word.as_slice()) {
+            made.order.push(place)?;
+            continue;
+        }
+        places.insert(word.as_slice(), made.leaves.len())?;
+        add_word(sources, word, &wanted, made, steps)?;
     }
+    Ok(())
+}
+
+// The place that is kept of a word. It only saves a search, as the leaf there is looked at.
+fn place_in(places: &BTreeMap<&[u8], usize>, word: &[u8]) -> usize {
+    match places.get(word) {
+        Some(place) => *place,
+        None => usize::MAX,
+    }
+}
+
+// Whether the leaf at a place is that of a word.
+fn is_of_word(leaves: &[Leaf], place: usize, word: &[u8]) -> bool
+    ensures { IsTrue result → slice_get (list_names leaves.now) place ≡ Some (ListName.Word word.now) }
+{
+    match leaves.get(place) {
+        Some(leaf) => names_word(&leaf.list, word),
+        None => false,
+    }
+}
+
+// Whether a list is that of a word.
+fn names_word(list: &ListName, word: &[u8]) -> bool
+    ensures { IsTrue result → list.now ≡ ListName.Word word.now }
+{
+    match list {
+        ListName::Word { text } => text.as_slice() == word,
+        _ => false,
+    }
+}
+
+// The leaf of a word goes behind the others, and its place behind those of the words before.
+fn add_word<T: Lists, L: Ledger>(
+    sources: &Sources<T>,
+    word: &Bytes,
+    wanted: &Wanted,
+    made: &mut WordLeaves,
+    steps: &mut Steps<L>,
+) -> Result<(), NoMemory>
+    requires { KnownFit (T.held sources.now.lists.now) sources.now.after (place_of sources.now.known.now) }
+    ensures words { OnOk result ((words : List (List ℕ)) → AreOfWords words made.old.leaves made.old.order
+        → AreOfWords (words ++ word.now ∷ []) made.new.leaves made.new.order) }
+    ensures ready { OnOk result (LeavesReady (T.held sources.now.lists.now) made.old.leaves (sources.now.after + 1)
+        → LeavesReady (T.held sources.now.lists.now) made.new.leaves (sources.now.after + 1)) }
+    ensures placed { OnOk result (AllOpen (T.held sources.now.lists.now) sources.now.after made.old.leaves
+        → AllOpen (T.held sources.now.lists.now) sources.now.after made.new.leaves) }
+    ensures free { OnOk result (AllKnown (place_of sources.now.known.now) made.new.leaves
+        → (AllKnown (place_of sources.now.known.now) made.old.leaves) × (steps.new ≡ steps.old)) }
+    ensures counts { steps.old ≤ steps.new }
+{
+    made.order.push(made.leaves.len())?;
+    add_leaf(&mut made.leaves, word_leaf(sources, word, wanted, steps))?;
     Ok(())
 }
 

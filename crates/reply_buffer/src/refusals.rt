@@ -28,7 +28,6 @@ pub fn put_refusal(name: &[u8], fault: CmdFault, out: &mut Vec<u8>)
         CmdFault::OutOfScope { at } => put_at(b"ERR not supported at word ", at, out),
         CmdFault::NotInteger => put_fault(out, b"ERR value is not an integer or out of range"),
         CmdFault::BadDb => put_fault(out, b"ERR DB index is out of range"),
-        CmdFault::NotBuilt => put_fault(out, b"ERR not built"),
         CmdFault::Schema(fault) => put_schema_refusal(fault, out),
         CmdFault::NoMemory => put_no_memory(out),
     }

@@ -1,6 +1,6 @@
 //! How a connection ends, with the place of a fault, the words of the command line that are refused, and the statuses of
 //! exits.
-use crate::links::{HSET, NONE, NOT_BUILT, QUIT, link_of, run_words, serve};
+use crate::links::{HSET, NONE, QUIT, TOO_SHORT, link_of, run_words, serve};
 use ft_server::{End, Exit};
 use resp_wire::WireFault;
 use std::alloc::Global;
@@ -78,7 +78,7 @@ fn a_command_has_at_most_16_mib(rt: HostRuntime) {
 
 /// Whether the program refuses these words, and writes nothing to its link.
 fn is_refused<R: RandomSource + Wait>(rt: &R, alloc: Global, words: &[&str]) -> bool {
-    match link_of(alloc, &[NOT_BUILT], &NONE) {
+    match link_of(alloc, &[TOO_SHORT], &NONE) {
         Some(mut link) => {
             let ended = run_words(rt, alloc, words, &mut link);
             (ended == Some(Exit::Usage)) & link.output().is_empty()

@@ -16,8 +16,8 @@ use std::sync::Wait;
 /// A command that answers `:1`.
 pub const HSET: &[u8] = b"*4\r\n$4\r\nHSET\r\n$2\r\nd1\r\n$1\r\nt\r\n$11\r\nHello world\r\n";
 
-/// A command that is known, and not built.
-pub const NOT_BUILT: &[u8] = b"*2\r\n$8\r\nFT.DEBUG\r\n$2\r\nix\r\n";
+/// A command that has a word too few.
+pub const TOO_SHORT: &[u8] = b"*2\r\n$8\r\nFT.DEBUG\r\n$2\r\nix\r\n";
 
 pub const QUIT: &[u8] = b"*1\r\n$4\r\nqUIt\r\n";
 

@@ -20,13 +20,13 @@ pub struct StdLink<R: Read + Drop, W: Write + Drop> {
 impl<R: Read + Drop, W: Write + Drop> Model for StdLink<R, W> {
     ghost Value = { Faults };
 
-    ghost view = { λ link. record { reads = link.read_faults; writes = link.write_faults } };
+    ghost view = { λ link. record { reads = link.read_faults; writes = link.write_faults; stalls = 0 } };
 }
 
 impl<R: Read + Drop, W: Write + Drop> StdLink<R, W> {
     /// A link that has not failed yet.
     pub fn new(reader: R, writer: W) -> StdLink<R, W>
-        ensures { result ≡ record { reads = 0; writes = 0 } }
+        ensures { result ≡ record { reads = 0; writes = 0; stalls = 0 } }
     {
         StdLink {
             reader,

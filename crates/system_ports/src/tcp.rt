@@ -2,7 +2,11 @@
 //!
 //! A peer that vanishes shows as a read or a write that fails, and nowhere else. The standard
 //! library writes to sockets so that a peer that is gone raises no signal.
+//!
+//! A write that is only tried waits for a moment. Where that is not enough the peer is slow to read, and from then on tried
+//! writes do not wait at all, until the connection is read or written as usual again.
 ghost use Rattle.std.specs.Prelude.{◌≡◌, None, false, IfOk};
+ghost use Rattle.std.specs.Io.{ReadsAtMost, WritesAtMost};
 ghost use Rattle.fs_ports.specs.Doors.{AtDoor};
 ghost use Rattle.system_ports.specs.Faults.{Faults};
 
@@ -11,31 +15,61 @@ use std::io;
 use std::io::{ErrorKind, Read, Write};
 use std::marker::Model;
 use std::net::{Ipv4Addr, Net, Shutdown, TcpListener, TcpStream};
+use std::time::Duration;
+
+/// The milliseconds that a tried write waits at the most. The system rounds them up to its own steps.
+const WRITE_WAIT: u64 = 1;
+
+/// The milliseconds that a tried read waits at the most.
+const READ_WAIT: u64 = 5;
 
 /// A connection.
 #[derive(Drop)]
 pub struct TcpLink {
     // None where the peer was gone before the connection was accepted.
     stream: Option<TcpStream>,
+    // Whether the peer is slow to read, so that no call of the stream waits.
+    slow: bool,
     read_faults: u64,
     write_faults: u64,
+    stalls: u64,
 }
 
 impl Model for TcpLink {
     ghost Value = { Faults };
 
-    ghost view = { λ link. record { reads = link.read_faults; writes = link.write_faults } };
+    ghost view = { λ link. record {
+      reads = link.read_faults;
+      writes = link.write_faults;
+      stalls = link.stalls;
+    } };
 }
 
 impl TcpLink {
     // A link that has not failed yet.
     fn new(stream: Option<TcpStream>) -> TcpLink
-        ensures { result ≡ record { reads = 0; writes = 0 } }
+        ensures { result ≡ record { reads = 0; writes = 0; stalls = 0 } }
     {
         TcpLink {
             stream,
+            slow: false,
             read_faults: 0,
             write_faults: 0,
+            stalls: 0,
+        }
+    }
+
+    // From here on calls of the stream do not wait, or wait again.
+    fn be_slow(&mut self, slow: bool)
+        ensures { self.new ≡ self.old }
+    {
+        if self.slow == slow {
+            return;
+        }
+        if let Some(stream) = &self.stream {
+            if stream.set_nonblocking(slow).is_ok() {
+                self.slow = slow;
+            }
         }
     }
 }
@@ -49,7 +83,10 @@ impl Link for TcpLink {
 
     ghost write_faults = { λ link. link.writes };
 
+    ghost stalls = { λ link. link.stalls };
+
     fn read(&mut self, buf: &mut [u8]) -> Result<usize, Failed> {
+        self.be_slow(false);
         if let Some(stream) = &mut self.stream {
             if let Ok(count) = stream.read(buf) {
                 return Ok(count);
@@ -60,8 +97,9 @@ impl Link for TcpLink {
     }
 
     fn write(&mut self, piece: &[u8]) -> Result<usize, Failed> {
+        self.be_slow(false);
         if let Some(stream) = &mut self.stream {
-            match stream.write(piece) {
+            match write_waiting(stream, piece) {
                 Ok(count) if count > 0 || piece.is_empty() => return Ok(count),
                 _ => {}
             }
@@ -69,6 +107,71 @@ impl Link for TcpLink {
         self.write_faults = self.write_faults.saturating_add(1);
         Err(Failed)
     }
+
+    fn try_read(&mut self, buf: &mut [u8]) -> Result<Option<usize>, Failed> {
+        self.be_slow(true);
+        if let Some(stream) = &mut self.stream {
+            match read_for_a_while(stream, buf) {
+                Ok(count) => return Ok(Some(count)),
+                Err(fault) if fault.kind() == ErrorKind::WouldBlock => return Ok(None),
+                Err(_) => {}
+            }
+        }
+        self.read_faults = self.read_faults.saturating_add(1);
+        Err(Failed)
+    }
+
+    fn try_write(&mut self, piece: &[u8]) -> Result<Option<usize>, Failed> {
+        if let Some(stream) = &mut self.stream {
+            match stream.write(piece) {
+                Ok(count) if count > 0 || piece.is_empty() => return Ok(Some(count)),
+                Err(fault) if fault.kind() == ErrorKind::WouldBlock => {
+                    self.be_slow(true);
+                    self.stalls = self.stalls.saturating_add(1);
+                    return Ok(None);
+                }
+                _ => {}
+            }
+        }
+        self.write_faults = self.write_faults.saturating_add(1);
+        Err(Failed)
+    }
+}
+
+// Writes a front of the piece, however long that waits, to a stream whose writes wait for a moment.
+fn write_waiting(stream: &mut TcpStream, piece: &[u8]) -> io::Result<usize>
+    ensures { WritesAtMost result piece.now }
+{
+    match stream.write(piece) {
+        Err(fault) if fault.kind() == ErrorKind::WouldBlock => {}
+        went => return went,
+    }
+    stream.set_write_timeout(None)?;
+    let went = stream.write(piece);
+    stream.set_write_timeout(Some(Duration::from_millis(WRITE_WAIT)))?;
+    went
+}
+
+// Reads what comes within a while, from a stream whose calls do not wait.
+fn read_for_a_while(stream: &mut TcpStream, buf: &mut [u8]) -> io::Result<usize>
+    ensures { ReadsAtMost result buf.new }
+{
+    match stream.read(buf) {
+        Err(fault) if fault.kind() == ErrorKind::WouldBlock => {}
+        came => return came,
+    }
+    stream.set_nonblocking(false)?;
+    stream.set_read_timeout(Some(Duration::from_millis(READ_WAIT)))?;
+    let came = stream.read(buf);
+    stream.set_read_timeout(None)?;
+    stream.set_nonblocking(true)?;
+    came
+}
+
+// Without the first a reply may come later, and is the same. Without the second each write waits until the peer reads.
+fn make_ready(stream: &TcpStream) -> io::Result<()> {
+    stream.set_nodelay(true)?;
+    stream.set_write_timeout(Some(Duration::from_millis(WRITE_WAIT)))
 }
 
 /// A listener that may be shared with further doors. It never ends.
@@ -128,8 +231,7 @@ impl Door for TcpDoor {
     fn accept(&mut self) -> Result<Option<TcpLink>, Failed> {
         match self.listener.accept() {
             Ok((stream, _)) => {
-                // Without it a reply may come later, and is the same.
-                if stream.set_nodelay(true).is_err() {
+                if make_ready(&stream).is_err() {
                     self.faults = self.faults.saturating_add(1);
                 }
                 self.out = true;

@@ -73,7 +73,7 @@ fn plan_over(alloc: Global, index: &FtIndex, text: &[u8]) -> Result<Option<Iter>
     }
 }
 
-// An index of every key, with the TEXT field `t`.
+// An index of every key, with the TEXT field `t`, the TAG field `g` and the NUMERIC field `n`.
 fn begin(
     alloc: Global,
     markers: &mut Markers,
@@ -82,19 +82,21 @@ fn begin(
     ensures last { IfOk result (λ begun. IfSome begun (λ index. index.table.last ≡ 0)) }
     ensures before { IfOk result (λ begun. IfSome begun (λ index. AreBefore markers.new index.lists)) }
 {
-    let def = index_of(alloc, b"STOPWORDS 0", b"t TEXT", out)?;
+    let def = index_of(alloc, b"STOPWORDS 0", b"t TEXT g TAG n NUMERIC", out)?;
     if 5 < def.fields.len() {
         return Ok(None);
     }
     Ok(Some(FtIndex::new(alloc, def, markers)?))
 }
 
-// A document with that text.
+// A document with that text, which is its tags too, and with the number 7.
 fn doc(alloc: Global, id: u64, text: &[u8]) -> Result<Doc, NoMemory>
     ensures { IfOk result (λ doc. doc.id ≡ id) }
 {
     let mut hash = HashRec::new(alloc);
     hash.put(b"t", text)?;
+    hash.put(b"g", text)?;
+    hash.put(b"n", b"7")?;
     Doc::new(alloc, id, b"", hash)
 }
 
@@ -123,8 +125,12 @@ fn write(index: &mut FtIndex, markers: &mut Markers, doc: &Doc) -> Result<(), No
     Ok(())
 }
 
-// The documents of the row, with the ids from 1 on.
-fn filled(alloc: Global, words: &[Vec<u8>], out: &mut Answer) -> Result<Option<FtIndex>, NoMemory> {
+/// The documents of the row, with the ids from 1 on.
+pub fn filled(
+    alloc: Global,
+    words: &[Vec<u8>],
+    out: &mut Answer,
+) -> Result<Option<FtIndex>, NoMemory> {
     let mut markers = Markers { event: 1, next: 0 };
     let Some(mut index) = begin(alloc, &mut markers, out)? else {
         return Ok(None);

@@ -4,7 +4,7 @@
 //! waits, `compact:` gives it up. The numbers stand with commas between them, `none` for one that is missing.
 //! `kill:ID` takes a document out and tells whether it was live, `live:ID` tells whether it is. `number:ID:PLACE` gives
 //! a document's number at a place, `next:ID` the least live id from there on, `ids:` how many live ids there are, and
-//! these.
+//! these, and `bit:ID` whether an id is live by a copy of the bits.
 ghost use Rattle.std.specs.Prelude.{◌≡◌, ◌<◌, Some};
 ghost use Rattle.std.specs.Option.{option_map};
 
@@ -115,7 +115,15 @@ fn ask(table: &DocTable, verb: &str, id: u64, place: usize, near: &mut usize, ou
         }
         "next" => put_found(table.next_live(id), out),
         "ids" => put_ids(table, out),
+        "bit" => put_bit(table, id, out),
         _ => {}
+    }
+}
+
+fn put_bit(table: &DocTable, id: u64, out: &mut Answer) {
+    match table.live_bits() {
+        Ok(ids) => put_truth(ids.contains(id), out),
+        Err(_) => out.fail(),
     }
 }
 

@@ -15,4 +15,5 @@ loop-at-preserved g c =
       left = Keeps-trans _ _ _ c.loop-at.invariant.left c.in-Ok.ensures.left;
       later = omega (arith, c.loop-at.invariant.later, c.in-Ok.ensures.cause.later);
       other = c.in-Ok.ensures.other ∙ c.loop-at.invariant.other;
+      stalled = omega (arith, c.loop-at.invariant.stalled, c.in-Ok.ensures.stalled);
     }

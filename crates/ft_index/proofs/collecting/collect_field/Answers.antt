@@ -1,9 +1,9 @@
 use Rattle.std.proofs.Common.{◌≡◌, ◌∷◌, ◌+◌, ◌∙◌, ap, arith, drop, refl, sym, subst}
 use Rattle.ft_index.specs.Collecting.{LiveBut, RowsLiveBut}
-use Rattle.ft_index.specs.Markers.{tag_marker}
+use Rattle.ft_index.specs.Markers.{tag_list, tag_marker}
 use Rattle.term_dict.specs.Tags.{tags_of}
 use Rattle.ft_index.proofs.CollectLaws.{but-next, but-none, but-rows, left-next, left-none, rows-all, tags-again, tags-same}
-use Rattle.ft_index.proofs.TakingLaws.{before-taken, takes-again, takes-none}
+use Rattle.ft_index.proofs.TakingLaws.{before-taken, lists-again, lists-none}
 use Rattle.ft_index.proofs.collecting.collect_field.Goals as goal
 
 pub returns-in_err-walk-clause-thin : goal.returns-in_err-walk-clause-thin
@@ -22,12 +22,12 @@ loop-name-init g c =
           (subst (λ names. RowsLiveBut live names (tags_of tags c.args.field)) (sym c.as_slice-name-items.ensures)
           (subst (RowsLiveBut live c.in_ok-names.names) (c.in_ok-walk.ensures ∙ rows-all (tags_of tags c.args.field)) c.in_ok-names.ensures));
       others = λ other away tag. refl;
-      takes = takes-none c.args.markers.now (tag_marker tags);
+      takes = lists-none c.args.markers.now (tag_list tags);
     }
 
 pub collect_tag-requires : goal.collect_tag-requires
 collect_tag-requires g c = record {
-  before = before-taken c.args.markers.now c.loop-name.markers (tag_marker c.args.tags.now) (tag_marker c.loop-name.tags) c.requires.before c.loop-name.invariant.takes;
+  before = before-taken c.args.markers.now c.loop-name.markers (tag_marker c.args.tags.now) (tag_marker c.loop-name.tags) c.requires.before c.loop-name.invariant.takes.markers;
 }
 
 pub returns-in_err-collect_tag-clause-thin : goal.returns-in_err-collect_tag-clause-thin
@@ -39,7 +39,7 @@ returns-in_err-collect_tag-clause-others g c = λ other away tag. c.collect_tag.
 
 pub returns-in_err-collect_tag-clause-takes : goal.returns-in_err-collect_tag-clause-takes
 returns-in_err-collect_tag-clause-takes g c =
-    takes-again c.args.markers.now c.loop-name.markers c.collect_tag.new.markers (tag_marker c.args.tags.now) (tag_marker c.loop-name.tags) (tag_marker c.collect_tag.new.tags)
+    lists-again c.args.markers.now c.loop-name.markers c.collect_tag.new.markers (tag_list c.args.tags.now) (tag_list c.loop-name.tags) (tag_list c.collect_tag.new.tags)
     c.requires.before c.loop-name.invariant.takes c.collect_tag.ensures.takes
 
 pub loop-name-preserved : goal.loop-name-preserved
@@ -54,7 +54,7 @@ loop-name-preserved g c =
       but = but-next live c.as_slice.result.now (drop (k + 1) names) (tags_of c.loop-name.tags c.args.field) (tags_of c.collect_tag.new.tags c.args.field)
           (subst (λ left. LiveBut live left (tags_of c.loop-name.tags c.args.field)) front c.loop-name.invariant.but) c.in_ok-collect_tag.ensures.here c.collect_tag.ensures.others;
       others = λ other away tag. c.collect_tag.ensures.fields other away tag ∙ c.loop-name.invariant.others other away tag;
-      takes = takes-again c.args.markers.now c.loop-name.markers c.collect_tag.new.markers (tag_marker c.args.tags.now) (tag_marker c.loop-name.tags) (tag_marker c.collect_tag.new.tags)
+      takes = lists-again c.args.markers.now c.loop-name.markers c.collect_tag.new.markers (tag_list c.args.tags.now) (tag_list c.loop-name.tags) (tag_list c.collect_tag.new.tags)
           c.requires.before c.loop-name.invariant.takes c.collect_tag.ensures.takes;
     }
 
@@ -63,3 +63,9 @@ returns-clause-here g c =
     let live = g.L.Live.is c.args.live.now in
     but-none live (tags_of c.loop-name.tags c.args.field)
     (subst (λ left. LiveBut live left (tags_of c.loop-name.tags c.args.field)) (left-none c.as_slice-name-items.result.now c.loop-name.name-index (omega (arith, c.loop-name-test.false))) c.loop-name.invariant.but)
+
+pub returns-in_err-walk-clause-takes : goal.returns-in_err-walk-clause-takes
+returns-in_err-walk-clause-takes g c = lists-none c.args.markers.now (tag_list c.args.tags.now)
+
+pub returns-in_err-names-clause-takes : goal.returns-in_err-names-clause-takes
+returns-in_err-names-clause-takes g c = lists-none c.args.markers.now (tag_list c.args.tags.now)

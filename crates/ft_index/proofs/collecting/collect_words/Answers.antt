@@ -2,7 +2,8 @@ use Rattle.std.proofs.Common.{◌≡◌, ◌∷◌, ◌+◌, ◌∙◌, ap, arit
 use Rattle.ft_index.specs.Collecting.{LiveBut, RowsLiveBut}
 use Rattle.ft_index.specs.Markers.{word_marker}
 use Rattle.ft_index.proofs.CollectLaws.{but-next, but-none, but-rows, left-next, left-none, rows-all, thin-again, thin-same}
-use Rattle.ft_index.proofs.TakingLaws.{before-taken, takes-again, takes-none}
+use Rattle.ft_index.proofs.TakingLaws.{before-taken, lists-again, lists-none}
+use Rattle.term_dict.specs.Terms.{list_of}
 use Rattle.ft_index.proofs.collecting.collect_words.Goals as goal
 
 pub returns-in_err-walk-clause-thin : goal.returns-in_err-walk-clause-thin
@@ -20,12 +21,12 @@ loop-word-init g c =
       but = but-rows live c.as_slice-word-items.result.now terms
           (subst (λ words. RowsLiveBut live words terms) (sym c.as_slice-word-items.ensures)
           (subst (RowsLiveBut live c.in_ok-words.words) (c.in_ok-walk.ensures ∙ rows-all terms) c.in_ok-words.ensures));
-      takes = takes-none c.args.markers.now (word_marker terms);
+      takes = lists-none c.args.markers.now (list_of terms);
     }
 
 pub collect_word-requires : goal.collect_word-requires
 collect_word-requires g c = record {
-  before = before-taken c.args.markers.now c.loop-word.markers (word_marker c.args.terms.now) (word_marker c.loop-word.terms) c.requires.before c.loop-word.invariant.takes;
+  before = before-taken c.args.markers.now c.loop-word.markers (word_marker c.args.terms.now) (word_marker c.loop-word.terms) c.requires.before c.loop-word.invariant.takes.markers;
 }
 
 pub returns-in_err-collect_word-clause-thin : goal.returns-in_err-collect_word-clause-thin
@@ -34,7 +35,7 @@ returns-in_err-collect_word-clause-thin g c =
 
 pub returns-in_err-collect_word-clause-takes : goal.returns-in_err-collect_word-clause-takes
 returns-in_err-collect_word-clause-takes g c =
-    takes-again c.args.markers.now c.loop-word.markers c.collect_word.new.markers (word_marker c.args.terms.now) (word_marker c.loop-word.terms) (word_marker c.collect_word.new.terms)
+    lists-again c.args.markers.now c.loop-word.markers c.collect_word.new.markers (list_of c.args.terms.now) (list_of c.loop-word.terms) (list_of c.collect_word.new.terms)
     c.requires.before c.loop-word.invariant.takes c.collect_word.ensures.takes
 
 pub loop-word-preserved : goal.loop-word-preserved
@@ -48,7 +49,7 @@ loop-word-preserved g c =
       thin = thin-again live c.args.terms.now c.loop-word.terms c.collect_word.new.terms c.loop-word.invariant.thin c.collect_word.ensures.thin;
       but = but-next live c.as_slice.result.now (drop (k + 1) words) c.loop-word.terms c.collect_word.new.terms
           (subst (λ left. LiveBut live left c.loop-word.terms) front c.loop-word.invariant.but) c.in_ok-collect_word.ensures.here c.collect_word.ensures.others;
-      takes = takes-again c.args.markers.now c.loop-word.markers c.collect_word.new.markers (word_marker c.args.terms.now) (word_marker c.loop-word.terms) (word_marker c.collect_word.new.terms)
+      takes = lists-again c.args.markers.now c.loop-word.markers c.collect_word.new.markers (list_of c.args.terms.now) (list_of c.loop-word.terms) (list_of c.collect_word.new.terms)
           c.requires.before c.loop-word.invariant.takes c.collect_word.ensures.takes;
     }
 
@@ -57,3 +58,9 @@ returns-clause-live g c =
     let live = g.L.Live.is c.args.live.now in
     but-none live c.loop-word.terms
     (subst (λ left. LiveBut live left c.loop-word.terms) (left-none c.as_slice-word-items.result.now c.loop-word.word-index (omega (arith, c.loop-word-test.false))) c.loop-word.invariant.but)
+
+pub returns-in_err-walk-clause-takes : goal.returns-in_err-walk-clause-takes
+returns-in_err-walk-clause-takes g c = lists-none c.args.markers.now (list_of c.args.terms.now)
+
+pub returns-in_err-words-clause-takes : goal.returns-in_err-words-clause-takes
+returns-in_err-words-clause-takes g c = lists-none c.args.markers.now (list_of c.args.terms.now)

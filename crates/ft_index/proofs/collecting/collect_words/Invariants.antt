@@ -1,6 +1,7 @@
 use Rattle.std.proofs.Common.{drop}
 use Rattle.ft_index.specs.Collecting.{LiveBut}
-use Rattle.ft_index.specs.Markers.{TakesMarkers, word_marker}
+use Rattle.ft_index.specs.Markers.{TakesLists}
+use Rattle.term_dict.specs.Terms.{list_of}
 use Rattle.ft_index.specs.Thinned.{WordsThin}
 use Rattle.ft_index.proofs.collecting.collect_words.Given as goal
 
@@ -9,5 +10,5 @@ abbrev pub invariant-loop-word : goal.invariant-loop-word
 invariant-loop-word g l = record {
   thin : WordsThin (g.L.Live.is l.live) l.fn.terms l.terms;
   but : LiveBut (g.L.Live.is l.live) (drop l.word-index l.word-items) l.terms;
-  takes : TakesMarkers l.fn.markers l.markers (word_marker l.fn.terms) (word_marker l.terms);
+  takes : TakesLists l.fn.markers l.markers (list_of l.fn.terms) (list_of l.terms);
 }

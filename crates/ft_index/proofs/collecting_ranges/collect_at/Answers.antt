@@ -1,12 +1,12 @@
 use Rattle.std.proofs.Common.{ℕ, set, slice_index_or, sym, subst, ap, inl, inr, Option}
 use Rattle.std.proofs.lemmas.Result.{on_ok_weaker}
 use Rattle.numeric_ranges.specs.Ranges.{Rows}
-use Rattle.ft_index.specs.Lists.{rows_of}
-use Rattle.ft_index.specs.Markers.{AllBefore, TakesMarkers, range_marker, slot_marker}
+use Rattle.ft_index.specs.Lists.{list_from, rows_of}
+use Rattle.ft_index.specs.Markers.{AllBefore, TakesLists, range_list, slot_marker}
 use Rattle.ft_index.specs.Thinned.{RowsLive, SlotThins}
 use Rattle.ft_index.proofs.FieldLaws.{decided}
 use Rattle.ft_index.proofs.SlotLaws.{rows-here, rows-set_here, rows-set_other}
-use Rattle.ft_index.proofs.TakingLaws.{takes-field}
+use Rattle.ft_index.proofs.TakingLaws.{lists-field}
 use Rattle.ft_index.proofs.ThinLaws.{slot-same}
 use Rattle.ft_index.proofs.collecting_ranges.collect_at.Goals as goal
 
@@ -40,8 +40,8 @@ pub returns-clause-takes : goal.returns-clause-takes
 returns-clause-takes g c =
     let ranges = c.args.ranges.now in
     let slot = c.collect_slot.new.slot in
-    takes-field c.args.number c.args.markers.now c.collect_slot.new.markers (range_marker ranges) (range_marker (set ranges c.args.number slot)) c.requires.before
-    (subst (λ (old : Option Rows). TakesMarkers c.args.markers.now c.collect_slot.new.markers (slot_marker old) (slot_marker (rows_of (set ranges c.args.number slot) c.args.number))) (sym (rows-here ranges c.args.number c.index-ranges-number.result c.requires.within))
-    (subst (λ (new : Option Rows). TakesMarkers c.args.markers.now c.collect_slot.new.markers (slot_marker (slice_index_or ranges c.args.number c.index-ranges-number.result)) (slot_marker new))
+    lists-field c.args.number c.args.markers.now c.collect_slot.new.markers (range_list ranges) (range_list (set ranges c.args.number slot)) c.requires.before
+    (subst (λ (old : Option Rows). TakesLists c.args.markers.now c.collect_slot.new.markers (list_from old) (list_from (rows_of (set ranges c.args.number slot) c.args.number))) (sym (rows-here ranges c.args.number c.index-ranges-number.result c.requires.within))
+    (subst (λ (new : Option Rows). TakesLists c.args.markers.now c.collect_slot.new.markers (list_from (slice_index_or ranges c.args.number c.index-ranges-number.result)) (list_from new))
     (sym (rows-set_here ranges c.args.number slot c.requires.within)) c.collect_slot.ensures.takes))
-    (λ name away. ap (λ (found : Option Rows). slot_marker found name.1) (rows-set_other ranges c.args.number slot name.0 away))
+    (λ name away. ap (λ (found : Option Rows). list_from found name.1) (rows-set_other ranges c.args.number slot name.0 away))

@@ -1,6 +1,6 @@
 use Rattle.std.proofs.Common.{◌<◌, ℕ}
 use Rattle.ft_index.specs.Lists.{rows_of}
-use Rattle.ft_index.specs.Markers.{TakesMarkers, range_marker}
+use Rattle.ft_index.specs.Markers.{TakesLists, range_list}
 use Rattle.ft_index.specs.Thinned.{RangesThin, RowsLive}
 use Rattle.ft_index.proofs.collecting_ranges.collect_ranges.Given as goal
 
@@ -9,5 +9,5 @@ abbrev pub invariant-fields : goal.invariant-fields
 invariant-fields g l = record {
   thin : RangesThin (g.L.Live.is l.live) l.fn.ranges l.ranges;
   live : (field : ℕ) → field < l.number → RowsLive (g.L.Live.is l.live) (rows_of l.ranges field);
-  takes : TakesMarkers l.fn.markers l.markers (range_marker l.fn.ranges) (range_marker l.ranges);
+  takes : TakesLists l.fn.markers l.markers (range_list l.fn.ranges) (range_list l.ranges);
 }

@@ -11,8 +11,9 @@ use Rattle.ft_index.specs.Collecting.{LowsLiveBut}
 use Rattle.ft_index.specs.Markers.{slot_marker}
 use Rattle.ft_index.proofs.CollectLaws.{left-none}
 use Rattle.ft_index.proofs.RowLaws.{lows-next, lows-none}
-use Rattle.ft_index.proofs.TakingLaws.{before-taken, takes-again, takes-none}
+use Rattle.ft_index.proofs.TakingLaws.{before-taken, lists-again, lists-none}
 use Rattle.ft_index.proofs.ThinLaws.{rows-again, rows-same}
+use Rattle.ft_index.specs.Lists.{list_from}
 use Rattle.ft_index.proofs.collecting_ranges.collect_rows.Goals as goal
 
 pub returns-in_err-lows-clause-thin : goal.returns-in_err-lows-clause-thin
@@ -25,12 +26,12 @@ loop-low-init g c =
     record {
       thin = rows-same live rows;
       but = subst (λ lows. LowsLiveBut live lows rows) (sym c.as_slice-low-items.ensures.value) c.in_ok-lows.ensures;
-      takes = takes-none c.args.markers.now (slot_marker (Some rows));
+      takes = lists-none c.args.markers.now (list_from (Some rows));
     }
 
 pub collect_row-requires : goal.collect_row-requires
 collect_row-requires g c = record {
-  before = before-taken c.args.markers.now c.loop-low.markers (slot_marker (Some c.args.rows.now)) (slot_marker (Some c.loop-low.rows)) c.requires.before c.loop-low.invariant.takes;
+  before = before-taken c.args.markers.now c.loop-low.markers (slot_marker (Some c.args.rows.now)) (slot_marker (Some c.loop-low.rows)) c.requires.before c.loop-low.invariant.takes.markers;
 }
 
 pub returns-in_err-collect_row-clause-thin : goal.returns-in_err-collect_row-clause-thin
@@ -39,7 +40,7 @@ returns-in_err-collect_row-clause-thin g c =
 
 pub returns-in_err-collect_row-clause-takes : goal.returns-in_err-collect_row-clause-takes
 returns-in_err-collect_row-clause-takes g c =
-    takes-again c.args.markers.now c.loop-low.markers c.collect_row.new.markers (slot_marker (Some c.args.rows.now)) (slot_marker (Some c.loop-low.rows)) (slot_marker (Some c.collect_row.new.rows))
+    lists-again c.args.markers.now c.loop-low.markers c.collect_row.new.markers (list_from (Some c.args.rows.now)) (list_from (Some c.loop-low.rows)) (list_from (Some c.collect_row.new.rows))
     c.requires.before c.loop-low.invariant.takes c.collect_row.ensures.takes
 
 pub loop-low-preserved : goal.loop-low-preserved
@@ -57,7 +58,7 @@ loop-low-preserved g c =
           (subst (λ left. LowsLiveBut live left c.loop-low.rows) (drop_more lows k (pos 0) c.loop-low-test.true) c.loop-low.invariant.but)
           (subst (λ (v : ℤ). IfSome (list_at new v) (λ l. all_alive live l.entries ≡ true)) same c.in_ok-collect_row.ensures.here)
           (subst (λ (v : ℤ). (other : ℤ) → int_eq v other ≡ false → list_at new other ≡ list_at c.loop-low.rows other) same c.collect_row.ensures.others);
-      takes = takes-again c.args.markers.now c.loop-low.markers c.collect_row.new.markers (slot_marker (Some c.args.rows.now)) (slot_marker (Some c.loop-low.rows)) (slot_marker (Some c.collect_row.new.rows))
+      takes = lists-again c.args.markers.now c.loop-low.markers c.collect_row.new.markers (list_from (Some c.args.rows.now)) (list_from (Some c.loop-low.rows)) (list_from (Some c.collect_row.new.rows))
           c.requires.before c.loop-low.invariant.takes c.collect_row.ensures.takes;
     }
 
@@ -66,3 +67,6 @@ returns-clause-live g c =
     let live = g.L.Live.is c.args.live.now in
     lows-none live c.loop-low.rows
     (subst (λ left. LowsLiveBut live left c.loop-low.rows) (left-none c.as_slice-low-items.result.now c.loop-low.low-index (omega (arith, c.loop-low-test.false))) c.loop-low.invariant.but)
+
+pub returns-in_err-lows-clause-takes : goal.returns-in_err-lows-clause-takes
+returns-in_err-lows-clause-takes g c = lists-none c.args.markers.now (list_from (Some c.args.rows.now))

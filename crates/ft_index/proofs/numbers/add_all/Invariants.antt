@@ -1,6 +1,6 @@
 use Rattle.std.proofs.Common.{take}
 use Rattle.ft_index.specs.Adding.{RangesUnseen}
-use Rattle.ft_index.specs.Markers.{TakesMarkers, range_marker}
+use Rattle.ft_index.specs.Markers.{TakesLists, range_list}
 use Rattle.ft_index.specs.Numbering.{RangesGain}
 use Rattle.ft_index.specs.UpTo.{RangesUpTo}
 use Rattle.ft_index.proofs.numbers.add_all.Given as goal
@@ -11,5 +11,5 @@ invariant-loop-number l = record {
   added : RangesGain (take l.number l.fields) l.doc l.fn.ranges l.ranges;
   unseen : RangesUnseen l.doc.id l.fn.ranges l.ranges;
   up_to : RangesUpTo l.doc.id l.ranges;
-  takes : TakesMarkers l.fn.markers l.markers (range_marker l.fn.ranges) (range_marker l.ranges);
+  takes : TakesLists l.fn.markers l.markers (range_list l.fn.ranges) (range_list l.ranges);
 }

@@ -2,13 +2,13 @@ use Rattle.std.proofs.Common.{◌<◌, ℕ, length, IfSome, set, slice_index_or,
 use Rattle.std.proofs.lemmas.Grind.{common_steps, elements}
 use Rattle.std.proofs.lemmas.Result.{on_ok_weaker}
 use Rattle.numeric_ranges.specs.Ranges.{Rows}
-use Rattle.ft_index.specs.Lists.{rows_of}
-use Rattle.ft_index.specs.Markers.{AllBefore, TakesMarkers, range_marker, slot_marker}
+use Rattle.ft_index.specs.Lists.{list_from, rows_of}
+use Rattle.ft_index.specs.Markers.{AllBefore, TakesLists, range_list, slot_marker}
 use Rattle.ft_index.specs.Numbering.{RowsGain, value_entry}
 use Rattle.ft_index.specs.UpTo.{RowsUpTo}
 use Rattle.ft_index.proofs.FieldLaws.{decided}
 use Rattle.ft_index.proofs.SlotLaws.{rows-here, rows-set_here, rows-set_other}
-use Rattle.ft_index.proofs.TakingLaws.{takes-field}
+use Rattle.ft_index.proofs.TakingLaws.{lists-field, lists-none}
 use Rattle.ft_index.proofs.numbers.add_field.Goals as goal
 
 pub add_value-requires-clause-before : goal.add_value-requires-clause-before
@@ -40,11 +40,11 @@ returns-clause-up_to c number =
 pub returns-clause-takes : goal.returns-clause-takes
 returns-clause-takes c =
     let within : c.args.number < length c.args.ranges.now = omega (arith, c.if-ranges-number.false) in
-    takes-field c.args.number c.args.markers.now c.add_value.new.markers (range_marker c.args.ranges.now) (range_marker (set c.args.ranges.now c.args.number c.add_value.new.slot)) c.requires.before
-    (subst (λ (old : Option Rows). TakesMarkers c.args.markers.now c.add_value.new.markers (slot_marker old) (slot_marker (rows_of (set c.args.ranges.now c.args.number c.add_value.new.slot) c.args.number))) (sym (rows-here c.args.ranges.now c.args.number c.index-ranges-number.result within))
-    (subst (λ (new : Option Rows). TakesMarkers c.args.markers.now c.add_value.new.markers (slot_marker (slice_index_or c.args.ranges.now c.args.number c.index-ranges-number.result)) (slot_marker new))
+    lists-field c.args.number c.args.markers.now c.add_value.new.markers (range_list c.args.ranges.now) (range_list (set c.args.ranges.now c.args.number c.add_value.new.slot)) c.requires.before
+    (subst (λ (old : Option Rows). TakesLists c.args.markers.now c.add_value.new.markers (list_from old) (list_from (rows_of (set c.args.ranges.now c.args.number c.add_value.new.slot) c.args.number))) (sym (rows-here c.args.ranges.now c.args.number c.index-ranges-number.result within))
+    (subst (λ (new : Option Rows). TakesLists c.args.markers.now c.add_value.new.markers (list_from (slice_index_or c.args.ranges.now c.args.number c.index-ranges-number.result)) (list_from new))
     (sym (rows-set_here c.args.ranges.now c.args.number c.add_value.new.slot within)) c.add_value.ensures.takes))
-    (λ name away. ap (λ (slot : Option Rows). slot_marker slot name.1) (rows-set_other c.args.ranges.now c.args.number c.add_value.new.slot name.0 away))
+    (λ name away. ap (λ (slot : Option Rows). list_from slot name.1) (rows-set_other c.args.ranges.now c.args.number c.add_value.new.slot name.0 away))
 
 pub returns-then-ranges-number-clause-here : goal.returns-then-ranges-number-clause-here
 returns-then-ranges-number-clause-here c = grind (arith, elements)
@@ -54,3 +54,6 @@ add_value-requires-clause-above c = grind (arith, elements)
 
 pub returns-clause-err : goal.returns-clause-err
 returns-clause-err c = grind (arith, common_steps)
+
+pub returns-then-ranges-number-clause-takes : goal.returns-then-ranges-number-clause-takes
+returns-then-ranges-number-clause-takes c = lists-none c.args.markers.now (range_list c.args.ranges.now)

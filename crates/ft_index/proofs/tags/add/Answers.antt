@@ -1,11 +1,11 @@
 use Rattle.std.proofs.Common.{sym, subst}
 use Rattle.std.proofs.lemmas.Result.{on_ok_weaker}
 use Rattle.term_dict.specs.Tags.{FieldTags}
-use Rattle.ft_index.specs.Markers.{TakesMarkers, tag_marker}
+use Rattle.ft_index.specs.Markers.{TakesLists, tag_list}
 use Rattle.ft_index.specs.UpTo.{TagsUpTo}
 use Rattle.ft_index.proofs.OutcomeLaws.{either, either-both}
-use Rattle.ft_index.proofs.TagLaws.{entries-tagged, tags-take, tags-up_to}
-use Rattle.ft_index.proofs.TakingLaws.{takes-lost}
+use Rattle.ft_index.proofs.TagLaws.{entries-tagged, tags-come, tags-take, tags-up_to}
+use Rattle.ft_index.proofs.TakingLaws.{lists-lost}
 use Rattle.ft_index.proofs.tags.add.Goals as goal
 
 pub returns-clause-ok : goal.returns-clause-ok
@@ -22,6 +22,9 @@ returns-clause-up_to c =
 pub returns-clause-takes : goal.returns-clause-takes
 returns-clause-takes c =
     either-both c.add.result c.add.ensures.ok c.add.ensures.taken c.add.ensures.err
-    (λ added taken. tags-take c.args.lists.now c.add.new.self c.args.field c.args.tag.now c.args.markers.now c.add.new.markers c.args.id _ c.requires.before added c.add.ensures.event c.add.ensures.rises taken)
-    (λ same. subst (λ (lists : FieldTags). TakesMarkers c.args.markers.now c.add.new.markers (tag_marker c.args.lists.now) (tag_marker lists)) (sym same)
-    (takes-lost c.args.markers.now c.add.new.markers (tag_marker c.args.lists.now) c.add.ensures.event c.add.ensures.rises c.requires.before))
+    (λ added taken. record {
+      markers = tags-take c.args.lists.now c.add.new.self c.args.field c.args.tag.now c.args.markers.now c.add.new.markers c.args.id _ c.requires.before added c.add.ensures.event c.add.ensures.rises taken;
+      come = tags-come c.args.lists.now c.add.new.self c.args.field c.args.tag.now c.args.markers.now c.args.id _ added;
+    })
+    (λ same. subst (λ (lists : FieldTags). TakesLists c.args.markers.now c.add.new.markers (tag_list c.args.lists.now) (tag_list lists)) (sym same)
+    (lists-lost c.args.markers.now c.add.new.markers (tag_list c.args.lists.now) c.add.ensures.event c.add.ensures.rises c.requires.before))

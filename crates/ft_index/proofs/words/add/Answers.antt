@@ -1,10 +1,11 @@
 use Rattle.std.proofs.Common.{sym, subst}
 use Rattle.posting_block.specs.declared.hits.TextHit.{TextHit}
-use Rattle.term_dict.specs.Terms.{Lists}
-use Rattle.ft_index.specs.Markers.{TakesMarkers, word_marker}
+use Rattle.term_dict.specs.Terms.{Lists, list_of}
+use Rattle.ft_index.specs.Markers.{TakesLists}
 use Rattle.ft_index.specs.UpTo.{WordsUpTo}
+use Rattle.ft_index.proofs.ListLaws.{lists-come}
 use Rattle.ft_index.proofs.OutcomeLaws.{either, either-both}
-use Rattle.ft_index.proofs.TakingLaws.{takes-lost}
+use Rattle.ft_index.proofs.TakingLaws.{lists-lost}
 use Rattle.ft_index.proofs.WordLaws.{words-take, words-up_to}
 use Rattle.ft_index.proofs.words.add.Goals as goal
 
@@ -17,6 +18,9 @@ returns-clause-up_to c =
 pub returns-clause-takes : goal.returns-clause-takes
 returns-clause-takes c =
     either-both c.add.result c.add.ensures.ok c.add.ensures.taken c.add.ensures.err
-    (λ added taken. words-take c.args.terms.now c.add.new.self c.args.word.now c.args.markers.now c.add.new.markers c.args.id _ c.requires.before added c.add.ensures.event c.add.ensures.rises taken)
-    (λ same. subst (λ (terms : Lists TextHit). TakesMarkers c.args.markers.now c.add.new.markers (word_marker c.args.terms.now) (word_marker terms)) (sym same)
-    (takes-lost c.args.markers.now c.add.new.markers (word_marker c.args.terms.now) c.add.ensures.event c.add.ensures.rises c.requires.before))
+    (λ added taken. record {
+      markers = words-take c.args.terms.now c.add.new.self c.args.word.now c.args.markers.now c.add.new.markers c.args.id _ c.requires.before added c.add.ensures.event c.add.ensures.rises taken;
+      come = lists-come c.args.terms.now c.add.new.self c.args.word.now c.args.markers.now c.args.id _ added;
+    })
+    (λ same. subst (λ (terms : Lists TextHit). TakesLists c.args.markers.now c.add.new.markers (list_of c.args.terms.now) (list_of terms)) (sym same)
+    (lists-lost c.args.markers.now c.add.new.markers (list_of c.args.terms.now) c.add.ensures.event c.add.ensures.rises c.requires.before))

@@ -3,9 +3,10 @@ use Rattle.std.specs.List.{IsDistinct}
 use Rattle.std.specs.Map.{keys_of}
 use Rattle.ft_index.specs.Collected.{AreAddedBut, AreMet, Collected, GrowBy}
 use Rattle.ft_index.specs.Markers.{word_marker}
+use Rattle.term_dict.specs.Terms.{list_of}
 use Rattle.ft_index.proofs.AddingLaws.{grown, added-next, rest-distinct, front-later}
 use Rattle.ft_index.proofs.CollectedLaws.{same_key}
-use Rattle.ft_index.proofs.TakingLaws.{before-taken, takes-again, takes-none}
+use Rattle.ft_index.proofs.TakingLaws.{before-taken, lists-again, lists-none}
 use Rattle.ft_index.proofs.words.add_all.Goals as goal
 
 pub returns-clause-some : goal.returns-clause-some
@@ -18,7 +19,7 @@ returns-in_err-add-clause-some c =
 
 pub add-requires-clause-before : goal.add-requires-clause-before
 add-requires-clause-before c =
-    before-taken c.args.markers.now c.loop-word.markers (word_marker c.args.terms.now) (word_marker c.loop-word.terms) c.requires.before c.loop-word.invariant.takes
+    before-taken c.args.markers.now c.loop-word.markers (word_marker c.args.terms.now) (word_marker c.loop-word.terms) c.requires.before c.loop-word.invariant.takes.markers
 
 pub loop-word-preserved : goal.loop-word-preserved
 loop-word-preserved c =
@@ -34,7 +35,7 @@ loop-word-preserved c =
       added = added-next c.in-Some.word c.in-Some.codes c.next.new.self c.args.found.entries c.args.id c.args.terms.now c.loop-word.terms c.add.new.terms distinct met added
           c.in_ok-add.ensures.ok;
       up_to = c.add.ensures.up_to;
-      takes = takes-again c.args.markers.now c.loop-word.markers c.add.new.markers (word_marker c.args.terms.now) (word_marker c.loop-word.terms) (word_marker c.add.new.terms)
+      takes = lists-again c.args.markers.now c.loop-word.markers c.add.new.markers (list_of c.args.terms.now) (list_of c.loop-word.terms) (list_of c.add.new.terms)
           c.requires.before c.loop-word.invariant.takes c.add.ensures.takes;
     }
 
@@ -45,10 +46,10 @@ add-requires-clause-later c =
 
 pub returns-in_err-add-clause-takes : goal.returns-in_err-add-clause-takes
 returns-in_err-add-clause-takes c =
-    takes-again c.args.markers.now c.loop-word.markers c.add.new.markers (word_marker c.args.terms.now) (word_marker c.loop-word.terms) (word_marker c.add.new.terms)
+    lists-again c.args.markers.now c.loop-word.markers c.add.new.markers (list_of c.args.terms.now) (list_of c.loop-word.terms) (list_of c.add.new.terms)
     c.requires.before c.loop-word.invariant.takes c.add.ensures.takes
 
 pub loop-word-init : goal.loop-word-init
 loop-word-init c =
-    let takes = takes-none c.args.markers.now (word_marker c.args.terms.now) in
+    let takes = lists-none c.args.markers.now (list_of c.args.terms.now) in
     search (rules, takes)

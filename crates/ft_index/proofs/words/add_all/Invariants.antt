@@ -1,8 +1,9 @@
 use Rattle.std.specs.List.{IsDistinct}
 use Rattle.std.specs.Map.{keys_of}
 use Rattle.ft_index.specs.Collected.{AreAddedBut, AreMet}
-use Rattle.ft_index.specs.Markers.{TakesMarkers, word_marker}
+use Rattle.ft_index.specs.Markers.{TakesLists}
 use Rattle.ft_index.specs.UpTo.{WordsUpTo}
+use Rattle.term_dict.specs.Terms.{list_of}
 use Rattle.ft_index.proofs.CollectedLaws.{same_key}
 use Rattle.ft_index.proofs.words.add_all.Given as goal
 
@@ -15,5 +16,5 @@ invariant-loop-word l = record {
   met : AreMet l.word-iterator;
   added : AreAddedBut l.word-iterator l.fn.found.entries l.id l.fn.terms l.terms;
   up_to : WordsUpTo l.id l.terms;
-  takes : TakesMarkers l.fn.markers l.markers (word_marker l.fn.terms) (word_marker l.terms);
+  takes : TakesLists l.fn.markers l.markers (list_of l.fn.terms) (list_of l.terms);
 }

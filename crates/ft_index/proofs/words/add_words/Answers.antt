@@ -3,8 +3,9 @@ use Rattle.std.proofs.lemmas.Grind.{common_steps}
 use Rattle.std.proofs.lemmas.Result.{on_ok_weaker}
 use Rattle.ft_index.specs.Collected.{GrowBy, codes_of, occurrences_in}
 use Rattle.ft_index.specs.Entries.{codes, codes_among, entry}
-use Rattle.term_dict.specs.Terms.{entries_of}
+use Rattle.term_dict.specs.Terms.{entries_of, list_of}
 use Rattle.ft_index.proofs.WordLaws.{occurrences-of_texts, words-seen, words-unseen}
+use Rattle.ft_index.proofs.TakingLaws.{lists-none}
 use Rattle.ft_index.proofs.words.add_words.Goals as goal
 
 pub returns-clause-unseen : goal.returns-clause-unseen
@@ -24,3 +25,9 @@ returns-clause-seen c =
 
 pub collected-requires : goal.collected-requires
 collected-requires c = grind (arith, common_steps)
+
+pub returns-in_err-texts-clause-takes : goal.returns-in_err-texts-clause-takes
+returns-in_err-texts-clause-takes c = lists-none c.args.markers.now (list_of c.args.terms.now)
+
+pub returns-in_err-found-clause-takes : goal.returns-in_err-found-clause-takes
+returns-in_err-found-clause-takes c = lists-none c.args.markers.now (list_of c.args.terms.now)

@@ -1,5 +1,8 @@
-use Rattle.std.proofs.Common.{◌∙◌, ap, arith}
-use Rattle.std.specs.Prelude.{length}
+use Rattle.std.proofs.Common.{◌∙◌, ap, arith, subst, sym}
+use Rattle.std.specs.Prelude.{List, length}
+use Rattle.ft_index.specs.Index.{Index}
+use Rattle.indexed_store.specs.Moving.{IndexesMove}
+use Rattle.indexed_store.proofs.MovingLaws.{moves-others}
 use Rattle.indexed_store.specs.DefinitionsOf.{definitions_of}
 use Rattle.indexed_store.proofs.DroppingLaws.{in_step-others}
 use Rattle.indexed_store.proofs.NamedLaws.{others-defined, others-fewer}
@@ -13,3 +16,6 @@ returns-clause-kept c store next step = in_step-others store c.args.indexes.now.
 
 pub returns-clause-fewer : goal.returns-clause-fewer
 returns-clause-fewer c = omega (arith, ap length c.take_index.ensures.others, others-fewer c.args.indexes.now.items c.args.name.now)
+
+pub returns-clause-moves : goal.returns-clause-moves
+returns-clause-moves c event = subst (λ (xs : List Index). IndexesMove event c.args.indexes.now.items xs) (sym c.take_index.ensures.others) (moves-others event c.args.indexes.now.items c.args.name.now)

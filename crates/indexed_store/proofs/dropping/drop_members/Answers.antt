@@ -7,6 +7,8 @@ use Rattle.indexed_store.specs.DefinitionsOf.{definitions_of}
 use Rattle.indexed_store.specs.Standing.{InStep}
 use Rattle.indexed_store.proofs.DroppingLaws.{in_step-others, members-removed, no-members}
 use Rattle.indexed_store.proofs.NamedLaws.{others-defined, others-fewer}
+use Rattle.indexed_store.specs.Moving.{IndexesMove}
+use Rattle.indexed_store.proofs.MovingLaws.{moves-again, moves-others}
 use Rattle.indexed_store.proofs.dropping.drop_members.Goals as goal
 
 pub returns-in-Some-clause-space : goal.returns-in-Some-clause-space
@@ -46,3 +48,13 @@ returns-in_default-clause-kept c next step = in_step-others c.args.store.now c.a
 
 pub returns-in_default-clause-fewer : goal.returns-in_default-clause-fewer
 returns-in_default-clause-fewer c = omega (arith, ap length c.take_index.ensures.others, others-fewer c.args.indexes.now.items c.args.name.now)
+
+pub returns-in-Some-clause-moves : goal.returns-in-Some-clause-moves
+returns-in-Some-clause-moves c event =
+    let others = subst (λ (xs : List Index). IndexesMove event c.args.indexes.now.items xs) (sym (c.as_mut_slice.ensures.value ∙ c.take_index.ensures.others)) (moves-others event c.args.indexes.now.items c.args.name.now) in
+    subst (IndexesMove event c.args.indexes.now.items)
+    (sym (take_at c.remove_live.new.indexes (drop (length c.remove_live.new.indexes) c.take_index.new.indexes.items) c.take_index.new.indexes.len (omega (arith, c.remove_live.auto.indexes, c.as_mut_slice.ensures.len))))
+    (moves-again event event c.args.indexes.now.items c.as_mut_slice.result.now c.remove_live.new.indexes (omega arith) others (c.remove_live.ensures.moves event))
+
+pub returns-in_default-clause-moves : goal.returns-in_default-clause-moves
+returns-in_default-clause-moves c event = subst (λ (xs : List Index). IndexesMove event c.args.indexes.now.items xs) (sym c.take_index.ensures.others) (moves-others event c.args.indexes.now.items c.args.name.now)

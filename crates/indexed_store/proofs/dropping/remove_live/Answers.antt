@@ -1,9 +1,10 @@
 use Rattle.std.specs.Prelude.{find, map, nat_le}
-use Rattle.std.proofs.Common.{◌∙◌, ap, sym}
+use Rattle.std.proofs.Common.{◌∙◌, ap, sym, arith}
 use Rattle.doc_table.specs.Table.{Table}
 use Rattle.ft_index.specs.Index.{Index}
 use Rattle.indexed_store.proofs.DroppingLaws.{row-fewer, row-removed, rows-removed}
 use Rattle.indexed_store.proofs.StepLaws.{rest-after}
+use Rattle.indexed_store.proofs.MovingLaws.{moves-again}
 use Rattle.indexed_store.proofs.dropping.remove_live.Goals as goal
 
 pub removing-smaller : goal.removing-smaller
@@ -20,6 +21,7 @@ removing-preserved c =
       rest = rest-after c.args.store.now c.removing.store c.remove_id.new.store c.removing.invariant.rest c.remove_id.ensures.rest;
       kept = λ next step. c.remove_id.ensures.kept next (c.removing.invariant.kept next step);
       definitions = c.remove_id.ensures.definitions ∙ c.removing.invariant.definitions;
+      moves = λ event. moves-again event event c.args.indexes.now c.removing.indexes c.remove_id.new.indexes (omega arith) (c.removing.invariant.moves event) (c.remove_id.ensures.moves event);
     }
 
 pub returns-clause-space : goal.returns-clause-space

@@ -8,6 +8,8 @@ use Rattle.indexed_store.specs.Standing.{InStep, IndexStands, markers_at}
 use Rattle.indexed_store.proofs.ApartLaws.{apart-set}
 use Rattle.indexed_store.proofs.IndexingLaws.{all-set}
 use Rattle.indexed_store.proofs.NamedLaws.{place-is, replaced-none, replaced-one}
+use Rattle.indexed_store.specs.Moving.{IndexesMove}
+use Rattle.indexed_store.proofs.MovingLaws.{moves-placed, moves_same}
 use Rattle.indexed_store.proofs.index_list.replace_index.Goals as goal
 
 pub returns-in-Some-clause-definitions : goal.returns-in-Some-clause-definitions
@@ -30,3 +32,11 @@ pub returns-in_default-clause-definitions : goal.returns-in_default-clause-defin
 returns-in_default-clause-definitions c =
     replaced-none c.args.indexes.now c.args.index
     (ap (λ (name : List ℕ). position (is_named name) c.args.indexes.now) (sym (c.as_slice.ensures ∙ ap (λ (d : IndexDef). d.name) c.def.ensures.def)) ∙ sym c.in_default.ensures)
+
+pub returns-in-Some-clause-moves : goal.returns-in-Some-clause-moves
+returns-in-Some-clause-moves c event fresh =
+    subst (λ (xs : List Index). IndexesMove event c.args.indexes.now xs) (sym c.put.ensures)
+    (moves-placed event c.args.indexes.now c.in-Some.place c.args.index (place-is (is_named _) c.args.indexes.now c.in-Some.place (sym c.in-Some.ensures)).1 fresh)
+
+pub returns-in_default-clause-moves : goal.returns-in_default-clause-moves
+returns-in_default-clause-moves c event fresh = moves_same event c.args.indexes.now

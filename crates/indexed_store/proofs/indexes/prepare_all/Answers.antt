@@ -1,8 +1,8 @@
-use Rattle.std.specs.Prelude.{◌≡◌, ℕ, Some, ◌<◌, ◌≤◌, ◌+◌, ◌⊎◌, slice_index_or, length}
+use Rattle.std.specs.Prelude.{◌≡◌, ℕ, Some, ◌<◌, ◌≤◌, ◌+◌, ◌⊎◌, slice_index_or, slice_set, length}
 use Rattle.ft_base.specs.declared.definition.IndexDef.{IndexDef}
 use Rattle.ft_index.specs.Fits.{fit_of}
 use Rattle.indexed_store.specs.DefinitionsOf.{defined}
-use Rattle.std.proofs.Common.{ap, arith, inl, inr, sym, ◌∙◌}
+use Rattle.std.proofs.Common.{ap, arith, inl, inr, sym, subst, ◌∙◌}
 use Rattle.std.proofs.Math.Seq.{map-set_same}
 use Rattle.inverted_list.proofs.ReachLaws.{le_or_lt}
 use Rattle.indexed_store.specs.Indexing.{Awaits}
@@ -10,6 +10,9 @@ use Rattle.indexed_store.specs.Standing.{IndexStands}
 use Rattle.ft_index.specs.Index.{Index}
 use Rattle.indexed_store.proofs.ApartLaws.{apart-prepared}
 use Rattle.indexed_store.proofs.IndexingLaws.{all-set, prepared, set-above, set-below, stands-later}
+use Rattle.ft_index.proofs.ComingLaws.{came-prepared}
+use Rattle.ft_index.specs.Coming.{ListsCome}
+use Rattle.indexed_store.proofs.MovingLaws.{moves-again, moves-one}
 use Rattle.indexed_store.proofs.indexes.prepare_all.Goals as goal
 
 same_defined : (old new : Index) → new.def ≡ old.def → new.failures ≡ old.failures → defined new ≡ defined old
@@ -64,4 +67,16 @@ loop-index-preserved g c =
       apart = apart-prepared c.loop-index.indexes at c.index-item.result c.prepare.new.self c.loop-index.markers c.prepare.new.markers within c.prepare.ensures.gains
           (λ k d short. elim (le_or_lt at k) [ inl more ↦ (c.loop-index.invariant.left k d more short).before | inr less ↦ (c.loop-index.invariant.done k d less).0.before ]) c.loop-index.invariant.apart;
       event = c.prepare.ensures.event ∙ c.loop-index.invariant.event;
+      moves = moves-again c.args.markers.now.event c.args.markers.now.event c.args.indexes.now c.loop-index.indexes (slice_set c.loop-index.indexes c.loop-index.index-index c.prepare.new.self) (omega arith) c.loop-index.invariant.moves
+          (moves-one c.args.markers.now.event c.loop-index.indexes c.loop-index.index-index c.index-item.result c.prepare.new.self within
+          (came-prepared c.args.markers.now.event (slice_index_or c.loop-index.indexes c.loop-index.index-index c.index-item.result) c.prepare.new.self c.prepare.ensures.def c.prepare.ensures.live
+          (subst (λ (event : ℕ). ListsCome event (slice_index_or c.loop-index.indexes c.loop-index.index-index c.index-item.result).lists c.prepare.new.self.lists) c.loop-index.invariant.event c.prepare.ensures.comes)));
     }
+
+pub returns-in_err-prepare-clause-moves : goal.returns-in_err-prepare-clause-moves
+returns-in_err-prepare-clause-moves g c =
+    let within : c.loop-index.index-index < length c.loop-index.indexes = omega (arith, c.loop-index-test.true, c.loop-index.auto.indexes) in
+    moves-again c.args.markers.now.event c.args.markers.now.event c.args.indexes.now c.loop-index.indexes (slice_set c.loop-index.indexes c.loop-index.index-index c.prepare.new.self) (omega arith) c.loop-index.invariant.moves
+    (moves-one c.args.markers.now.event c.loop-index.indexes c.loop-index.index-index c.index-item.result c.prepare.new.self within
+    (came-prepared c.args.markers.now.event (slice_index_or c.loop-index.indexes c.loop-index.index-index c.index-item.result) c.prepare.new.self c.prepare.ensures.def c.prepare.ensures.live
+    (subst (λ (event : ℕ). ListsCome event (slice_index_or c.loop-index.indexes c.loop-index.index-index c.index-item.result).lists c.prepare.new.self.lists) c.loop-index.invariant.event c.prepare.ensures.comes)))

@@ -3,6 +3,7 @@ use Rattle.std.specs.List.{AllPairs}
 use Rattle.indexed_store.specs.Indexing.{Awaits}
 use Rattle.indexed_store.specs.Standing.{AreApart, IndexStands}
 use Rattle.indexed_store.specs.DefinitionsOf.{definitions_of}
+use Rattle.indexed_store.specs.Moving.{IndexesMove}
 use Rattle.ft_index.specs.Index.{Index}
 use Rattle.indexed_store.proofs.indexes.prepare_all.Given as goal
 
@@ -14,4 +15,5 @@ invariant-loop-index g l = record {
   definitions : definitions_of l.indexes ≡ definitions_of l.fn.indexes;
   apart : AllPairs AreApart l.indexes;
   event : l.markers.event ≡ l.fn.markers.event;
+  moves : IndexesMove l.fn.markers.event l.fn.indexes l.indexes;
 }

@@ -13,7 +13,9 @@ use Rattle.indexed_store.specs.Standing.{AreApart, IndexStands, markers_at}
 use Rattle.indexed_store.specs.States.{state_with}
 use Rattle.indexed_store.specs.declared.change.Change.{Change}
 use Rattle.indexed_store.specs.declared.change.Change.TheVariants.{Alter}
-use Rattle.indexed_store.proofs.ChangingLaws.{altered-apart, altered-stands, created-step, flushed-step, lent-step, made-before, whole-step}
+use Rattle.indexed_store.proofs.ChangingLaws.{altered-apart, altered-given, altered-stands, created-moves, created-step, flushed-step, lent-step, made-before, whole-step}
+use Rattle.ft_index.specs.Coming.{IsFresh}
+use Rattle.indexed_store.proofs.MovingLaws.{fresh-of, moves-whole}
 use Rattle.indexed_store.proofs.making.make.Goals as goal
 
 pub returns-in-Create-clause-kept : goal.returns-in-Create-clause-kept
@@ -66,3 +68,20 @@ returns-in-Alter-clause-state c = grind (arith, common_steps)
 
 pub returns-in-Alter-clause-few : goal.returns-in-Alter-clause-few
 returns-in-Alter-clause-few c = grind (arith, common_steps)
+
+pub returns-in-Create-clause-moves : goal.returns-in-Create-clause-moves
+returns-in-Create-clause-moves c =
+    created-moves c.args.change c.in-Create.index c.args.number c.args.store.now.space c.args.store.now.ready c.args.indexes.now.items c.push_index.new.indexes.items c.in-Create.is c.requires.ready
+    (c.push_index.ensures.items ∙ ap (λ (i : Index). c.args.indexes.now.items ++ i ∷ []) c.into_inner.ensures)
+
+pub returns-in-Alter-clause-moves : goal.returns-in-Alter-clause-moves
+returns-in-Alter-clause-moves c =
+    let given = altered-given c.args.change c.in-Alter.index c.args.number c.args.store.now.space c.args.store.now.ready c.args.indexes.now.items c.in-Alter.is c.requires.ready in
+    let fresh = subst (IsFresh c.args.number) (sym c.into_inner-in-Alter.ensures) (fresh-of c.args.number c.in-Alter.index given) in
+    moves-whole c.args.number c.args.indexes.now.items c.as_mut_slice.result.now c.args.indexes.now.items c.replace_index.new.indexes c.args.indexes.now.len
+    (omega (arith, c.replace_index.auto.indexes, c.as_mut_slice.ensures.len)) c.as_mut_slice.ensures.value (c.replace_index.ensures.moves c.args.number fresh)
+
+pub returns-in_default-clause-moves : goal.returns-in_default-clause-moves
+returns-in_default-clause-moves c =
+    moves-whole c.args.number c.args.indexes.now.items c.as_mut_slice-in_default.result.now c.args.indexes.now.items c.make_documents.new.indexes c.args.indexes.now.len
+    (omega (arith, c.make_documents.auto.indexes, c.as_mut_slice-in_default.ensures.len)) c.as_mut_slice-in_default.ensures.value c.make_documents.ensures.moves

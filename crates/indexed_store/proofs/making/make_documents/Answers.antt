@@ -3,6 +3,7 @@ use Rattle.ft_machine.specs.Step.{next_number}
 use Rattle.indexed_store.specs.Standing.{InStep}
 use Rattle.indexed_store.specs.declared.change.Change.TheVariants.{Move, Write}
 use Rattle.indexed_store.proofs.ChangingLaws.{made-before}
+use Rattle.indexed_store.proofs.MovingLaws.{moves_same}
 use Rattle.indexed_store.proofs.making.make_documents.Goals as goal
 
 pub settle-requires-clause-kept : goal.settle-requires-clause-kept
@@ -26,3 +27,12 @@ returns-in-EraseKey-clause-kept c = c.remove.ensures.kept (next_number c.args.nu
 
 pub returns-in-EraseKeys-clause-kept : goal.returns-in-EraseKeys-clause-kept
 returns-in-EraseKeys-clause-kept c = c.remove_all.ensures.kept (next_number c.args.number) c.requires.kept
+
+pub returns-in-EraseKey-clause-moves : goal.returns-in-EraseKey-clause-moves
+returns-in-EraseKey-clause-moves c = c.remove.ensures.moves c.args.number
+
+pub returns-in-EraseKeys-clause-moves : goal.returns-in-EraseKeys-clause-moves
+returns-in-EraseKeys-clause-moves c = c.remove_all.ensures.moves c.args.number
+
+pub returns-in_default-clause-moves : goal.returns-in_default-clause-moves
+returns-in_default-clause-moves c = moves_same c.args.number c.args.indexes.now

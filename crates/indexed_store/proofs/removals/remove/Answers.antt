@@ -6,6 +6,8 @@ use Rattle.ft_base.specs.Space.{erase}
 use Rattle.indexed_store.specs.Standing.{InStep}
 use Rattle.indexed_store.specs.DefinitionsOf.{definitions_of}
 use Rattle.indexed_store.proofs.StepLaws.{definitions-killed, in_step-absent, in_step-erased, rest-same}
+use Rattle.indexed_store.specs.Moving.{IndexesMove}
+use Rattle.indexed_store.proofs.MovingLaws.{moves-killed, moves_same}
 use Rattle.indexed_store.proofs.removals.remove.Goals as goal
 
 pub returns-in-Some-clause-kept : goal.returns-in-Some-clause-kept
@@ -27,3 +29,9 @@ returns-in-Some-clause-rest c = rest-same c.args.store.now c.erase.new.self (era
 
 pub returns-in_default-clause-rest : goal.returns-in_default-clause-rest
 returns-in_default-clause-rest c = rest-same c.args.store.now c.erase.new.self (erase c.args.store.now.space c.args.key.now) c.erase.ensures.gone
+
+pub returns-in-Some-clause-moves : goal.returns-in-Some-clause-moves
+returns-in-Some-clause-moves c event = subst (λ (xs : List Index). IndexesMove event c.args.indexes.now xs) (sym c.kill_all.ensures) (moves-killed event c.in-Some.id c.args.indexes.now)
+
+pub returns-in_default-clause-moves : goal.returns-in_default-clause-moves
+returns-in_default-clause-moves c event = moves_same event c.args.indexes.now

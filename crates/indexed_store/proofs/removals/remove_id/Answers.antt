@@ -5,6 +5,8 @@ use Rattle.hash_store.specs.Erasing.{erase_id}
 use Rattle.indexed_store.specs.Standing.{InStep}
 use Rattle.indexed_store.specs.DefinitionsOf.{definitions_of}
 use Rattle.indexed_store.proofs.StepLaws.{definitions-killed, in_step-erased_id, rest-same}
+use Rattle.indexed_store.specs.Moving.{IndexesMove}
+use Rattle.indexed_store.proofs.MovingLaws.{moves-killed}
 use Rattle.indexed_store.proofs.removals.remove_id.Goals as goal
 
 pub returns-clause-kept : goal.returns-clause-kept
@@ -17,3 +19,6 @@ returns-clause-definitions c = ap definitions_of c.kill_all.ensures ∙ definiti
 
 pub returns-clause-rest : goal.returns-clause-rest
 returns-clause-rest c = rest-same c.args.store.now c.erase_id.new.self (erase_id c.args.store.now.space c.args.id) c.erase_id.ensures
+
+pub returns-clause-moves : goal.returns-clause-moves
+returns-clause-moves c event = subst (λ (xs : List Index). IndexesMove event c.args.indexes.now xs) (sym c.kill_all.ensures) (moves-killed event c.args.id c.args.indexes.now)

@@ -3,6 +3,7 @@ use Rattle.ft_base.specs.Docs.{Doc}
 use Rattle.ft_meaning.specs.Meaning.{ValuesFit}
 use Rattle.indexed_store.specs.Standing.{InStep}
 use Rattle.indexed_store.proofs.StepLaws.{in_step-later}
+use Rattle.indexed_store.specs.Moving.{IndexesMove}
 use Rattle.indexed_store.proofs.writes.prepare_hash.Goals as goal
 
 pub returns-in_err-doc-clause-kept : goal.returns-in_err-doc-clause-kept
@@ -20,3 +21,6 @@ prepare_write-requires c =
         ),
       ),
     )
+
+pub returns-clause-moves : goal.returns-clause-moves
+returns-clause-moves c = subst (λ (doc : Doc). IndexesMove doc.id c.args.indexes.now c.prepare_write.new.indexes) c.in_ok-doc.ensures c.prepare_write.ensures.moves

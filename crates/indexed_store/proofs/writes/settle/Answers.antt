@@ -1,4 +1,8 @@
-use Rattle.std.proofs.Common.{◌∙◌, ap}
+use Rattle.std.proofs.Common.{◌∙◌, ap, subst, sym}
+use Rattle.std.specs.Prelude.{List}
+use Rattle.ft_index.specs.Index.{Index}
+use Rattle.indexed_store.specs.Moving.{IndexesMove}
+use Rattle.indexed_store.proofs.MovingLaws.{moves-settled}
 use Rattle.indexed_store.specs.DefinitionsOf.{definitions_of}
 use Rattle.indexed_store.proofs.StepLaws.{all-settled, settled-step}
 use Rattle.indexed_store.proofs.writes.settle.Goals as goal
@@ -11,3 +15,9 @@ returns-clause-kept c =
 pub returns-clause-definitions : goal.returns-clause-definitions
 returns-clause-definitions c =
     ap definitions_of c.commit_all.ensures ∙ all-settled c.args.put c.args.number c.args.store.now.space c.args.store.now.ready c.commit_put-replaced.result c.args.indexes.now c.requires.waits
+
+pub returns-clause-moves : goal.returns-clause-moves
+returns-clause-moves c =
+    subst (λ (xs : List Index). IndexesMove c.args.number c.args.indexes.now xs) (sym c.commit_all.ensures)
+    (moves-settled c.args.put c.args.number c.args.store.now.space c.args.store.now.ready c.commit_put-replaced.result c.args.indexes.now c.requires.waits
+    c.requires.kept.stand)

@@ -8,9 +8,6 @@ returns-in-NotInteger-clause-fault c = c.put_fault-in-NotInteger.ensures.fault �
 pub returns-in-BadDb-clause-fault : goal.returns-in-BadDb-clause-fault
 returns-in-BadDb-clause-fault c = c.put_fault-in-BadDb.ensures.fault ∙ ap (refused c.args.name.now) (sym c.in-BadDb.is)
 
-pub returns-in-NotBuilt-clause-fault : goal.returns-in-NotBuilt-clause-fault
-returns-in-NotBuilt-clause-fault c = c.put_fault-in-NotBuilt.ensures.fault ∙ ap (refused c.args.name.now) (sym c.in-NotBuilt.is)
-
 pub returns-in-Limit-clause-fault : goal.returns-in-Limit-clause-fault
 returns-in-Limit-clause-fault c = c.put_at-in-Limit.ensures.fault ∙ ap (refused c.args.name.now) (sym c.in-Limit.is)
 

@@ -1,10 +1,15 @@
-use Rattle.std.proofs.Common.{List, ap, refl, subst, sym, ◌∙◌}
+use Rattle.std.proofs.Common.{List, ap, arith, refl, true, subst, sym, ◌∙◌}
+use Rattle.cmd_parse.specs.Reading.{command_of}
 use Rattle.ft_base.specs.Docs.{Doc}
 use Rattle.indexed_store.specs.Holding.{state_of}
 use Rattle.indexed_store.specs.Standing.{AreWritten}
+use Rattle.ft_machine.specs.Step.{last_event}
+use Rattle.ft_engine.proofs.CollectionLaws.{collects-refused}
 use Rattle.ft_engine.proofs.EngineLaws.{before-event}
+use Rattle.ft_engine.proofs.MovesLaws.{moves-still}
 use Rattle.ft_engine.proofs.WritingLaws.{writes-something}
-use Rattle.ft_engine.specs.Stands.{Stands}
+use Rattle.ft_engine.specs.Stands.{Stands, stands_of}
+use Rattle.ft_engine.specs.Stepping.{Moves}
 use Rattle.ft_engine.proofs.engine.Engine.answer.Goals as goal
 
 pub returns-clause-writes : goal.returns-clause-writes
@@ -17,3 +22,19 @@ returns-clause-writes c some =
 pub begin_command-requires-clause-earlier : goal.begin_command-requires-clause-earlier
 begin_command-requires-clause-earlier c =
     before-event c.self.inside.held.next c.self.inside.next c.self.inside.pending (ap (λ (e : Stands). e.pending) c.self.view_is ∙ c.requires.free) c.self.invariant.earlier
+
+pub returns-clause-moves : goal.returns-clause-moves
+returns-clause-moves c =
+    let inside = c.self.inside in
+    subst (λ (e : Stands). Moves e (stands_of c.begin_command.new.held inside.next true)) c.self.view_is (record {
+      next = omega arith;
+      indexes = c.begin_command.ensures.prepares.stays.moves;
+    })
+
+pub returns-then-self-ge-LAST_NUMBER-clause-collects : goal.returns-then-self-ge-LAST_NUMBER-clause-collects
+returns-then-self-ge-LAST_NUMBER-clause-collects c = collects-refused (command_of c.args.command) c.answer_last.new.self.indexes c.answer_last.new.reply.bytes (last_event, c.answer_last.ensures.text)
+
+pub returns-then-self-ge-LAST_NUMBER-clause-moves : goal.returns-then-self-ge-LAST_NUMBER-clause-moves
+returns-then-self-ge-LAST_NUMBER-clause-moves c =
+    let is = c.answer_last.ensures.pending in
+    moves-still c.args.self.now c.answer_last.new.self (omega (arith, ap (λ (e : Stands). e.next) is)) (ap (λ (e : Stands). e.indexes) is)

@@ -14,3 +14,9 @@ returns-else-self-lt-LAST_NUMBER-clause-indexed c =
     let pending = ap (λ (e : Stands). e.pending) c.self.view_is ∙ c.requires.pending in
     indexed c.self.inside.held c.self.inside.next false c.stand.ensures.keys c.stand.ensures.stand
     (omega (arith, ends c.self.inside.held.next c.self.inside.next c.self.inside.pending pending c.self.invariant.earlier, c.if-self-lt-LAST_NUMBER.false))
+
+pub returns-then-self-lt-LAST_NUMBER-clause-later : goal.returns-then-self-lt-LAST_NUMBER-clause-later
+returns-then-self-lt-LAST_NUMBER-clause-later c = omega (arith, ap (λ (e : Stands). e.next) c.self.view_is)
+
+pub returns-else-self-lt-LAST_NUMBER-clause-later : goal.returns-else-self-lt-LAST_NUMBER-clause-later
+returns-else-self-lt-LAST_NUMBER-clause-later c = omega (arith, ap (λ (e : Stands). e.next) c.self.view_is)

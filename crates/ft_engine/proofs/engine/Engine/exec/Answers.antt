@@ -5,6 +5,10 @@ use Rattle.ft_machine.proofs.Stepping.{obeyed}
 use Rattle.ft_machine.specs.Machine.{State}
 use Rattle.ft_machine.specs.Step.{At, outcomes}
 use Rattle.ft_engine.specs.Stands.{Stands}
+use Rattle.ft_engine.proofs.CollectionLaws.{collects-kept}
+use Rattle.ft_engine.proofs.MovesLaws.{moves-twice}
+use Rattle.ft_engine.specs.Collecting.{Collects}
+use Rattle.cmd_parse.specs.Asked.{Asked}
 use Rattle.ft_engine.proofs.engine.Engine.exec.Goals as goal
 
 pub returns-in-Ok-clause-answer : goal.returns-in-Ok-clause-answer
@@ -15,3 +19,16 @@ returns-in-Ok-clause-answer c =
     let is : read next c.args.words ≡ Ok asks = subst (λ (n : ℕ). read n c.args.words ≡ Ok asks) (ap (λ (e : Stands). e.next) c.self.view_is) here in
     obeyed c.args.words next c.args.now asks c.args.self.now.state c.commit.new.self.state c.prepare-prepared.new.out.items is
     (subst (λ (s : State). At next c.args.now (outcomes asks next) c.args.self.now.state c.prepare-prepared.new.out.items s) (sym c.commit.ensures.state) c.prepare-prepared.ensures.answer)
+
+pub returns-in-Ok-clause-moves : goal.returns-in-Ok-clause-moves
+returns-in-Ok-clause-moves c = moves-twice c.args.self.now c.prepare-prepared.new.self c.commit.new.self c.prepare-prepared.ensures.moves c.commit.ensures.moves
+
+pub returns-in-Ok-clause-collects : goal.returns-in-Ok-clause-collects
+returns-in-Ok-clause-collects c asks reads =
+    let command = command_of c.in-Ok.command in
+    let next = c.args.self.now.next in
+    let here : read c.self.inside.next c.args.words ≡ Ok command = subst (λ (words : List (List ℕ)). read c.self.inside.next words ≡ Ok command) c.rest.ensures c.in-Ok.ensures.exact in
+    let is : read next c.args.words ≡ Ok command = subst (λ (n : ℕ). read n c.args.words ≡ Ok command) (ap (λ (e : Stands). e.next) c.self.view_is) here in
+    let same : command ≡ asks = cc (is, reads) in
+    subst (λ (a : Asked). Collects a c.commit.new.self.indexes c.prepare-prepared.new.out.items) same
+    (collects-kept command _ c.prepare-prepared.new.self.indexes c.commit.new.self.indexes c.prepare-prepared.new.out.items c.prepare-prepared.ensures.quiet c.commit.ensures.kept c.prepare-prepared.ensures.collects)

@@ -5,9 +5,12 @@ use Rattle.ft_base.specs.Reply.{spelling}
 use Rattle.ft_base.specs.declared.reply.Reply.TheVariants.{Fault}
 use Rattle.ft_machine.proofs.Stepping.{refused-at}
 use Rattle.ft_machine.specs.Machine.{at_moment}
-use Rattle.indexed_store.specs.Holding.{state_of}
+use Rattle.indexed_store.proofs.MovingLaws.{moves-kept}
+use Rattle.indexed_store.specs.Holding.{Holding, state_of}
 use Rattle.ft_engine.proofs.EngineLaws.{indexed}
+use Rattle.ft_engine.proofs.MovesLaws.{moves-still}
 use Rattle.ft_engine.specs.Stands.{IsIndexed, Stands}
+use Rattle.ft_engine.specs.Stepping.{Moves}
 use Rattle.ft_engine.proofs.engine.Engine.refuse_in.Goals as goal
 
 pub returns-then-self-ge-LAST_NUMBER-clause-answer : goal.returns-then-self-ge-LAST_NUMBER-clause-answer
@@ -26,3 +29,15 @@ returns-clause-answer c =
 
 pub set_refusal-requires : goal.set_refusal-requires
 set_refusal-requires c = grind (arith, common_steps)
+
+pub returns-then-self-ge-LAST_NUMBER-clause-moves : goal.returns-then-self-ge-LAST_NUMBER-clause-moves
+returns-then-self-ge-LAST_NUMBER-clause-moves c = moves-still c.args.self.now c.args.self.now (omega arith) refl
+
+pub returns-clause-moves : goal.returns-clause-moves
+returns-clause-moves c =
+    let inside = c.self.inside in
+    let same = ap (λ (e : Stands). e.indexes) c.end.ensures.ended ∙ ap (λ (h : Holding). h.indexes) c.begin.ensures in
+    subst (λ (e : Stands). Moves e c.end.new.self) c.self.view_is (record {
+      next = c.end.ensures.later;
+      indexes = moves-kept inside.next inside.held.indexes c.end.new.self.indexes same;
+    })

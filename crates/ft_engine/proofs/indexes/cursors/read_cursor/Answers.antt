@@ -4,6 +4,7 @@ use Rattle.cmd_parse.specs.Asked.{CursorRead}
 use Rattle.cursor_book.specs.declared.cursor.Cursor.{Cursor}
 use Rattle.ft_machine.specs.Machine.{State}
 use Rattle.ft_machine.specs.Step.{Does}
+use Rattle.indexed_store.proofs.MovingLaws.{moves-kept}
 use Rattle.ft_engine.proofs.CursorLaws.{prepares-quiet, quiet-waits, seen-all}
 use Rattle.indexed_store.specs.Changing.{changed}
 use Rattle.indexed_store.specs.DefinitionsOf.{definitions_of}
@@ -32,5 +33,6 @@ returns-clause-prepares c =
       cursors = ap (λ (h : Holding). h.cursors) is;
       latest = ap (λ (h : Holding). h.latest) is;
       next = omega (arith, ap (λ (h : Holding). h.next) is);
+      moves = moves-kept held.next held.indexes c.held.inside.indexes.items (ap (λ (h : Holding). h.indexes) is);
     }) (ap (λ (h : Holding). h.indexes) is)
     (subst (λ (s : State). Does (CursorRead c.args.index.now c.args.id c.args.count) held.next state c.read_in.new.reply.bytes s) same done)

@@ -39,6 +39,7 @@ returns-in-Ok-clause-prepares c =
         omega (arith, ap (λ (is : List Index). length is) c.in-Ok.ensures.indexes, c.index_count.ensures, c.if-index_count-ge-MOST_INDEXES.false),
         made.stands,
         subst (All (AreApart c.in-Ok.index)) (sym c.in-Ok.ensures.indexes) made.apart,
+        made.given,
       );
       still = search rules;
     }

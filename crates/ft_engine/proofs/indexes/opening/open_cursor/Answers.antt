@@ -1,6 +1,7 @@
 use Rattle.std.specs.Prelude.{Some, None, refl}
 use Rattle.std.proofs.Common.{◌∙◌, ap, sym, arith, subst, ℕ}
 use Rattle.cmd_parse.specs.Aggregating.{aggregate_of}
+use Rattle.indexed_store.proofs.MovingLaws.{moves-kept}
 use Rattle.ft_engine.proofs.CursorLaws.{prepares-quiet}
 use Rattle.ft_engine.proofs.OpeningLaws.{opens-prepares}
 use Rattle.ft_engine.specs.Parts.{DoesFirst}
@@ -41,5 +42,6 @@ returns-in-None-clause-prepares c =
       cursors = ap (λ (h : Holding). h.cursors) is;
       latest = ap (λ (h : Holding). h.latest) is;
       next = omega (arith, ap (λ (h : Holding). h.next) is);
+      moves = moves-kept held.next held.indexes c.held.inside.indexes.items (ap (λ (h : Holding). h.indexes) is);
     }) (ap (λ (h : Holding). h.indexes) is)
     (subst (λ (n : ℕ). DoesFirst what c.args.cursor n (state_of held) None c.read_first-first.new.reply.bytes) (ap (λ (h : Holding). h.next) is) does)

@@ -1,5 +1,6 @@
 use Rattle.std.proofs.Common.{sym, subst}
 use Rattle.ft_meaning.specs.Member.{members}
+use Rattle.ft_index.specs.Coming.{ListsCome}
 use Rattle.ft_index.specs.Index.{Index, Indexes, is_live}
 use Rattle.ft_index.specs.Markers.{AreBefore}
 use Rattle.ft_index.specs.Thinned.{ListsThin}
@@ -24,3 +25,6 @@ returns-clause-stands c docs stands =
     let inside = the_view c.self.inside in
     let before : Indexes inside docs = subst (λ (i : Index). Indexes i docs) (sym c.self.view_is) stands in
     has-thin inside.def inside.table.live inside.lists c.collect.new.self (members inside.def docs) c.collect.ensures.thin before
+
+pub returns-clause-comes : goal.returns-clause-comes
+returns-clause-comes c = subst (λ (i : Index). ListsCome c.args.markers.now.event i.lists c.collect.new.self) c.self.view_is c.collect.ensures.comes

@@ -4,12 +4,14 @@ use Rattle.doc_table.specs.Table.{Vector}
 use Rattle.ft_meaning.specs.Member.{members}
 use Rattle.ft_index.specs.Has.{Has}
 use Rattle.ft_index.specs.Fits.{fit_of}
+use Rattle.ft_index.specs.Coming.{ListsCome}
 use Rattle.ft_index.specs.Index.{Index, Indexes}
 use Rattle.ft_index.specs.Markers.{AreBefore, GainsMarkers}
 use Rattle.ft_index.specs.contracts.index.FtIndex.{the_view}
 use Rattle.ft_index.specs.declared.ready.Fit.{Fit}
 use Rattle.ft_index.specs.declared.ready.Fit.TheVariants.{Member, NoPrefix, Failed}
 use Rattle.ft_index.specs.declared.ready.Ready.{Ready}
+use Rattle.ft_index.proofs.ComingLaws.{lists-stay}
 use Rattle.ft_index.proofs.MemberLaws.{indexes-same, seen-member, seen-other}
 use Rattle.ft_index.proofs.index.FtIndex.prepare.Goals as goal
 
@@ -37,6 +39,7 @@ returns-in-NoPrefix c =
       none = tt;
       before = subst (λ (i : Index). AreBefore c.args.markers.now i.lists) (sym c.self.view_is) c.requires.markers;
       gains = subst (λ (i : Index). GainsMarkers i.lists inside.lists c.args.markers.now c.args.markers.now) c.self.view_is (λ marker has. inl has);
+      comes = subst (λ (i : Index). ListsCome c.args.markers.now.event i.lists inside.lists) c.self.view_is (lists-stay c.args.markers.now.event inside.lists);
       event = refl;
       next = omega arith;
     }

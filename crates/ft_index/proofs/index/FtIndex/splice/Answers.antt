@@ -1,5 +1,6 @@
 use Rattle.std.proofs.Common.{sym, subst}
 use Rattle.ft_meaning.specs.Member.{members}
+use Rattle.ft_index.specs.Coming.{ListsCome}
 use Rattle.ft_index.specs.Index.{Index, Indexes, is_live}
 use Rattle.ft_index.specs.Lists.{has_id}
 use Rattle.ft_index.specs.Markers.{AreBefore}
@@ -58,3 +59,10 @@ returns-clause-gains c =
     let fits = subst (λ (i : Index). FitsName (is_live i) i.lists c.args.name.now c.args.repair.now) (sym c.self.view_is) c.requires.fits in
     let done = name-spliced (has_id inside.table.live) c.args.name.now c.args.repair.now c.args.marker inside.lists c.splice.new.self c.splice.result fits c.splice.ensures in
     subst (λ (i : Index). GainsMarker i.lists c.splice.new.self c.args.marker) c.self.view_is (gains-spliced c.args.name.now c.args.marker inside.lists c.splice.new.self done.changes)
+
+pub returns-clause-comes : goal.returns-clause-comes
+returns-clause-comes c =
+    let inside = the_view c.self.inside in
+    let fits = subst (λ (i : Index). FitsName (is_live i) i.lists c.args.name.now c.args.repair.now) (sym c.self.view_is) c.requires.fits in
+    subst (λ (i : Index). ListsCome c.args.marker.event i.lists c.splice.new.self) c.self.view_is
+    (name-spliced (has_id inside.table.live) c.args.name.now c.args.repair.now c.args.marker inside.lists c.splice.new.self c.splice.result fits c.splice.ensures).comes

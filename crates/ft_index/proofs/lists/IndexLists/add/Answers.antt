@@ -6,10 +6,13 @@ use Rattle.std.specs.Vec.{with_items}
 use Rattle.id_iters.specs.declared.list_name.ListName.TheVariants as names
 use Rattle.numeric_ranges.specs.Ranges.{IsAbove, Rows}
 use Rattle.ft_index.specs.Adding.{IsSeen, IsUnseen, ListsHave, RangesHaveAll}
+use Rattle.ft_index.specs.Coming.{ListsCome}
 use Rattle.ft_index.specs.Lists.{AllLists, rows_of}
-use Rattle.ft_index.specs.Markers.{AllBefore, AreBefore, GainsMarkers, MarkersDiffer, TakesMarkers, marker_at, range_marker}
+use Rattle.ft_index.specs.Markers.{AllBefore, AreBefore, GainsMarkers, MarkersDiffer, TakesLists, TakesMarkers, marker_at, range_list, range_marker, tag_list}
 use Rattle.ft_index.specs.UpTo.{AreUpTo, RangesUpTo}
 use Rattle.ft_index.specs.contracts.lists.IndexLists.{the_view}
+use Rattle.gc_splice.proofs.GrowingLaws.{comes_same}
+use Rattle.ft_index.proofs.ComingLaws.{all-come}
 use Rattle.ft_index.proofs.ListsLaws.{all-seen, all-unseen, differ-taken, gains-taken, ranges-below, takes-three, takes-two, takes-words, up_to-higher}
 use Rattle.ft_index.proofs.TakingLaws.{before-taken}
 use Rattle.ft_index.proofs.lists.IndexLists.add.Goals as goal
@@ -41,7 +44,7 @@ returns-in_err-add_words c =
     let before : AreBefore c.args.markers.now old = subst (AreBefore c.args.markers.now) (sym c.self.view_is) c.requires.before in
     let differ : MarkersDiffer old = subst MarkersDiffer (sym c.self.view_is) c.requires.differ in
     let new : AllLists = record old { words = c.add_words.new.terms } in
-    let takes : TakesMarkers c.args.markers.now c.add_words.new.markers (marker_at old) (marker_at new) = takes-words c.args.markers.now c.add_words.new.markers old c.add_words.new.terms before c.add_words.ensures.takes in
+    let takes : TakesMarkers c.args.markers.now c.add_words.new.markers (marker_at old) (marker_at new) = takes-words c.args.markers.now c.add_words.new.markers old c.add_words.new.terms before c.add_words.ensures.takes.markers in
     record {
       unseen = subst (λ (lists : AllLists). IsUnseen doc.id (ListsHave def lists) (ListsHave def new)) c.self.view_is
           (all-unseen def doc.id old new c.add_words.ensures.unseen (λ live docs dead has. has) (λ live docs dead has. has));
@@ -50,6 +53,8 @@ returns-in_err-add_words c =
       differ = differ-taken c.args.markers.now c.add_words.new.markers old new differ takes;
       before = before-taken c.args.markers.now c.add_words.new.markers (marker_at old) (marker_at new) before takes;
       gains = subst (λ (lists : AllLists). GainsMarkers lists new c.args.markers.now c.add_words.new.markers) c.self.view_is (gains-taken c.args.markers.now c.add_words.new.markers old new takes);
+      comes = subst (λ (lists : AllLists). ListsCome c.args.markers.now.event lists new) c.self.view_is
+          (all-come c.args.markers.now.event c.args.markers.now.event c.args.markers.now.event old new (omega arith) (omega arith) c.add_words.ensures.takes.come (λ name. comes_same c.args.markers.now.event (tag_list old.tags name)) (λ name. comes_same c.args.markers.now.event (range_list old.ranges name)));
       event = takes.event;
       next = takes.next;
     }
@@ -71,7 +76,7 @@ add_tags-requires-clause-before c =
     let old : AllLists = the_view c.self.inside in
     let before : AreBefore c.args.markers.now old = subst (AreBefore c.args.markers.now) (sym c.self.view_is) c.requires.before in
     let new : AllLists = record old { words = c.add_words.new.terms } in
-    let takes : TakesMarkers c.args.markers.now c.add_words.new.markers (marker_at old) (marker_at new) = takes-words c.args.markers.now c.add_words.new.markers old c.add_words.new.terms before c.add_words.ensures.takes in
+    let takes : TakesMarkers c.args.markers.now c.add_words.new.markers (marker_at old) (marker_at new) = takes-words c.args.markers.now c.add_words.new.markers old c.add_words.new.terms before c.add_words.ensures.takes.markers in
     (λ name. before-taken c.args.markers.now c.add_words.new.markers (marker_at old) (marker_at new) before takes (names.Tag name.0 name.1))
 
 pub returns-in_err-add_tags : goal.returns-in_err-add_tags
@@ -84,7 +89,7 @@ returns-in_err-add_tags c =
     let differ : MarkersDiffer old = subst MarkersDiffer (sym c.self.view_is) c.requires.differ in
     let new : AllLists = record old { words = c.add_words.new.terms; tags = c.add_tags.new.lists } in
     let takes : TakesMarkers c.args.markers.now c.add_tags.new.markers (marker_at old) (marker_at new) =
-    takes-two c.args.markers.now c.add_words.new.markers c.add_tags.new.markers old c.add_words.new.terms c.add_tags.new.lists before c.add_words.ensures.takes c.add_tags.ensures.takes in
+    takes-two c.args.markers.now c.add_words.new.markers c.add_tags.new.markers old c.add_words.new.terms c.add_tags.new.lists before c.add_words.ensures.takes.markers c.add_tags.ensures.takes.markers in
     record {
       unseen = subst (λ (lists : AllLists). IsUnseen doc.id (ListsHave def lists) (ListsHave def new)) c.self.view_is
           (all-unseen def doc.id old new c.add_words.ensures.unseen c.add_tags.ensures.unseen (λ live docs dead has. has));
@@ -93,6 +98,8 @@ returns-in_err-add_tags c =
       differ = differ-taken c.args.markers.now c.add_tags.new.markers old new differ takes;
       before = before-taken c.args.markers.now c.add_tags.new.markers (marker_at old) (marker_at new) before takes;
       gains = subst (λ (lists : AllLists). GainsMarkers lists new c.args.markers.now c.add_tags.new.markers) c.self.view_is (gains-taken c.args.markers.now c.add_tags.new.markers old new takes);
+      comes = subst (λ (lists : AllLists). ListsCome c.args.markers.now.event lists new) c.self.view_is
+          (all-come c.args.markers.now.event c.add_words.new.markers.event c.args.markers.now.event old new (omega (arith, c.add_words.ensures.takes.markers.event)) (omega arith) c.add_words.ensures.takes.come c.add_tags.ensures.takes.come (λ name. comes_same c.args.markers.now.event (range_list old.ranges name)));
       event = takes.event;
       next = takes.next;
     }
@@ -116,7 +123,7 @@ add_numbers-requires-clause-before c =
     let before : AreBefore c.args.markers.now old = subst (AreBefore c.args.markers.now) (sym c.self.view_is) c.requires.before in
     let new : AllLists = record old { words = c.add_words.new.terms; tags = c.add_tags.new.lists } in
     let takes : TakesMarkers c.args.markers.now c.add_tags.new.markers (marker_at old) (marker_at new) =
-    takes-two c.args.markers.now c.add_words.new.markers c.add_tags.new.markers old c.add_words.new.terms c.add_tags.new.lists before c.add_words.ensures.takes c.add_tags.ensures.takes in
+    takes-two c.args.markers.now c.add_words.new.markers c.add_tags.new.markers old c.add_words.new.terms c.add_tags.new.lists before c.add_words.ensures.takes.markers c.add_tags.ensures.takes.markers in
     subst (λ (ranges : List (Option Rows)). AllBefore c.add_tags.new.markers (range_marker ranges)) (sym c.as_mut_slice.ensures.value)
     (λ name. before-taken c.args.markers.now c.add_tags.new.markers (marker_at old) (marker_at new) before takes (names.Range name.0 name.1))
 
@@ -134,10 +141,11 @@ returns c =
     let before : AreBefore c.args.markers.now old = subst (AreBefore c.args.markers.now) (sym c.self.view_is) c.requires.before in
     let differ : MarkersDiffer old = subst MarkersDiffer (sym c.self.view_is) c.requires.differ in
     let new : AllLists = record { words = c.add_words.new.terms; tags = c.add_tags.new.lists; ranges = ranges } in
-    let numbers : TakesMarkers c.add_tags.new.markers c.add_numbers.new.markers (range_marker old.ranges) (range_marker ranges) =
-    lent (λ was now. TakesMarkers c.add_tags.new.markers c.add_numbers.new.markers (range_marker was) (range_marker now)) _ _ _ _ c.as_mut_slice.ensures.value written c.add_numbers.ensures.takes in
+    let lists : TakesLists c.add_tags.new.markers c.add_numbers.new.markers (range_list old.ranges) (range_list ranges) =
+    lent (λ was now. TakesLists c.add_tags.new.markers c.add_numbers.new.markers (range_list was) (range_list now)) _ _ _ _ c.as_mut_slice.ensures.value written c.add_numbers.ensures.takes in
+    let numbers : TakesMarkers c.add_tags.new.markers c.add_numbers.new.markers (range_marker old.ranges) (range_marker ranges) = lists.markers in
     let takes : TakesMarkers c.args.markers.now c.add_numbers.new.markers (marker_at old) (marker_at new) =
-    takes-three c.args.markers.now c.add_words.new.markers c.add_tags.new.markers c.add_numbers.new.markers old c.add_words.new.terms c.add_tags.new.lists ranges before c.add_words.ensures.takes c.add_tags.ensures.takes numbers in
+    takes-three c.args.markers.now c.add_words.new.markers c.add_tags.new.markers c.add_numbers.new.markers old c.add_words.new.terms c.add_tags.new.lists ranges before c.add_words.ensures.takes.markers c.add_tags.ensures.takes.markers numbers in
     record {
       unseen = subst (λ (lists : AllLists). IsUnseen doc.id (ListsHave def lists) (ListsHave def new)) c.self.view_is
           (all-unseen def doc.id old new c.add_words.ensures.unseen c.add_tags.ensures.unseen
@@ -151,6 +159,8 @@ returns c =
       differ = differ-taken c.args.markers.now c.add_numbers.new.markers old new differ takes;
       before = before-taken c.args.markers.now c.add_numbers.new.markers (marker_at old) (marker_at new) before takes;
       gains = subst (λ (lists : AllLists). GainsMarkers lists new c.args.markers.now c.add_numbers.new.markers) c.self.view_is (gains-taken c.args.markers.now c.add_numbers.new.markers old new takes);
+      comes = subst (λ (lists : AllLists). ListsCome c.args.markers.now.event lists new) c.self.view_is
+          (all-come c.args.markers.now.event c.add_words.new.markers.event c.add_tags.new.markers.event old new (omega (arith, c.add_words.ensures.takes.markers.event)) (omega (arith, c.add_words.ensures.takes.markers.event, c.add_tags.ensures.takes.markers.event)) c.add_words.ensures.takes.come c.add_tags.ensures.takes.come lists.come);
       event = takes.event;
       next = takes.next;
     }

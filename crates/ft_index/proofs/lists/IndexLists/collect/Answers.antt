@@ -1,15 +1,18 @@
 -- The lists of each kind lose their dead entries in turn.
-use Rattle.std.proofs.Common.{◌≡◌, List, Option, sym, subst, ◌∙◌, rules}
+use Rattle.std.proofs.Common.{◌≡◌, List, Option, arith, sym, subst, ◌∙◌, rules}
 use Rattle.std.proofs.lemmas.List.{with_items_is}
 use Rattle.std.proofs.lemmas.Result.{on_ok_weaker}
 use Rattle.std.specs.Vec.{with_items}
 use Rattle.id_iters.specs.declared.list_name.ListName.TheVariants as names
 use Rattle.numeric_ranges.specs.Ranges.{Rows}
+use Rattle.ft_index.specs.Coming.{ListsCome}
 use Rattle.ft_index.specs.Lists.{AllLists, rows_of}
-use Rattle.ft_index.specs.Markers.{AllBefore, AreBefore, GainsMarkers, MarkersDiffer, TakesMarkers, marker_at, range_marker}
+use Rattle.ft_index.specs.Markers.{AllBefore, AreBefore, GainsMarkers, MarkersDiffer, TakesLists, TakesMarkers, marker_at, range_list, range_marker, tag_list}
 use Rattle.ft_index.specs.Thinned.{ListsThin, RangesLive, RangesThin}
 use Rattle.ft_index.specs.contracts.lists.IndexLists.{the_view}
+use Rattle.gc_splice.proofs.GrowingLaws.{comes_same}
 use Rattle.ft_index.proofs.CollectLaws.{tags-same}
+use Rattle.ft_index.proofs.ComingLaws.{all-come}
 use Rattle.ft_index.proofs.ListsLaws.{differ-taken, gains-taken, takes-three, takes-two, takes-words}
 use Rattle.ft_index.proofs.TakingLaws.{before-taken}
 use Rattle.ft_index.proofs.ThinLaws.{slot-same}
@@ -28,7 +31,7 @@ returns-in_err-collect_words g c =
     let before : AreBefore c.args.markers.now old = subst (AreBefore c.args.markers.now) (sym c.self.view_is) c.requires.before in
     let differ : MarkersDiffer old = subst MarkersDiffer (sym c.self.view_is) c.requires.differ in
     let new : AllLists = record old { words = c.collect_words.new.terms } in
-    let takes : TakesMarkers c.args.markers.now c.collect_words.new.markers (marker_at old) (marker_at new) = takes-words c.args.markers.now c.collect_words.new.markers old c.collect_words.new.terms before c.collect_words.ensures.takes in
+    let takes : TakesMarkers c.args.markers.now c.collect_words.new.markers (marker_at old) (marker_at new) = takes-words c.args.markers.now c.collect_words.new.markers old c.collect_words.new.terms before c.collect_words.ensures.takes.markers in
     let thin : ListsThin live old new = record { words = c.collect_words.ensures.thin; tags = tags-same live old.tags; ranges = λ field. slot-same live (rows_of old.ranges field) } in
     record {
       thin = subst (λ (lists : AllLists). ListsThin live lists new) c.self.view_is thin;
@@ -36,6 +39,8 @@ returns-in_err-collect_words g c =
       differ = differ-taken c.args.markers.now c.collect_words.new.markers old new differ takes;
       before = before-taken c.args.markers.now c.collect_words.new.markers (marker_at old) (marker_at new) before takes;
       gains = subst (λ (lists : AllLists). GainsMarkers lists new c.args.markers.now c.collect_words.new.markers) c.self.view_is (gains-taken c.args.markers.now c.collect_words.new.markers old new takes);
+      comes = subst (λ (lists : AllLists). ListsCome c.args.markers.now.event lists new) c.self.view_is
+          (all-come c.args.markers.now.event c.args.markers.now.event c.args.markers.now.event old new (omega (arith)) (omega (arith)) c.collect_words.ensures.takes.come (λ name. comes_same c.args.markers.now.event (tag_list old.tags name)) (λ name. comes_same c.args.markers.now.event (range_list old.ranges name)));
       event = takes.event;
       next = takes.next;
     }
@@ -45,7 +50,7 @@ collect_tags-requires g c =
     let old : AllLists = the_view c.self.inside in
     let before : AreBefore c.args.markers.now old = subst (AreBefore c.args.markers.now) (sym c.self.view_is) c.requires.before in
     let new : AllLists = record old { words = c.collect_words.new.terms } in
-    let takes : TakesMarkers c.args.markers.now c.collect_words.new.markers (marker_at old) (marker_at new) = takes-words c.args.markers.now c.collect_words.new.markers old c.collect_words.new.terms before c.collect_words.ensures.takes in
+    let takes : TakesMarkers c.args.markers.now c.collect_words.new.markers (marker_at old) (marker_at new) = takes-words c.args.markers.now c.collect_words.new.markers old c.collect_words.new.terms before c.collect_words.ensures.takes.markers in
     record { before = λ name. before-taken c.args.markers.now c.collect_words.new.markers (marker_at old) (marker_at new) before takes (names.Tag name.0 name.1) }
 
 pub returns-in_err-collect_tags : goal.returns-in_err-collect_tags
@@ -56,7 +61,7 @@ returns-in_err-collect_tags g c =
     let differ : MarkersDiffer old = subst MarkersDiffer (sym c.self.view_is) c.requires.differ in
     let new : AllLists = record old { words = c.collect_words.new.terms; tags = c.collect_tags.new.tags } in
     let takes : TakesMarkers c.args.markers.now c.collect_tags.new.markers (marker_at old) (marker_at new) =
-    takes-two c.args.markers.now c.collect_words.new.markers c.collect_tags.new.markers old c.collect_words.new.terms c.collect_tags.new.tags before c.collect_words.ensures.takes c.collect_tags.ensures.takes in
+    takes-two c.args.markers.now c.collect_words.new.markers c.collect_tags.new.markers old c.collect_words.new.terms c.collect_tags.new.tags before c.collect_words.ensures.takes.markers c.collect_tags.ensures.takes.markers in
     let thin : ListsThin live old new = record { words = c.collect_words.ensures.thin; tags = c.collect_tags.ensures.thin; ranges = λ field. slot-same live (rows_of old.ranges field) } in
     record {
       thin = subst (λ (lists : AllLists). ListsThin live lists new) c.self.view_is thin;
@@ -64,6 +69,8 @@ returns-in_err-collect_tags g c =
       differ = differ-taken c.args.markers.now c.collect_tags.new.markers old new differ takes;
       before = before-taken c.args.markers.now c.collect_tags.new.markers (marker_at old) (marker_at new) before takes;
       gains = subst (λ (lists : AllLists). GainsMarkers lists new c.args.markers.now c.collect_tags.new.markers) c.self.view_is (gains-taken c.args.markers.now c.collect_tags.new.markers old new takes);
+      comes = subst (λ (lists : AllLists). ListsCome c.args.markers.now.event lists new) c.self.view_is
+          (all-come c.args.markers.now.event c.collect_words.new.markers.event c.args.markers.now.event old new (omega (arith, c.collect_words.ensures.takes.markers.event)) (omega (arith)) c.collect_words.ensures.takes.come c.collect_tags.ensures.takes.come (λ name. comes_same c.args.markers.now.event (range_list old.ranges name)));
       event = takes.event;
       next = takes.next;
     }
@@ -74,7 +81,7 @@ collect_ranges-requires g c =
     let before : AreBefore c.args.markers.now old = subst (AreBefore c.args.markers.now) (sym c.self.view_is) c.requires.before in
     let new : AllLists = record old { words = c.collect_words.new.terms; tags = c.collect_tags.new.tags } in
     let takes : TakesMarkers c.args.markers.now c.collect_tags.new.markers (marker_at old) (marker_at new) =
-    takes-two c.args.markers.now c.collect_words.new.markers c.collect_tags.new.markers old c.collect_words.new.terms c.collect_tags.new.tags before c.collect_words.ensures.takes c.collect_tags.ensures.takes in
+    takes-two c.args.markers.now c.collect_words.new.markers c.collect_tags.new.markers old c.collect_words.new.terms c.collect_tags.new.tags before c.collect_words.ensures.takes.markers c.collect_tags.ensures.takes.markers in
     record {
       before = subst (λ (ranges : List (Option Rows)). AllBefore c.collect_tags.new.markers (range_marker ranges)) (sym c.as_mut_slice.ensures.value)
           (λ name. before-taken c.args.markers.now c.collect_tags.new.markers (marker_at old) (marker_at new) before takes (names.Range name.0 name.1));
@@ -93,10 +100,10 @@ returns g c =
     let before : AreBefore c.args.markers.now old = subst (AreBefore c.args.markers.now) (sym c.self.view_is) c.requires.before in
     let differ : MarkersDiffer old = subst MarkersDiffer (sym c.self.view_is) c.requires.differ in
     let new : AllLists = record { words = c.collect_words.new.terms; tags = c.collect_tags.new.tags; ranges = ranges } in
-    let numbers : TakesMarkers c.collect_tags.new.markers c.collect_ranges.new.markers (range_marker old.ranges) (range_marker ranges) =
-    lent (λ was now. TakesMarkers c.collect_tags.new.markers c.collect_ranges.new.markers (range_marker was) (range_marker now)) _ _ _ _ c.as_mut_slice.ensures.value written c.collect_ranges.ensures.takes in
+    let numbers : TakesLists c.collect_tags.new.markers c.collect_ranges.new.markers (range_list old.ranges) (range_list ranges) =
+    lent (λ was now. TakesLists c.collect_tags.new.markers c.collect_ranges.new.markers (range_list was) (range_list now)) _ _ _ _ c.as_mut_slice.ensures.value written c.collect_ranges.ensures.takes in
     let takes : TakesMarkers c.args.markers.now c.collect_ranges.new.markers (marker_at old) (marker_at new) =
-    takes-three c.args.markers.now c.collect_words.new.markers c.collect_tags.new.markers c.collect_ranges.new.markers old c.collect_words.new.terms c.collect_tags.new.tags ranges before c.collect_words.ensures.takes c.collect_tags.ensures.takes numbers in
+    takes-three c.args.markers.now c.collect_words.new.markers c.collect_tags.new.markers c.collect_ranges.new.markers old c.collect_words.new.terms c.collect_tags.new.tags ranges before c.collect_words.ensures.takes.markers c.collect_tags.ensures.takes.markers numbers.markers in
     let thin : ListsThin live old new = record {
       words = c.collect_words.ensures.thin;
       tags = c.collect_tags.ensures.thin;
@@ -112,6 +119,8 @@ returns g c =
       differ = differ-taken c.args.markers.now c.collect_ranges.new.markers old new differ takes;
       before = before-taken c.args.markers.now c.collect_ranges.new.markers (marker_at old) (marker_at new) before takes;
       gains = subst (λ (lists : AllLists). GainsMarkers lists new c.args.markers.now c.collect_ranges.new.markers) c.self.view_is (gains-taken c.args.markers.now c.collect_ranges.new.markers old new takes);
+      comes = subst (λ (lists : AllLists). ListsCome c.args.markers.now.event lists new) c.self.view_is
+          (all-come c.args.markers.now.event c.collect_words.new.markers.event c.collect_tags.new.markers.event old new (omega (arith, c.collect_words.ensures.takes.markers.event)) (omega (arith, c.collect_words.ensures.takes.markers.event, c.collect_tags.ensures.takes.markers.event)) c.collect_words.ensures.takes.come c.collect_tags.ensures.takes.come numbers.come);
       event = takes.event;
       next = takes.next;
     }

@@ -41,6 +41,3 @@ returns-clause-least g c =
     let held = g.T.Lists.held c.args.lists.now in
     ends held c.args.self.now c.met.self.words c.met.invariant.names c.args.from c.met.next c.met.invariant.none
     (subst (λ (o : Option ℕ). IsLeast (λ id. held.live id && list_all (λ name. has_word held name id) (list_names c.met.self.words)) c.met.next o) c.in_default.is c.in_ok-id.ensures.least)
-
-pub returns-then-len-eq0-clause-least : goal.returns-then-len-eq0-clause-least
-returns-then-len-eq0-clause-least g c = grind (arith, common_steps)

@@ -1,12 +1,13 @@
 use Rattle.std.specs.Prelude.{◌+◌}
-use Rattle.std.proofs.Common.{arith, subst, sym}
+use Rattle.std.proofs.Common.{arith, refl, subst, sym}
 use Rattle.std.proofs.lemmas.Result.{IfOk-weaker}
 use Rattle.ft_index.specs.Index.{Index}
 use Rattle.indexed_store.proofs.ApartLaws.{new-apart}
 use Rattle.indexed_store.proofs.CursorsLaws.{book-until}
 use Rattle.indexed_store.proofs.StepLaws.{in_step-read}
 use Rattle.indexed_store.specs.Holding.{Holding, holding_of}
-use Rattle.indexed_store.specs.Preparing.{IsMade}
+use Rattle.indexed_store.specs.Preparing.{IsMade, Stays}
+use Rattle.indexed_store.proofs.MovingLaws.{moves_same}
 use Rattle.indexed_store.proofs.held.IndexedStore.index_over.Goals as goal
 
 pub returns-clause-made : goal.returns-clause-made
@@ -18,6 +19,7 @@ returns-clause-made c =
       failures = c.in_ok-index.ensures.failures;
       stands = c.in_ok-index.ensures.stands;
       apart = new-apart c.self.inside.store.space c.self.inside.next c.self.inside.indexes.items c.in_ok-index.index c.self.invariant.step.stand c.in_ok-index.ensures.given;
+      given = c.in_ok-index.ensures.given;
     }) in
     IfOk-weaker c.new.result _ _ (λ index same. subst (λ (i : Index). IsMade c.args.def c.args.failures i c.args.self.now after) (sym same) made) c.new.ensures
 
@@ -38,3 +40,15 @@ invariant_of-self c = record {
   room = c.self.invariant.room;
   ids = c.self.invariant.ids;
 }
+
+pub returns-clause-stays : goal.returns-clause-stays
+returns-clause-stays c =
+    let in_ = c.self.inside in
+    subst (λ (h : Holding). Stays h (holding_of c.index_over.new.store in_.indexes.items in_.cursors in_.opens in_.latest (in_.next + 1))) c.self.view_is (record {
+      space = c.index_over.ensures.space;
+      definitions = refl;
+      cursors = refl;
+      latest = refl;
+      next = omega arith;
+      moves = moves_same in_.next in_.indexes.items;
+    })

@@ -7,6 +7,7 @@ use Rattle.indexed_store.specs.Preparing.{Stays}
 use Rattle.indexed_store.specs.declared.waiting.CursorPlace.{CursorPlace}
 use Rattle.indexed_store.proofs.CursorsLaws.{all-seen, book-waits}
 use Rattle.indexed_store.proofs.HoldingLaws.{in_step-until}
+use Rattle.indexed_store.proofs.MovingLaws.{moves_same}
 use Rattle.indexed_store.proofs.held.IndexedStore.prepare_cursor.Goals as goal
 
 -- the id of a cursor of this event is its number
@@ -46,6 +47,7 @@ returns-clause-stays c =
       cursors = ap (seen (Some place)) c.in_ok-open.ensures.ok ∙ (waits.0 ∙ sym (all-seen in_.opens in_.cursors in_.next c.self.invariant.kept none));
       latest = refl;
       next = omega arith;
+      moves = moves_same in_.next in_.indexes.items;
     })
 
 pub open-requires : goal.open-requires

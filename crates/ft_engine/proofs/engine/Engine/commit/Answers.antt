@@ -1,0 +1,15 @@
+use Rattle.std.proofs.Common.{ap, subst, sym}
+use Rattle.ft_engine.specs.Stands.{Stands}
+use Rattle.ft_engine.specs.Stepping.{Moves}
+use Rattle.indexed_store.specs.Moving.{IndexesMove}
+use Rattle.std.specs.Prelude.{List}
+use Rattle.ft_index.specs.Index.{Index}
+use Rattle.ft_engine.proofs.engine.Engine.commit.Goals as goal
+
+pub returns-clause-moves : goal.returns-clause-moves
+returns-clause-moves c =
+    let inside = c.self.inside in
+    subst (λ (e : Stands). Moves e c.end.new.self) c.self.view_is (record {
+      next = c.end.ensures.later;
+      indexes = subst (λ (xs : List Index). IndexesMove inside.next inside.held.indexes xs) (sym (ap (λ (e : Stands). e.indexes) c.end.ensures.ended)) c.make.ensures.moves;
+    })

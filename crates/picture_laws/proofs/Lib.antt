@@ -1,0 +1,2 @@
+pub mod FittingLaws
+pub mod PicturingLaws
