@@ -82,6 +82,15 @@ def shop(count, query, options=()):
     return loads + (searches(SHOP_SEARCHES, query, *options) if query else [])
 
 
+VERSIONS = 5
+
+
+def rewritten(count, *behind):
+    """Documents of the shop that were each written five times, and then, behind some other commands, searches of a tag."""
+    loads = shop(count, None)
+    return loads + loads[1:] * (VERSIONS - 1) + list(behind) + searches(SHOP_SEARCHES, SHOP_QUERIES["tag"])
+
+
 def aggregates(count, *parts):
     """Of all documents of the shop."""
     return shop(count, None) + [request("FT.AGGREGATE", "i", "*", *parts)] * SHOP_AGGREGATES
@@ -126,6 +135,8 @@ WORKS = {
     "shop-cursor-small": lambda count: cursor(count, 10),
     "shop-cursor-kept": lambda count: cursor(count, 1_000, "SORTBY", 1, "@p"),
     "beside-cursors": beside_cursors,
+    "shop-rewritten": rewritten,
+    "shop-collected": lambda count: rewritten(count, request("FT.DEBUG", "GC_FORCEINVOKE", "i")),
 }
 for name, query in SHOP_QUERIES.items():
     WORKS["shop-" + name] = lambda count, query=query: shop(count, query)

@@ -52,6 +52,8 @@ shop-sort-all 25000 50000 100000: all, sorted by the number, the first ten
 shop-sort-all-deep 25000 50000 100000: the same, ten from the thousandth on
 shop-in-keys 25000 50000 100000: a word of all in three keys
 shop-filter 25000 50000 100000: a word of all, and FILTER of 9 documents in 1,000
+shop-rewritten 10000 20000 40000: each document written five times, then 200 searches of a tag
+shop-collected 10000 20000 40000: the same, with FT.DEBUG GC_FORCEINVOKE before the searches
 shop-group 25000 50000 100000: 20 aggregates of all: groups by the tag, the count and the sum of the numbers of each
 shop-group-two 25000 50000 100000: the same by tag and number, a group for each document, ten of them shown
 shop-group-sort 25000 50000 100000: groups by the tag, the ten with the greatest sums

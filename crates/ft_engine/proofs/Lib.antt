@@ -4,6 +4,7 @@ mod BehindLaws
 pub mod CollectionLaws
 pub mod CursorLaws
 pub mod EngineLaws
+pub mod EventLaws
 pub mod ExactLaws
 pub mod FilterLaws
 pub mod IndexCommandLaws

@@ -1,11 +1,17 @@
 -- One event of an engine, and that a history of such events is legal.
-use Rattle.std.specs.Prelude.{◌≡◌, ◌≤◌, ℕ, List, [], false}
+use Rattle.std.specs.Prelude.{◌≡◌, ◌≤◌, ◌<◌, ℕ, List, [], Option, false}
+use Rattle.ft_index.specs.declared.repairs.AnyRepair.{AnyRepair}
+use Rattle.ft_index.specs.declared.snapshots.Snapshot.{Snapshot}
+use Rattle.gc_splice.specs.declared.splice.Spliced.{Spliced}
+use Rattle.gc_splice.specs.declared.splice.Spliced.TheVariants.{LastEvent}
 use Rattle.history_core.specs.Histories.{Leads}
 use Rattle.history_core.specs.Running.{IsStep}
 use Rattle.history_core.specs.declared.entry.Entry.{Entry}
+use Rattle.id_iters.specs.declared.list_name.ListName.{ListName}
 use Rattle.ft_machine.specs.History.{IsLegal}
 use Rattle.ft_machine.specs.Step.{Answers, last_number, next_number}
 use Rattle.indexed_store.specs.Moving.{IndexesMove}
+use Rattle.indexed_store.specs.Repairing.{ScansNamed, SplicesSerial, splice_marker}
 use Rattle.ft_engine.specs.Stands.{Stands, opened}
 
 -- words are answered at a moment by a step of the machine, at the engine's number
@@ -25,6 +31,20 @@ ended engine = record engine { next = next_number engine.next; pending = false }
 pub record Moves (old new : Stands) : Type 0 where
   pub next : old.next ≤ new.next
   pub indexes : IndexesMove old.next old.indexes new.indexes
+
+-- The index of a name is pictured at the engine's number, and nothing is exactly where there is no such index.
+abbrev pub ScansAt : List ℕ → Stands → Option Snapshot → Type 0
+ScansAt name engine taken = ScansNamed name engine.indexes engine.next taken
+
+-- the engine once an event is counted that changes nothing
+abbrev pub counted : Stands → Stands
+counted engine = record engine { next = next_number engine.next }
+
+-- A repair is laid over the list of a name in the index of a serial, under the marker of this event. At the last number there is
+-- no event, and nothing changes.
+pub record SplicesAt (serial : ℕ) (name : ListName) (repair : AnyRepair) (old new : Stands) (outcome : Spliced) : Type 0 where
+  pub last : last_number ≤ old.next → (outcome ≡ LastEvent) × (new ≡ old)
+  pub splices : old.next < last_number → SplicesSerial serial name repair (splice_marker old.next) old.indexes new.indexes outcome
 
 -- One event: a step of the machine of plain hashes, at the engine's number, and the next number.
 pub record Steps (old : Stands) (moment : ℕ) (words : List (List ℕ)) (reply : List ℕ) (new : Stands) : Type 0 where

@@ -3,12 +3,16 @@ ghost use Rattle.std.specs.Prelude.{◌≡◌, ◌<◌, ◌≤◌, ◌^◌, true
 ghost use Rattle.ft_engine.specs.Commands.{AreRefused, CollectsAsAsked, IsLastText, IsLawful, IsQuietAsAsked, IsReadFor, KeepsLimits, ReadsAsAsked, TellsAsAsked, TellsFault, TellsLast, WordsCollect, WordsRead, WordsTell};
 ghost use Rattle.ft_engine.specs.Preparing.{CommitKeeps, CommitReads, EntersAsSaid, IsLast, StepsBy, WritesAsSaid, committed};
 ghost use Rattle.ft_engine.specs.Stands.{IsIndexed, begun, opened};
-ghost use Rattle.ft_engine.specs.Stepping.{AnswersAt, Counts, Moves, ended};
+ghost use Rattle.ft_engine.specs.Stepping.{AnswersAt, Counts, Moves, ScansAt, SplicesAt, counted, ended};
+ghost use Rattle.indexed_store.specs.Repairing.{FitsSerial, IndexesThin};
 
 use crate::prepared::Prepared;
 use crate::step::begin_command;
 use cmd_parse::{CmdFault, Command, read_command};
 use ft_base::{NoMemory, Words};
+use ft_index::{AnyRepair, Snapshot};
+use gc_splice::Spliced;
+use id_iters::ListName;
 use indexed_store::{Change, IndexedStore};
 use reply_buffer::ReplyBuffer;
 use std::alloc::Global;
@@ -22,7 +26,7 @@ const LAST_NUMBER: u64 = 4_611_686_018_427_387_904;
 /// of the next event, the indexes, and what is prepared.
 ///
 /// A command is one event: it is prepared, and then committed or abandoned; or it is refused for its
-/// words. While an event is prepared, no other can begin.
+/// words. A scan is one too, and a splice. While an event is prepared, no other can begin.
 pub struct Engine {
     alloc: Global,
     held: IndexedStore,
@@ -291,6 +295,45 @@ impl Engine {
         self.held.begin(self.next, now);
         self.pending = true;
         self.end();
+    }
+
+    /// A picture of every list of the index of a name, and which ids are live there, in an event of its own: it is counted also
+    /// where memory runs out. None exactly where there is no such index.
+    pub fn scan(&mut self, name: &[u8]) -> Result<Option<Snapshot>, NoMemory>
+        requires free { self.old.pending ≡ false }
+        ensures taken { IfOk result (ScansAt name.now self.old) }
+        ensures still { self.new ≡ counted self.old }
+        ensures indexed { IsIndexed self.new }
+        // What there was is as it was.
+        ensures moves { Moves self.old self.new }
+    {
+        let taken = self.held.scan(name, self.next);
+        self.pending = true;
+        self.end();
+        taken
+    }
+
+    /// Splices a repair into the list of a name in the index of a serial, in an event of its own. It takes no memory: what it takes
+    /// out it leaves in the repair.
+    pub fn splice(&mut self, serial: u64, name: &ListName, repair: &mut AnyRepair) -> Spliced
+        requires fits { FitsSerial serial self.old.indexes name.now repair.old }
+        requires free { self.old.pending ≡ false }
+        ensures splices { SplicesAt serial name.now repair.old self.old self.new result }
+        // Nothing of it is seen, and every live entry stays.
+        ensures still { self.new ≡ record (counted self.old) { indexes = self.new.indexes } }
+        ensures thin { IndexesThin self.old.indexes self.new.indexes }
+        ensures indexed { IsIndexed self.new }
+        // What there was has only grown, or is gone.
+        ensures moves { Moves self.old self.new }
+    {
+        self.held.stand();
+        if LAST_NUMBER <= self.next {
+            return Spliced::LastEvent;
+        }
+        let spliced = self.held.splice(self.next, serial, name, repair);
+        self.pending = true;
+        self.end();
+        spliced
     }
 
     // Ends an event that is prepared.

@@ -14,6 +14,7 @@ pub mod NamedLaws
 pub mod NamesLaws
 pub mod NumberLaws
 pub mod OutcomeLaws
+pub mod PartLaws
 pub mod PartedLaws
 pub mod PictureLaws
 pub mod PlacingLaws

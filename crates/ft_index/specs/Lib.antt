@@ -11,6 +11,7 @@ pub mod Kept
 pub mod Lists
 pub mod Markers
 pub mod Numbering
+pub mod Parting
 pub mod Picturing
 pub mod Records
 pub mod Snapshots

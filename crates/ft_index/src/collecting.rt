@@ -68,7 +68,7 @@ fn note_dead<P: Payload, L: Live>(
 }
 
 /// Takes the dead entries out of the list of one word.
-fn collect_word<L: Live>(
+pub fn collect_word<L: Live>(
     terms: &mut Terms,
     word: &[u8],
     live: &L,
@@ -125,7 +125,7 @@ fn collect_field<L: Live>(
 }
 
 /// Takes the dead entries out of the list of one tag of one field.
-fn collect_tag<L: Live>(
+pub fn collect_tag<L: Live>(
     tags: &mut TagLists,
     field: u16,
     tag: &[u8],

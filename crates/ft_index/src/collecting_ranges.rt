@@ -100,7 +100,7 @@ fn dead_lows<L: Live>(rows: &Ranges, alloc: Global, live: &L) -> Result<Vec<i64>
 }
 
 /// Takes the dead entries out of the list of the range that begins at a low.
-fn collect_row<L: Live>(
+pub fn collect_row<L: Live>(
     rows: &mut Ranges,
     low: i64,
     live: &L,

@@ -6,6 +6,7 @@ ghost use Rattle.ft_index.specs.Fits.{fit_of};
 ghost use Rattle.ft_index.specs.Coming.{ListsCome};
 ghost use Rattle.ft_index.specs.Index.{Indexes, IsIndex, OnlyWaits, StandsBeside, StandsOn, StandsWithout, committed, is_live, killed};
 ghost use Rattle.ft_index.specs.Markers.{AreBefore, AreGiven, GainsMarkers, IsBefore};
+ghost use Rattle.ft_index.specs.Parting.{PicturesPart};
 ghost use Rattle.ft_index.specs.Snapshots.{IsSnapshot, PicturesAll};
 ghost use Rattle.ft_index.specs.Splicing.{FitsName, GainsMarker, IsNew, SplicesName};
 ghost use Rattle.ft_index.specs.Thinned.{ListsLive, ListsThin};
@@ -15,6 +16,7 @@ use crate::lists::IndexLists;
 use crate::live::LiveTable;
 use crate::ready::{Fit, Ready, fit_of};
 use crate::repairs::AnyRepair;
+use crate::rounds::{Round, next_pictures};
 use crate::snapshots::Snapshot;
 use doc_table::DocTable;
 use ft_base::{Doc, IndexDef, NoMemory};
@@ -35,6 +37,7 @@ pub struct FtIndex {
     lists: IndexLists,
     waits: Option<Ready>,
     failures: u64,
+    round: Round,
 }
 
 // Written out, it is one step for whoever drops an index.
@@ -47,10 +50,12 @@ impl Drop for FtIndex {
             lists,
             waits: _,
             failures: _,
+            round,
         } = self;
         drop(def);
         drop(table);
         drop(lists);
+        drop(round);
     }
 }
 
@@ -105,6 +110,7 @@ impl FtIndex {
             lists,
             waits: None,
             failures: 0,
+            round: Round::new(alloc),
         })
     }
 
@@ -199,6 +205,8 @@ impl FtIndex {
                 return Ok(ready);
             }
         }
+        // Until it is committed, what it leaves in the lists is dead.
+        self.round.count(true);
         enter(
             self.alloc,
             &self.def,
@@ -219,7 +227,10 @@ impl FtIndex {
     {
         self.waits = None;
         match ready.fit {
-            Fit::Member => self.table.commit(ready.id),
+            Fit::Member => {
+                self.round.uncount();
+                self.table.commit(ready.id)
+            }
             Fit::NoPrefix => {}
             Fit::Failed => self.failures = one_more(self.failures),
         }
@@ -232,7 +243,9 @@ impl FtIndex {
         ensures gone { self.new ≡ killed id self.old }
         ensures docs { StandsWithout id self.old self.new }
     {
-        self.table.kill(id)
+        let was = self.table.kill(id);
+        self.round.count(was);
+        was
     }
 
     /// A picture of every list of the index, and which ids are live, at the number of an event.
@@ -242,6 +255,45 @@ impl FtIndex {
     {
         let live = self.table.live_bits()?;
         let lists = self.lists.pictures()?;
+        Ok(Snapshot {
+            serial: self.def.serial,
+            number,
+            live,
+            lists,
+        })
+    }
+
+    /// Pictures of the next part of the lists, in the order of names, and which ids are live, at the number of an event. Where no
+    /// round over the lists is under way, one begins once an eighth as many ids died as documents are live; until then the part is
+    /// empty. Lists that the last part passed over, which have no sealed block, lose their dead entries where they stand. At
+    /// number 2^62 nothing changes, since no later event could tell the lists' new markers.
+    pub fn scan_next(&mut self, number: u64, markers: &mut Markers) -> Result<Snapshot, NoMemory>
+        requires markers { AreBefore markers.old self.old.lists }
+        ensures scanned { IfOk result (IsSnapshot self.new number) }
+        ensures part { IfOk result (λ snapshot. PicturesPart self.new.lists snapshot.lists) }
+        ensures still { 4_611_686_018_427_387_904 ≤ number → (self.new ≡ self.old) × (markers.new ≡ markers.old) }
+        // It stands for the same documents.
+        ensures stands { StandsOn self.old self.new }
+        ensures lists { self.new ≡ record self.old { lists = self.new.lists } }
+        ensures thin { ListsThin (is_live self.old) self.old.lists self.new.lists }
+        ensures sound { IsIndex self.new }
+        // Which markers its lists have.
+        ensures before { AreBefore markers.new self.new.lists }
+        ensures gains { GainsMarkers self.old.lists self.new.lists markers.old markers.new }
+        // A list that lost entries is made anew, and each other one stays.
+        ensures comes { ListsCome markers.old.event self.old.lists self.new.lists }
+        ensures event { markers.new.event ≡ markers.old.event }
+        ensures next { markers.old.next ≤ markers.new.next }
+    {
+        let live = self.table.live_bits()?;
+        let lists = next_pictures(
+            self.alloc,
+            &self.table,
+            &mut self.lists,
+            &mut self.round,
+            number,
+            markers,
+        )?;
         Ok(Snapshot {
             serial: self.def.serial,
             number,
@@ -287,7 +339,9 @@ impl FtIndex {
         ensures next { markers.old.next ≤ markers.new.next }
     {
         let live = LiveTable { table: &self.table };
-        self.lists.collect(&live, markers)
+        let collected = self.lists.collect(&live, markers);
+        self.round.end(&collected);
+        collected
     }
 }
 

@@ -6,7 +6,8 @@
 //! So a list may hold entries that no search may answer, and whoever reads one asks what is live.
 //! Of a live document the index keeps no key, but its sorting vector: the numbers that searches are
 //! sorted by. A collection takes dead entries out of all lists (`collecting.rt`, `collecting_ranges.rt`). A scan takes a picture of
-//! each (`scanning.rt`), to be repaired elsewhere, and a repair is spliced into the list of its name.
+//! each (`scanning.rt`), to be repaired elsewhere, and a repair is spliced into the list of its name. A collector's round takes the
+//! pictures in parts (`parting.rt`, `rounds.rt`), and sweeps short lists where they stand (`sweeping.rt`).
 //! Read first `specs/Index.antt`, then `index.rt`; of the lists `specs/Entries.antt` and `specs/Has.antt`, which says how they
 //! stand for documents, then `lists.rt`.
 #![tactic(auto)]
@@ -18,14 +19,18 @@ mod index;
 mod lists;
 mod live;
 mod numbers;
+mod parting;
 mod reading;
 mod ready;
 mod records;
 mod repairs;
+mod room;
+mod rounds;
 mod scanning;
 mod snapshots;
 mod sorting;
 mod splicing;
+mod sweeping;
 mod tags;
 mod words;
 

@@ -5,6 +5,7 @@ ghost use Rattle.ft_index.specs.Adding.{IsSeen, IsUnseen, ListsHave};
 ghost use Rattle.ft_index.specs.Coming.{ListsCome};
 ghost use Rattle.ft_index.specs.Lists.{rows_of};
 ghost use Rattle.ft_index.specs.Markers.{AreBefore, AreGiven, GainsMarkers, MarkersDiffer};
+ghost use Rattle.ft_index.specs.Parting.{behind, parted, whole_room};
 ghost use Rattle.ft_index.specs.Picturing.{AreOrdered, all_named, shown};
 ghost use Rattle.ft_index.specs.Records.{CountsJust, CountsLive, all_entries};
 ghost use Rattle.ft_index.specs.Splicing.{FitsName, SplicesName};
@@ -14,11 +15,13 @@ ghost use Rattle.ft_index.specs.UpTo.{AreUpTo};
 use crate::collecting::{collect_tags, collect_words};
 use crate::collecting_ranges::collect_ranges;
 use crate::numbers::{add_numbers, first_ranges};
+use crate::parting::{Part, part_ranges, part_tags, part_words};
 use crate::records::entries_in_ranges;
 use crate::repairs::AnyRepair;
 use crate::scanning::{picture_ranges, picture_tags, picture_words};
 use crate::snapshots::NamedPicture;
 use crate::splicing::splice_range;
+use crate::sweeping::{sweep_ranges, sweep_tags, sweep_words};
 use crate::tags::add_tags;
 use crate::words::add_words;
 use ft_base::{Doc, IndexDef, ListOf, NoMemory};
@@ -148,6 +151,19 @@ impl IndexLists {
         Ok(all)
     }
 
+    /// A part of the lists, from behind a name on, or from the first.
+    pub fn part<L: Live>(&self, hand: Option<&ListName>, live: &L) -> Result<Part, NoMemory>
+        ensures named { IfOk result (λ part. map shown part.pictures
+            ≡ parted whole_room (behind (option_copied hand.entry) (all_named self.now))) }
+        ensures ordered { IfOk result (λ _. AreOrdered self.now) }
+    {
+        let mut part = Part::new(self.alloc);
+        part_words(&self.terms, self.alloc, hand, live, &mut part)?;
+        part_tags(&self.tags, self.alloc, hand, live, &mut part)?;
+        part_ranges(self.ranges.as_slice(), hand, live, &mut part)?;
+        Ok(part)
+    }
+
     /// Puts a document's entries into the lists: one in the list of each of its words, of each of its
     /// tags, and in a range for each of its numbers. Out of memory, some may have come.
     pub fn add(&mut self, def: &IndexDef, doc: &Doc, markers: &mut Markers) -> Result<(), NoMemory>
@@ -195,6 +211,31 @@ impl IndexLists {
         collect_words(&mut self.terms, self.alloc, live, markers)?;
         collect_tags(&mut self.tags, self.alloc, live, markers)?;
         collect_ranges(self.ranges.as_mut_slice(), self.alloc, live, markers)
+    }
+
+    /// Takes the dead entries out of the lists of some names. A list that changes gets a new marker, and a word or tag that is left
+    /// without an entry goes. Out of memory, some lists still have theirs.
+    pub fn sweep<L: Live>(
+        &mut self,
+        names: &[ListName],
+        live: &L,
+        markers: &mut Markers,
+    ) -> Result<(), NoMemory>
+        requires differ { MarkersDiffer self.old }
+        requires before { AreBefore markers.old self.old }
+        ensures thin { ListsThin (L.is live.now) self.old self.new }
+        // Which markers its lists have.
+        ensures differ { MarkersDiffer self.new }
+        ensures before { AreBefore markers.new self.new }
+        ensures gains { GainsMarkers self.old self.new markers.old markers.new }
+        // A list that lost entries is made anew, and each other one stays.
+        ensures comes { ListsCome markers.old.event self.old self.new }
+        ensures event { markers.new.event ≡ markers.old.event }
+        ensures next { markers.old.next ≤ markers.new.next }
+    {
+        sweep_words(&mut self.terms, names, live, markers)?;
+        sweep_tags(&mut self.tags, names, live, markers)?;
+        sweep_ranges(self.ranges.as_mut_slice(), names, live, markers)
     }
 
     /// Splices a repair into the list of a name. A word or tag that is left without an entry goes. It takes no memory.

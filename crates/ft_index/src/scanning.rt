@@ -36,7 +36,11 @@ pub fn picture_words(
     Ok(())
 }
 
-fn word_picture(alloc: Global, word: &[u8], list: &List<TextHit>) -> Result<NamedPicture, NoMemory>
+pub fn word_picture(
+    alloc: Global,
+    word: &[u8],
+    list: &List<TextHit>,
+) -> Result<NamedPicture, NoMemory>
     ensures { IfOk result (λ named. shown named ≡ (names.Word word.now, WordList list.now)) }
 {
     let picture = AnyPicture::Word(list.picture()?);
@@ -81,7 +85,7 @@ fn picture_field(
     Ok(())
 }
 
-fn tag_picture(
+pub fn tag_picture(
     alloc: Global,
     field: u16,
     tag: &[u8],
@@ -138,7 +142,7 @@ fn picture_rows(rows: &Ranges, field: u16, all: &mut ListOf<NamedPicture>) -> Re
     Ok(())
 }
 
-fn range_picture(field: u16, low: i64, list: &List<NumHit>) -> Result<NamedPicture, NoMemory>
+pub fn range_picture(field: u16, low: i64, list: &List<NumHit>) -> Result<NamedPicture, NoMemory>
     ensures { IfOk result (λ named. shown named ≡ (names.Range field low, RangeList list.now)) }
 {
     let picture = AnyPicture::Range(list.picture()?);

@@ -12,6 +12,7 @@ pub mod MovingLaws
 pub mod NamedLaws
 pub mod PreparingLaws
 pub mod ReadsLaws
+pub mod RepairingLaws
 pub mod StepLaws
 pub mod VersionsLaws
 pub mod WritesLaws

@@ -67,13 +67,13 @@ place-is p xs i found = by_test (nat_lt (position_or_len p xs) (length xs)) refl
     by_test true is found = let same : position_or_len p xs ≡ i = cc (found) in (sym same, grind (arith, nat_tests, is, same))
     by_test false is found = cc (found)
 
-first-here : {X : Type 0} (p : X → Bool) (x : X) (xs : List X) → p x ≡ true → position_or_len p (x ∷ xs) ≡ 0
+pub first-here : {X : Type 0} (p : X → Bool) (x : X) (xs : List X) → p x ≡ true → position_or_len p (x ∷ xs) ≡ 0
 first-here p x xs passes = rw passes refl
 
-first-later : {X : Type 0} (p : X → Bool) (x : X) (xs : List X) → p x ≡ false → position_or_len p (x ∷ xs) ≡ 1 + position_or_len p xs
+pub first-later : {X : Type 0} (p : X → Bool) (x : X) (xs : List X) → p x ≡ false → position_or_len p (x ∷ xs) ≡ 1 + position_or_len p xs
 first-later p x xs fails = rw fails refl
 
-suc_is : (i n : ℕ) → i ≡ 1 + n → i ≡ suc n
+pub suc_is : (i n : ℕ) → i ≡ 1 + n → i ≡ suc n
 suc_is i n is = omega (arith, is)
 
 -- no place is found where no item passes

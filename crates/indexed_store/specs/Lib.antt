@@ -7,6 +7,7 @@ pub mod Indexing
 pub mod Moving
 pub mod Named
 pub mod Preparing
+pub mod Repairing
 pub mod Standing
 pub mod States
 pub mod Writing

@@ -25,6 +25,7 @@ mod listings;
 mod making;
 mod reading;
 mod removals;
+mod repairing;
 mod values;
 mod versions;
 mod waiting;

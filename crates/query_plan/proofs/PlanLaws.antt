@@ -26,6 +26,7 @@ use Rattle.id_iters.specs.declared.list_name.ListName.{ListName}
 use Rattle.id_iters.specs.declared.list_name.ListName.TheVariants as names
 use Rattle.id_iters.specs.declared.phrase.PhraseIter.{PhraseIter}
 use Rattle.phrase_match.specs.Phrase.{within}
+use Rattle.query_merge.specs.Merged.{AreParts}
 use Rattle.query_plan.specs.Asked.{asked_of_each}
 use Rattle.list_plan.specs.Plans.{AllReady, Joins, ids_of, some_has}
 use Rattle.query_plan.specs.Plans.{AllTell, Tells}
@@ -34,6 +35,7 @@ use Rattle.query_plan.specs.Sought.{all_sought, section_of, words_with}
 use Rattle.list_plan.specs.declared.size.Planned.{Planned}
 use Rattle.query_plan.proofs.AnyLaws.{any_cong}
 use Rattle.query_plan.proofs.AskedLaws.{section_as}
+use Rattle.query_plan.proofs.TagLaws.{kept_sought}
 use Rattle.query_plan.proofs.TurnLaws.{phrase_has_words}
 use Rattle.query_plan.proofs.MeetLaws.{phrase_meets, prefix_meets, range_meets, tags_meet, word_meets}
 
@@ -58,14 +60,15 @@ module _ (def : IndexDef) (held : Held) (named : Named) where
         ∙ prefix_meets def held named docs are doc among looked text;
   }
 
-  pub tags_tell : (field : ℕ) (parts : List TagPart) (looked : Fields) (low high : ℤ) (found : List ListName) (ids : ℕ → Bool)
-      → ids ≡ some_has held found looked low high → found ≡ map (λ tag. names.Tag field tag) (all_sought (named.tags field) parts)
+  pub tags_tell : (field : ℕ) (parts kept : List TagPart) (looked : Fields) (low high : ℤ) (found : List ListName) (ids : ℕ → Bool) → AreParts parts kept
+      → ids ≡ some_has held found looked low high → found ≡ map (λ tag. names.Tag field tag) (all_sought (named.tags field) kept)
       → Tells def held named (λ doc. (has_of def doc).tags field parts) ids
-  tags_tell field parts looked low high found ids same are_named = record {
+  tags_tell field parts kept looked low high found ids are_parts same are_named = record {
     at = λ docs doc are among.
         ap (λ (set : ℕ → Bool). set doc.id) same
         ∙ ap (λ ns. some_has held ns looked low high doc.id) are_named
-        ∙ any_map (λ name. list_has held name looked low high doc.id) (λ tag. names.Tag field tag) (all_sought (named.tags field) parts)
+        ∙ any_map (λ name. list_has held name looked low high doc.id) (λ tag. names.Tag field tag) (all_sought (named.tags field) kept)
+        ∙ kept_sought (named.tags field) parts kept are_parts (λ tag. list_has held (names.Tag field tag) looked low high doc.id)
         ∙ tags_meet def held named docs are doc among field parts;
   }
 
@@ -141,27 +144,32 @@ module _ (def : IndexDef) (held : Held) (named : Named) where
 
   -- ---- parts made of others
 
-  pub every_tells : (queries : List Query) (whole : Query) (plans : List Planned) (ids : ℕ → Bool) → whole ≡ query.And queries → AllTell def held named queries plans
+  -- of equal parts one is planned, as the others change neither what all of them ask nor what some of them does
+  pub every_tells : (queries kept : List Query) (whole : Query) (plans : List Planned) (ids : ℕ → Bool) → whole ≡ query.And queries
+      → AreParts queries kept → AllTell def held named kept plans
       → ((id : ℕ) → ids id ≡ list_all (λ planned. ids_of held planned id) plans) → Tells def held named (λ doc. holds whole def doc) ids
-  every_tells queries whole plans ids is tell set = record {
+  every_tells queries kept whole plans ids is are_parts tell set = record {
     at = λ docs doc are among.
         set doc.id
         ∙ sym (list_all-map (λ b. b) (λ planned. ids_of held planned doc.id) plans)
         ∙ ap (list_all (λ b. b)) (tell.at docs doc are among)
-        ∙ list_all-map (λ b. b) (λ q. holds q def doc) queries
+        ∙ list_all-map (λ b. b) (λ q. holds q def doc) kept
+        ∙ are_parts.every (λ q. holds q def doc)
         ∙ sym (holds-And (has_of def doc) queries)
         ∙ ap (λ q. holds q def doc) (sym is);
   }
 
-  pub some_tells : (queries : List Query) (whole : Query) (plans : List Planned) (made : Planned) → whole ≡ query.Or queries → AllTell def held named queries plans
+  pub some_tells : (queries kept : List Query) (whole : Query) (plans : List Planned) (made : Planned) → whole ≡ query.Or queries
+      → AreParts queries kept → AllTell def held named kept plans
       → Joins plans (made ∷ []) → Tells def held named (λ doc. holds whole def doc) (ids_of held made)
-  some_tells queries whole plans made is tell joins = record {
+  some_tells queries kept whole plans made is are_parts tell joins = record {
     at = λ docs doc are among.
         sym (or-false (ids_of held made doc.id))
         ∙ joins.set held doc.id
         ∙ sym (any_map (λ b. b) (λ planned. ids_of held planned doc.id) plans)
         ∙ ap (list_any (λ b. b)) (tell.at docs doc are among)
-        ∙ any_map (λ b. b) (λ q. holds q def doc) queries
+        ∙ any_map (λ b. b) (λ q. holds q def doc) kept
+        ∙ are_parts.some (λ q. holds q def doc)
         ∙ sym (holds-Or (has_of def doc) queries)
         ∙ ap (λ q. holds q def doc) (sym is);
   }

@@ -1,9 +1,10 @@
 -- The tags that a query looks for, in a document.
-use Rattle.std.proofs.Common.{◌≡◌, ℕ, Bool, true, cond, List, Option, Some, None, refl, ◌∙◌, inl, inr}
+use Rattle.std.proofs.Common.{◌≡◌, ℕ, Bool, true, cond, List, [], ◌∷◌, ◌++◌, map, Option, Some, None, refl, sym, ap, ◌∙◌, inl, inr}
 use Rattle.std.specs.List.{list_any, slice_get}
 use Rattle.std.specs.Str.{bytes_eq}
 use Rattle.std.proofs.Math.Bool.{or-false}
 use Rattle.std.proofs.lemmas.Bool.{cases_Bool}
+use Rattle.std.proofs.lemmas.List.{flat_map_more, map-append}
 use Rattle.ft_base.specs.declared.definition.Field.{Field}
 use Rattle.ft_base.specs.declared.definition.IndexDef.{IndexDef}
 use Rattle.ft_base.specs.Docs.{Doc}
@@ -11,6 +12,7 @@ use Rattle.ft_base.specs.declared.query.TagPart.{TagPart}
 use Rattle.ft_meaning.specs.Holds as holds
 use Rattle.ft_meaning.specs.Holds.{begins, is_sought}
 use Rattle.ft_index.specs.Entries.{searched_tags}
+use Rattle.query_merge.specs.Merged.{AreParts}
 use Rattle.query_plan.specs.Sought.{sought_by, all_sought}
 use Rattle.query_plan.proofs.AnyLaws.{any_cong, any_swap}
 use Rattle.query_plan.proofs.PrefixLaws.{any_flat, begins_among}
@@ -49,3 +51,22 @@ pub tags_are : (def : IndexDef) (doc : Doc) (field : ℕ) (parts : List TagPart)
     ≡ holds.has_tag doc parts (slice_get def.fields field)
 tags_are def doc field parts tags named =
     sought_among tags (searched_tags (slice_get def.fields field) doc) named parts ∙ searched_sought doc parts (slice_get def.fields field)
+
+-- where equal parts count once, what some tag passes that is looked for is the same
+pub kept_sought : (tags : List (List ℕ)) (parts kept : List TagPart) → AreParts parts kept → (test : List ℕ → Bool)
+    → list_any test (all_sought tags kept) ≡ list_any test (all_sought tags parts)
+kept_sought tags parts kept are test =
+    any_flat test (sought_by tags) kept
+    ∙ are.some (λ part. list_any test (sought_by tags part))
+    ∙ sym (any_flat test (sought_by tags) parts)
+
+-- the tags of one more part go behind those of the others, each by its name
+pub sought_more : {Y : Type 0} (name : List ℕ → Y) (tags : List (List ℕ)) (parts more : List TagPart) (part : TagPart) (found new : List Y)
+    → more ≡ parts ++ part ∷ [] → found ≡ map name (all_sought tags parts) → new ≡ found ++ map name (sought_by tags part)
+    → new ≡ map name (all_sought tags more)
+sought_more {Y} name tags parts more part found new is_more before is_new =
+    is_new
+    ∙ ap (λ (names : List Y). names ++ map name (sought_by tags part)) before
+    ∙ sym (map-append name (all_sought tags parts) (sought_by tags part))
+    ∙ ap (map name) (flat_map_more (sought_by tags) [] parts part)
+    ∙ ap (λ (ps : List TagPart). map name (all_sought tags ps)) (sym is_more)

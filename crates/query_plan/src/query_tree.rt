@@ -5,6 +5,7 @@ ghost use Rattle.ft_meaning.specs.Holds.{holds};
 ghost use Rattle.id_iters.specs.Fitting.{leaves_of};
 ghost use Rattle.id_iters.specs.Ready.{Ready};
 ghost use Rattle.list_plan.specs.Known.{KnownFit, place_of};
+ghost use Rattle.query_merge.specs.Merged.{marked};
 ghost use Rattle.query_plan.specs.Plans.{AllKnown, AllOpen, AllReady, AllTell, PartsKnown, PartsOpen, Tells, ids_of};
 ghost use Rattle.query_plan.specs.Sought.{asks_other};
 
@@ -15,6 +16,7 @@ use crate::words::{plan_prefix, plan_word};
 use ft_base::{NoMemory, Query, Steps};
 use id_iters::Lists;
 use list_plan::{Planned, Sources, add_planned, every_of, other_of, some_of};
+use query_merge::{is_set, marks_of};
 use std::sync::ledger::Ledger;
 
 /// The plan of a part of a query, or of the whole.
@@ -109,8 +111,9 @@ fn plan_every<T: Lists, L: Ledger>(
         AllKnown (place_of sources.now.known.now) (leaves_of planned.iter) → steps.new ≡ steps.old) }
     ensures counts { steps.old ≤ steps.new }
 {
+    let marks = marks_of(sources.alloc, queries)?;
     let mut plans = Vec::new(sources.alloc);
-    plan_each(sources, queries, &mut plans, steps)?;
+    plan_each(sources, queries, marks.as_slice(), &mut plans, steps)?;
     Ok(every_of(sources.alloc, plans)?)
 }
 
@@ -134,8 +137,9 @@ fn plan_some<T: Lists, L: Ledger>(
         AllKnown (place_of sources.now.known.now) (leaves_of planned.iter) → steps.new ≡ steps.old) }
     ensures counts { steps.old ≤ steps.new }
 {
+    let marks = marks_of(sources.alloc, queries)?;
     let mut plans = Vec::new(sources.alloc);
-    plan_each(sources, queries, &mut plans, steps)?;
+    plan_each(sources, queries, marks.as_slice(), &mut plans, steps)?;
     Ok(some_of(sources.alloc, plans)?)
 }
 
@@ -163,18 +167,20 @@ fn plan_other<T: Lists, L: Ledger>(
     Ok(other_of(sources.alloc, planned)?)
 }
 
-// The plans of parts, in their order, go into a vector that has none.
+// The plans of the marked parts, in their order, go into a vector that has none.
 #[cycle(part)]
 fn plan_each<T: Lists, L: Ledger>(
     sources: &Sources<T>,
     queries: &[Query],
+    marks: &[bool],
     plans: &mut Vec<Planned>,
     steps: &mut Steps<L>,
 ) -> Result<(), NoMemory>
     requires known { KnownFit (T.held sources.now.lists.now) sources.now.after (place_of sources.now.known.now) }
     requires empty { plans.old.items ≡ [] }
     ensures set { OnOk result
-        (AllTell sources.now.def.now (T.held sources.now.lists.now) (T.named sources.now.lists.now) queries.now plans.new.items) }
+        (AllTell sources.now.def.now (T.held sources.now.lists.now) (T.named sources.now.lists.now)
+        (marked queries.now marks.now) plans.new.items) }
     ensures ready { OnOk result
         (AllReady (T.held sources.now.lists.now) plans.new.items (sources.now.after + 1)) }
     ensures placed { OnOk result
@@ -183,8 +189,11 @@ fn plan_each<T: Lists, L: Ledger>(
         (PartsKnown (place_of sources.now.known.now) plans.new.items → steps.new ≡ steps.old) }
     ensures counts { steps.old ≤ steps.new }
 {
-    'queries: for query in queries {
-        add_planned(plans, plan_part(sources, query, steps))?;
+    'queries: for at in 0..queries.len() {
+        if !is_set(marks, at) {
+            continue;
+        }
+        add_planned(plans, plan_part(sources, &queries[at], steps))?;
     }
     Ok(())
 }

@@ -4,12 +4,14 @@ ghost use Rattle.ft_meaning.specs.Holds.{has_of};
 ghost use Rattle.id_iters.specs.Fitting.{leaves_of};
 ghost use Rattle.id_iters.specs.Ready.{Ready};
 ghost use Rattle.list_plan.specs.Known.{KnownFit, place_of};
+ghost use Rattle.query_merge.specs.Merged.{marked};
 ghost use Rattle.query_plan.specs.Plans.{AllKnown, AllOpen, Tells, ids_of};
 ghost use Rattle.query_plan.specs.Sought.{all_sought, sought_by, words_with};
 
 use ft_base::{Bytes, Fields, ListOf, NoMemory, Steps, TagPart};
 use id_iters::{ListName, Lists};
 use list_plan::{Planned, Sources, Wanted, plan_lists};
+use query_merge::{is_set, marks_of_tags};
 use std::alloc::Global;
 use std::sync::ledger::Ledger;
 
@@ -33,7 +35,9 @@ pub fn plan_tags<T: Lists, L: Ledger>(
         AllKnown (place_of sources.now.known.now) (leaves_of planned.iter) → steps.new ≡ steps.old) }
     ensures counts { steps.old ≤ steps.new }
 {
-    let found = tags_sought(sources.alloc, sources.lists, field, parts.as_slice())?;
+    let tags = parts.as_slice();
+    let marks = marks_of_tags(sources.alloc, tags)?;
+    let found = tags_sought(sources.alloc, sources.lists, field, tags, marks.as_slice())?;
     let wanted = Wanted {
         fields: &Fields::All,
         low: 0,
@@ -42,19 +46,23 @@ pub fn plan_tags<T: Lists, L: Ledger>(
     Ok(plan_lists(sources, found, &wanted, steps)?)
 }
 
-// The lists of the tags of a field that some part looks for.
+// The lists of the tags of a field that some marked part looks for.
 fn tags_sought<T: Lists>(
     alloc: Global,
     lists: &T,
     field: u16,
     parts: &[TagPart],
+    marks: &[bool],
 ) -> Result<Vec<ListName>, NoMemory>
     ensures { IfOk result (λ found. found.items
-        ≡ map (λ tag. ListName.Tag field tag) (all_sought ((T.named lists.now).tags field) parts.now)) }
+        ≡ map (λ tag. ListName.Tag field tag) (all_sought ((T.named lists.now).tags field) (marked parts.now marks.now))) }
 {
     let mut found = Vec::new(alloc);
-    'parts: for part in parts {
-        add_sought(alloc, lists, field, part, &mut found)?;
+    'parts: for at in 0..parts.len() {
+        if !is_set(marks, at) {
+            continue;
+        }
+        add_sought(alloc, lists, field, &parts[at], &mut found)?;
     }
     Ok(found)
 }

@@ -1,4 +1,4 @@
-use Rattle.std.proofs.Common.{rules, ◌+◌, take, List, refl, sym, ap, ◌∙◌, arith}
+use Rattle.std.proofs.Common.{rules, ◌+◌, take, Bool, List, refl, sym, ap, ◌∙◌, subst, arith}
 use Rattle.std.proofs.lemmas.Grind.{common_steps}
 use Rattle.ft_base.specs.declared.query.Query.{Query}
 use Rattle.ft_base.specs.declared.query.Query.TheVariants as query
@@ -8,9 +8,10 @@ use Rattle.id_iters.specs.Ready.{Ready}
 use Rattle.list_plan.specs.Known.{place_of}
 use Rattle.list_plan.specs.declared.size.Planned.{Planned}
 use Rattle.list_plan.specs.Plans.{AllKnown, AllOpen, ids_of}
-use Rattle.query_plan.specs.Plans.{Tells}
+use Rattle.query_merge.specs.Merged.{AreParts, marked}
+use Rattle.query_merge.proofs.MarkLaws.{marked_more, marked_same}
+use Rattle.query_plan.specs.Plans.{AllTell, Tells}
 use Rattle.list_plan.proofs.GainLaws.{all_more, of_item, same_more}
-use Rattle.list_plan.proofs.UnionLaws.{more}
 use Rattle.query_plan.proofs.OtherLaws.{other}
 use Rattle.query_plan.proofs.PlanLaws.{every_tells, one_more_tells, other_tells, some_tells, tells_same}
 use Rattle.query_plan.proofs.query_tree.+part.Goals as goal
@@ -33,14 +34,18 @@ plan_part-returns-in-Not-clause-set g t c =
 pub plan_every-returns-clause-set : goal.plan_every-returns-clause-set
 plan_every-returns-clause-set g t c =
     let held = g.T.Lists.held c.args.sources.now.lists.now in
-    every_tells c.args.sources.now.def.now held (g.T.Lists.named c.args.sources.now.lists.now) c.args.queries.now _ c.plan_each.new.plans.items
-    (ids_of held c.in_ok-every_of.field-0) refl c.in_ok-plan_each.ensures.set (c.in_ok-every_of.ensures.set held)
+    every_tells c.args.sources.now.def.now held (g.T.Lists.named c.args.sources.now.lists.now) c.args.queries.now _ _ c.plan_each.new.plans.items
+    (ids_of held c.in_ok-every_of.field-0) refl
+    (subst (λ (marks : List Bool). AreParts c.args.queries.now (marked c.args.queries.now marks)) (sym c.as_slice.ensures.value) c.in_ok-marks.ensures)
+    c.in_ok-plan_each.ensures.set (c.in_ok-every_of.ensures.set held)
 
 pub plan_some-returns-clause-set : goal.plan_some-returns-clause-set
 plan_some-returns-clause-set g t c =
     let held = g.T.Lists.held c.args.sources.now.lists.now in
-    some_tells c.args.sources.now.def.now held (g.T.Lists.named c.args.sources.now.lists.now) c.args.queries.now _ c.plan_each.new.plans.items c.in_ok-some_of.field-0
-    refl c.in_ok-plan_each.ensures.set c.in_ok-some_of.ensures
+    some_tells c.args.sources.now.def.now held (g.T.Lists.named c.args.sources.now.lists.now) c.args.queries.now _ _ c.plan_each.new.plans.items c.in_ok-some_of.field-0
+    refl
+    (subst (λ (marks : List Bool). AreParts c.args.queries.now (marked c.args.queries.now marks)) (sym c.as_slice.ensures.value) c.in_ok-marks.ensures)
+    c.in_ok-plan_each.ensures.set c.in_ok-some_of.ensures
 
 pub plan_other-returns-clause-set : goal.plan_other-returns-clause-set
 plan_other-returns-clause-set g t c =
@@ -71,13 +76,15 @@ plan_each-queries-preserved g t c =
     let known = place_of c.args.sources.now.known.now in
     let def = c.args.sources.now.def.now in
     let named = g.T.Lists.named c.args.sources.now.lists.now in
+    let query = c.index-queries-at.result in
     let tells = of_item c.plan_part.result c.queries.plans.items c.add_planned.new.plans.items c.in_ok-add_planned.ensures
-    (λ (p : Planned). Tells def held named (λ doc. holds c.query-item.result def doc) (ids_of held p)) c.plan_part.ensures.set in
+    (λ (p : Planned). Tells def held named (λ doc. holds query def doc) (ids_of held p)) c.plan_part.ensures.set in
     record {
       set =
-          one_more_tells def held named (take c.queries.query-index c.args.queries.now) (take (c.queries.query-index + 1) c.args.queries.now) c.query-item.result
+          one_more_tells def held named (marked (take c.queries.at c.args.queries.now) c.args.marks.now) (marked (take (c.queries.at + 1) c.args.queries.now) c.args.marks.now) query
           c.queries.plans.items _ c.in_ok-add_planned.ensures.item
-          (more c.args.queries.now c.queries.query-index c.query-item.result (search rules) c.query-item.is) c.in_ok-add_planned.ensures.items c.queries.invariant.set tells;
+          (marked_more c.args.queries.now c.args.marks.now c.queries.at query c.queries-test.true c.index-queries-at.is (sym c.is_set.ensures ∙ c.if-not-is_set.false))
+          c.in_ok-add_planned.ensures.items c.queries.invariant.set tells;
       ready =
           all_more c.plan_part.result c.queries.plans.items c.add_planned.new.plans.items c.in_ok-add_planned.ensures
           (λ (p : Planned). Ready held p.iter (c.args.sources.now.after + 1)) c.queries.invariant.ready c.plan_part.ensures.ready;
@@ -88,6 +95,20 @@ plan_each-queries-preserved g t c =
           same_more c.plan_part.result c.queries.plans.items c.add_planned.new.plans.items c.in_ok-add_planned.ensures
           (λ (p : Planned). AllKnown known (leaves_of p.iter)) _ c.queries.steps _ c.queries.invariant.free c.plan_part.ensures.free;
       counts = search rules;
+    }
+
+pub plan_each-queries-preserved-then-not-is_set : goal.plan_each-queries-preserved-then-not-is_set
+plan_each-queries-preserved-then-not-is_set g t c =
+    let held = g.T.Lists.held c.args.sources.now.lists.now in
+    let named = g.T.Lists.named c.args.sources.now.lists.now in
+    record {
+      set =
+          subst (λ (queries : List Query). AllTell c.args.sources.now.def.now held named queries c.queries.plans.items)
+          (sym (marked_same c.args.queries.now c.args.marks.now c.queries.at (sym c.is_set.ensures ∙ c.if-not-is_set.true))) c.queries.invariant.set;
+      ready = c.queries.invariant.ready;
+      placed = c.queries.invariant.placed;
+      free = c.queries.invariant.free;
+      counts = c.queries.invariant.counts;
     }
 
 pub plan_each-returns-clause-set : goal.plan_each-returns-clause-set

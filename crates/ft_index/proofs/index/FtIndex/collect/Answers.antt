@@ -8,23 +8,23 @@ use Rattle.ft_index.specs.contracts.index.FtIndex.{the_view}
 use Rattle.ft_index.proofs.ThinLaws.{has-thin, index-thinned}
 use Rattle.ft_index.proofs.index.FtIndex.collect.Goals as goal
 
-pub collect-requires-clause-before : goal.collect-requires-clause-before
-collect-requires-clause-before c = subst (λ (i : Index). AreBefore c.args.markers.now i.lists) (sym c.self.view_is) c.requires.markers
+pub collect-collected-requires-clause-before : goal.collect-collected-requires-clause-before
+collect-collected-requires-clause-before c = subst (λ (i : Index). AreBefore c.args.markers.now i.lists) (sym c.self.view_is) c.requires.markers
 
 pub invariant_of-self : goal.invariant_of-self
-invariant_of-self c = (index-thinned (the_view c.self.inside) c.collect.new.self c.collect.ensures.thin c.collect.ensures.differ c.self.invariant.0, c.self.invariant.1)
+invariant_of-self c = (index-thinned (the_view c.self.inside) c.collect-collected.new.self c.collect-collected.ensures.thin c.collect-collected.ensures.differ c.self.invariant.0, c.self.invariant.1)
 
 pub returns-clause-sound : goal.returns-clause-sound
-returns-clause-sound c = index-thinned (the_view c.self.inside) c.collect.new.self c.collect.ensures.thin c.collect.ensures.differ c.self.invariant.0
+returns-clause-sound c = index-thinned (the_view c.self.inside) c.collect-collected.new.self c.collect-collected.ensures.thin c.collect-collected.ensures.differ c.self.invariant.0
 
 pub returns-clause-thin : goal.returns-clause-thin
-returns-clause-thin c = subst (λ (i : Index). ListsThin (is_live i) i.lists c.collect.new.self) c.self.view_is c.collect.ensures.thin
+returns-clause-thin c = subst (λ (i : Index). ListsThin (is_live i) i.lists c.collect-collected.new.self) c.self.view_is c.collect-collected.ensures.thin
 
 pub returns-clause-stands : goal.returns-clause-stands
 returns-clause-stands c docs stands =
     let inside = the_view c.self.inside in
     let before : Indexes inside docs = subst (λ (i : Index). Indexes i docs) (sym c.self.view_is) stands in
-    has-thin inside.def inside.table.live inside.lists c.collect.new.self (members inside.def docs) c.collect.ensures.thin before
+    has-thin inside.def inside.table.live inside.lists c.collect-collected.new.self (members inside.def docs) c.collect-collected.ensures.thin before
 
 pub returns-clause-comes : goal.returns-clause-comes
-returns-clause-comes c = subst (λ (i : Index). ListsCome c.args.markers.now.event i.lists c.collect.new.self) c.self.view_is c.collect.ensures.comes
+returns-clause-comes c = subst (λ (i : Index). ListsCome c.args.markers.now.event i.lists c.collect-collected.new.self) c.self.view_is c.collect-collected.ensures.comes

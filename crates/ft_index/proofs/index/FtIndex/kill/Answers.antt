@@ -8,7 +8,7 @@ use Rattle.ft_index.proofs.index.FtIndex.kill.Goals as goal
 pub invariant_of-self : goal.invariant_of-self
 invariant_of-self c =
     let inside = the_view c.self.inside in (
-      subst (λ (t : Table). IsIndex (record inside { table = t })) (sym c.kill.ensures.gone) (index-gone inside c.args.id c.self.invariant.0),
+      subst (λ (t : Table). IsIndex (record inside { table = t })) (sym c.kill-was.ensures.gone) (index-gone inside c.args.id c.self.invariant.0),
       c.self.invariant.1,
     )
 
@@ -16,4 +16,4 @@ pub returns-clause-docs : goal.returns-clause-docs
 returns-clause-docs c docs stands =
     let inside = the_view c.self.inside in
     let before = subst (λ (i : Index). Indexes i docs) (sym c.self.view_is) stands in
-    indexes-gone inside (record inside { table = c.kill.new.self }) c.args.id docs refl refl (ap (λ (t : Table). t.live) c.kill.ensures.gone) c.self.invariant.0.kept before
+    indexes-gone inside (record inside { table = c.kill-was.new.self }) c.args.id docs refl refl (ap (λ (t : Table). t.live) c.kill-was.ensures.gone) c.self.invariant.0.kept before

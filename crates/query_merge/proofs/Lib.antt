@@ -1,0 +1,2 @@
+pub mod AlikeLaws
+pub mod MarkLaws
