@@ -3,7 +3,8 @@
 
     tools/hostile.py PORT [WORD]     a server of at least ten workers on this machine; with WORD those rows alone whose names have it
 
-The server is emptied first and filled with 3,000 small documents of 300 words and 100 tags. Prints a line for each row: the
+The server is emptied first and filled with 3,000 small documents of 300 words and 100 tags; behind the queries drawn at random it is
+filled with 100,000 documents of as many words, 10,000 tags and a number, for queries whose parts all differ. Prints a line for each row: the
 seconds until its reply was read, the longest that the other client waited meanwhile, and by how many MB the server's memory grew at
 its peak; then what stays after loads by eight connections in turn. Ends with status 1 where a reply does not come or is otherwise than its row
 says, or where a bound is passed.
@@ -21,6 +22,7 @@ DOCUMENTS = 3000
 MOST = 1048576  # bytes of a query
 MOST_SECONDS = 2.0
 MOST_MB = 100
+MANY = 100000  # documents for the rows of different parts
 LOADED = 60000  # documents that each of the eight connections loads
 
 
@@ -52,6 +54,41 @@ ROWS = [
     ("1 MiB of short phrases", searched(filled(b'"w1 w2"', b"|")), b"*1\r\n:0\r\n"),
     ("5,000 APPLYs over 270 rows", worked_out((b"APPLY", b"@n+1", b"AS", b"m"), 5000, 270), b"*2\r\n:1\r\n"),
     ("5,000 terms over 3,000 rows", worked_out((b"APPLY", b"+".join([b"@n"] * 5000), b"AS", b"m"), 1, 3000), b"*2\r\n:1\r\n"),
+]
+
+
+REFUSED = b"-OOM"
+
+
+def numbered(part, sign, most=MOST):
+    """As many parts as a query has room for, each with the next number."""
+    parts, left = [], most + len(sign)
+    while True:
+        text = part.replace(b"#", b"%d" % len(parts)).replace(b"~", b"%d" % (len(parts) + 1))
+        left -= len(text) + len(sign)
+        if left < 0:
+            return sign.join(parts)
+        parts.append(text)
+
+
+# The same over many documents: each is found or refused as out of memory, and none takes more than its bounds.
+MANY_ROWS = [
+    ("prefixes that all differ", searched(numbered(b"u#*", b"|")), (b"*2\r\n", REFUSED)),
+    ("one prefix of 100,000 words", searched(b"u*"), (b"*2\r\n", REFUSED)),
+    ("tag prefixes that all differ", searched(b"@g:{" + numbered(b"t#*", b"|", MOST - 5) + b"}"), (b"*2\r\n", REFUSED)),
+    ("clauses of tag prefixes that all differ", searched(numbered(b"@g:{t#*}", b"|")), (b"*2\r\n", REFUSED)),
+    ("tags that all differ", searched(b"@g:{" + numbered(b"t#", b"|", MOST - 5) + b"}"), (b"*2\r\n", REFUSED)),
+    ("words that all differ", searched(numbered(b"u#", b"|")), (b"*2\r\n", REFUSED)),
+    ("words that all differ, all wanted", searched(numbered(b"u#", b" ")), (b"*1\r\n:0\r\n", REFUSED)),
+    ("words of a field that all differ", searched(numbered(b"@t:u#", b"|")), (b"*2\r\n", REFUSED)),
+    ("words that are not wanted", searched(numbered(b"-u#", b" ")), (b"*", REFUSED)),
+    ("pairs of words, both wanted", searched(numbered(b"(u# u~)", b"|")), (b"*1\r\n:0\r\n", REFUSED)),
+    ("pairs of words, one wanted", searched(numbered(b"(u#|u~)", b" ")), (b"*1\r\n:0\r\n", REFUSED)),
+    ("phrases that all differ", searched(numbered(b'"u# common"', b"|")), (b"*2\r\n", REFUSED)),
+    ("a phrase of words that all differ", searched(b'"' + numbered(b"u#", b" ", MOST - 2) + b'"'), (b"*1\r\n:0\r\n", REFUSED)),
+    ("numbers that all differ", searched(numbered(b"@n:[# #]", b"|")), (b"*2\r\n", REFUSED)),
+    ("intervals that all differ", searched(numbered(b"@n:[# 99999]", b"|")), (b"*2\r\n", REFUSED)),
+    ("intervals that all differ, all wanted", searched(numbered(b"@n:[# 99999]", b" ")), (b"*", REFUSED)),
 ]
 
 
@@ -132,10 +169,29 @@ def load(client, count, first=0):
         client.at = 0
 
 
+def fill_with_many(client):
+    client.ask([b"FLUSHALL"])
+    client.ask([b"FT.CREATE", b"hx", b"PREFIX", b"1", b"h:", b"SCHEMA", b"t", b"TEXT", b"g", b"TAG", b"n", b"NUMERIC"])
+    for first in range(0, MANY, 1000):
+        client.link.sendall(b"".join(
+            request([b"HSET", b"h:%d" % number, b"t", b"u%d common" % number, b"g", b"t%d" % (number % 10000), b"n", b"%d" % number])
+            for number in range(first, first + 1000)))
+        for _ in range(1000):
+            client.pass_reply()
+        client.data.clear()
+        client.at = 0
+
+
 def fill(client):
     client.ask([b"FLUSHALL"])
     client.ask([b"FT.CREATE", b"hx", b"PREFIX", b"1", b"h:", b"SCHEMA", b"t", b"TEXT", b"g", b"TAG", b"n", b"NUMERIC"])
     load(client, DOCUMENTS)
+
+
+def answered(client, words, wanted):
+    """Whether a command's reply begins as wanted, and what to say of it where it is a refusal."""
+    reply = client.ask(words)
+    return reply.startswith(wanted), ": refused" if reply.startswith(REFUSED) else ""
 
 
 class Watch:
@@ -150,7 +206,7 @@ class Watch:
         self.beside.most = 0.0
         before = self.memory.begin()
         begun = time.monotonic()
-        holds = act()
+        holds, note = act()
         spent = time.monotonic() - begun
         grown = self.memory.told("VmHWM") - before
         time.sleep(0.05)  # for the reply to the other client
@@ -158,7 +214,7 @@ class Watch:
         within = spent <= seconds and grown <= megabytes
         self.wrong += not (holds and within)
         says = "ok  " if holds and within else "OVER" if holds else "NOT "
-        print(f"{says} {spent:7.2f} s, beside {self.beside.most:6.3f} s, {grown:6.0f} MB  {name}", flush=True)
+        print(f"{says} {spent:7.2f} s, beside {self.beside.most:6.3f} s, {grown:6.0f} MB  {name}{note}", flush=True)
 
 
 def pipelined(port):
@@ -202,14 +258,19 @@ def main():
     watch = Watch(beside, memory)
     for name, words, wanted in ROWS:
         if word in name:
-            watch.row(name, lambda: client.ask(words).startswith(wanted))
+            watch.row(name, lambda: answered(client, words, wanted))
     for seed in range(100):
         name = f"1 MiB drawn at random, {seed}"
         if word in name:
             text = drawn_query(seed)
-            watch.row(name, lambda: client.ask(searched(text))[:1] in b"*-")
+            watch.row(name, lambda: answered(client, searched(text), (b"*", b"-")))
     if word in "400,000 reads written before a reply is read":
-        watch.row("400,000 reads written before a reply is read", lambda: pipelined(port), 60)
+        watch.row("400,000 reads written before a reply is read", lambda: (pipelined(port), ""), 60)
+    if any(word in name for name, _, _ in MANY_ROWS):
+        fill_with_many(client)
+    for name, words, wanted in MANY_ROWS:
+        if word in name:
+            watch.row(name, lambda: answered(client, words, wanted))
     beside.end()
     # It empties the server again and again, what the other client wrote too.
     if word in "loads in turn" and not loaded_in_turn(port, memory):

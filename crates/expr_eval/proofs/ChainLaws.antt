@@ -1,20 +1,19 @@
 -- What the right sides of a chain give, and how deep they are, where one stands last.
-use Rattle.std.proofs.Common.{◌≡◌, ℕ, ◌<◌, ◌≤◌, List, [], ◌∷◌, ◌++◌, max, refl, sym, ap, subst, ◌∙◌, arith, rules}
-use Rattle.ft_base.specs.declared.definition.IndexDef.{IndexDef}
-use Rattle.ft_base.specs.declared.row.Row.{Row}
-use Rattle.ft_base.specs.declared.row.Value.{Value}
-use Rattle.expr_eval.specs.Lending.{value_lent, operand_lent}
+use Rattle.std.proofs.Common.{◌≡◌, ℕ, ℤ, ◌<◌, ◌≤◌, List, [], ◌∷◌, ◌++◌, Option, max, refl, sym, ap, subst, ◌∙◌, arith, rules}
+use Rattle.expr_eval.specs.Lending.{row_of}
 use Rattle.expr_eval.specs.Meaning.{value_of, value_step}
-use Rattle.expr_eval.specs.RightSides.{joined_on}
-use Rattle.expr_eval.specs.Values.{Operand, joined, num_or_null, operand_of}
+use Rattle.expr_eval.specs.Noting.{operand_at}
+use Rattle.expr_eval.specs.RightSides.{joined_on, operand_number}
+use Rattle.expr_eval.specs.Values.{Operand, joined, operand_of}
+use Rattle.ft_base.specs.declared.row.Value.{Value}
 use Rattle.expr_eval.specs.declared.chain.RightSide.{RightSide}
-use Rattle.expr_eval.specs.declared.lent.Lent.{Lent}
+use Rattle.expr_eval.specs.declared.notes.Context.{Context}
 use Rattle.expr_eval.specs.declared.tree.Op.{Op}
 use Rattle.expr_eval.specs.declared.tree.Expr.{Expr, size-Expr, the_lemmas}
 use Rattle.expr_eval.specs.declared.tree.Expr.TheFolds.{fold-roll-Expr}
 use Rattle.expr_eval.specs.declared.tree.Expr.TheOpen as layer
 use Rattle.expr_eval.specs.declared.tree.Expr.TheVariants as tree
-use Rattle.expr_eval.proofs.LentLaws.{operand-lent}
+use Rattle.expr_eval.proofs.LentLaws.{operand-number}
 
 -- how deep the deepest right side is
 abbrev pub deepest : List RightSide → ℕ
@@ -25,16 +24,27 @@ pub deepest-last : (sides : List RightSide) (side : RightSide) → deepest (side
 deepest-last [] side = omega arith
 deepest-last (s ∷ sides) side = omega (arith, deepest-last sides side)
 
-pub joined_on-last : (row : Row) (def : IndexDef) (sides : List RightSide) (side : RightSide) (value : Value)
-    → joined_on row def (sides ++ side ∷ []) value ≡ joined_on row def sides (num_or_null (joined side.op (operand_of value) (operand_of (value_of side.part.now row def))))
-joined_on-last row def [] side value = refl
-joined_on-last row def (s ∷ sides) side value =
-    ap (λ (left : Value). num_or_null (joined s.op (operand_of left) (operand_of (value_of s.part.now row def)))) (joined_on-last row def sides side value)
+pub joined_on-last : (at : Context) (sides : List RightSide) (side : RightSide) (n : Option ℤ)
+    → joined_on at (sides ++ side ∷ []) n ≡ joined_on at sides (joined side.op (operand_number n) (operand_at at side.part.now))
+joined_on-last at [] side n = refl
+joined_on-last at (s ∷ sides) side n =
+    ap (λ (left : Option ℤ). joined s.op (operand_number left) (operand_at at s.part.now)) (joined_on-last at sides side n)
 
-value_of-Binary : (row : Row) (def : IndexDef) (op : Op) (left right : Expr)
-    → value_of (tree.Binary op left right) row def ≡ num_or_null (joined op (operand_of (value_of left row def)) (operand_of (value_of right row def)))
-value_of-Binary row def op left right =
-    ap (λ (e : Expr). value_of e row def) (sym (tree.rolls-Binary op left right)) ∙ fold-roll-Expr Value (value_step row def) (layer.Binary op left right)
+-- what operators see of an operator's value
+pub operand_at-Binary : (at : Context) (op : Op) (left right : Expr)
+    → operand_at at (tree.Binary op left right) ≡ operand_number (joined op (operand_at at left) (operand_at at right))
+operand_at-Binary at op left right =
+    ap operand_of (ap (λ (e : Expr). value_of e (row_of at.row) at.def.now) (sym (tree.rolls-Binary op left right)) ∙ fold-roll-Expr Value (value_step (row_of at.row) at.def.now) (layer.Binary op left right))
+    ∙ operand-number (joined op (operand_at at left) (operand_at at right))
+
+-- the same, where the parts are found to be equal to others
+pub binary_at : (at : Context) (expr : Expr) (op : Op) (left right l r : Expr) → expr ≡ tree.Binary op left right → l ≡ left → r ≡ right
+    → operand_at at expr ≡ operand_number (joined op (operand_at at l) (operand_at at r))
+binary_at at expr op left right l r is is_left is_right =
+    ap (operand_at at) is
+    ∙ operand_at-Binary at op left right
+    ∙ ap (λ (e : Expr). operand_number (joined op (operand_at at e) (operand_at at right))) (sym is_left)
+    ∙ ap (λ (e : Expr). operand_number (joined op (operand_at at l) (operand_at at e))) (sym is_right)
 
 left_shallower : (op : Op) (left right : Expr) → size-Expr left < size-Expr (tree.Binary op left right)
 left_shallower op left right = search (rules, the_lemmas)
@@ -42,32 +52,36 @@ left_shallower op left right = search (rules, the_lemmas)
 right_shallower : (op : Op) (left right : Expr) → size-Expr right < size-Expr (tree.Binary op left right)
 right_shallower op left right = search (rules, the_lemmas)
 
-module _ (old new : List RightSide) (side : RightSide) (whole left : Expr) (is : whole ≡ tree.Binary side.op left side.part.now) (more : new ≡ old ++ side ∷ []) where
-  -- a step down: the left side with one right side more is what the whole was
-  pub down_same : (row : Row) (def : IndexDef) → joined_on row def new (value_of left row def) ≡ joined_on row def old (value_of whole row def)
-  down_same row def =
-      ap (λ (sides : List RightSide). joined_on row def sides (value_of left row def)) more
-      ∙ joined_on-last row def old side (value_of left row def)
-      ∙ ap (joined_on row def old) (sym (value_of-Binary row def side.op left side.part.now))
-      ∙ ap (λ (e : Expr). joined_on row def old (value_of e row def)) (sym is)
+-- a step down: the left side is itself an operator between two parts, and the right side waits
+module _ (at : Context) (old new : List RightSide) (op next : Op) (whole left right part : Expr) (side : RightSide)
+    (is_op : side.op ≡ op) (is_part : side.part.now ≡ part)
+    (is : whole ≡ tree.Binary next left right) (more : new ≡ old ++ side ∷ []) where
+  pub down_same : joined_on at new (joined next (operand_at at left) (operand_at at right)) ≡ joined_on at old (joined op (operand_at at whole) (operand_at at part))
+  down_same =
+      ap (λ (sides : List RightSide). joined_on at sides (joined next (operand_at at left) (operand_at at right))) more
+      ∙ joined_on-last at old side (joined next (operand_at at left) (operand_at at right))
+      ∙ ap (λ (o : Operand). joined_on at old (joined side.op o (operand_at at side.part.now))) (sym (operand_at-Binary at next left right))
+      ∙ ap (λ (e : Expr). joined_on at old (joined side.op (operand_at at e) (operand_at at side.part.now))) (sym is)
+      ∙ ap (λ (o : Op). joined_on at old (joined o (operand_at at whole) (operand_at at side.part.now))) is_op
+      ∙ ap (λ (e : Expr). joined_on at old (joined op (operand_at at whole) (operand_at at e))) is_part
 
   pub down_left : size-Expr left < size-Expr whole
-  down_left = subst (λ (e : Expr). size-Expr left < size-Expr e) (sym is) (left_shallower side.op left side.part.now)
+  down_left = subst (λ (e : Expr). size-Expr left < size-Expr e) (sym is) (left_shallower next left right)
 
-  pub down_right : (n : ℕ) → size-Expr whole ≤ n → deepest old ≤ n → deepest new ≤ n
-  down_right n w o =
-      let d : deepest new ≡ max (deepest old) (size-Expr side.part.now) = ap deepest more ∙ deepest-last old side in
-      let r : size-Expr side.part.now < size-Expr whole = subst (λ (e : Expr). size-Expr side.part.now < size-Expr e) (sym is) (right_shallower side.op left side.part.now) in
-      omega arith
+  pub down_right : size-Expr right < size-Expr whole
+  down_right = subst (λ (e : Expr). size-Expr right < size-Expr e) (sym is) (right_shallower next left right)
+
+  pub down_deepest : deepest new ≡ max (deepest old) (size-Expr part)
+  down_deepest = ap deepest more ∙ deepest-last old side ∙ ap (λ (e : Expr). max (deepest old) (size-Expr e)) is_part
 
 module _ (old new : List RightSide) (side : RightSide) (less : old ≡ new ++ side ∷ []) where
-  -- a step up: with one right side less, the value joined with it is what the value was
-  pub up_same : (row : Row) (def : IndexDef) (value made : Lent) → value_lent made ≡ num_or_null (joined side.op (operand_lent value) (operand_of (value_of side.part.now row def)))
-      → joined_on row def new (value_lent made) ≡ joined_on row def old (value_lent value)
-  up_same row def value made is =
-      ap (joined_on row def new) (is ∙ ap (λ (v : Operand). num_or_null (joined side.op v (operand_of (value_of side.part.now row def)))) (sym (operand-lent value)))
-      ∙ sym (joined_on-last row def new side (value_lent value))
-      ∙ ap (λ (sides : List RightSide). joined_on row def sides (value_lent value)) (sym less)
+  -- a step up: with one right side less, the number joined with it is what the number was
+  pub up_same : (at : Context) (n made : Option ℤ) → made ≡ joined side.op (operand_number n) (operand_at at side.part.now)
+      → joined_on at new made ≡ joined_on at old n
+  up_same at n made is =
+      ap (joined_on at new) is
+      ∙ sym (joined_on-last at new side n)
+      ∙ ap (λ (sides : List RightSide). joined_on at sides n) (sym less)
 
   up_deepest : deepest old ≡ max (deepest new) (size-Expr side.part.now)
   up_deepest = ap deepest less ∙ deepest-last new side

@@ -7,5 +7,6 @@ pub mod Faults
 pub mod OneAnswer
 pub mod Lexing
 pub mod LentLaws
+pub mod LeafLaws
 mod Examples
 pub mod ChainLaws

@@ -3,12 +3,14 @@ use Rattle.std.specs.Option.{option_copied}
 use Rattle.ft_base.specs.declared.row.Row.{Row}
 use Rattle.ft_base.specs.declared.row.Value.{Value}
 use Rattle.ft_base.specs.declared.row.Value.TheVariants as value
-use Rattle.expr_eval.specs.Values.{Operand, Nothing, Number, Bytes, Several, called, denied, joined, negated, num_or_null}
+use Rattle.expr_eval.specs.Values.{Operand, Nothing, Number, Bytes, Several, called, denied, negated, num_or_null}
 use Rattle.expr_eval.specs.declared.evaluator.Outer.{Outer}
 use Rattle.expr_eval.specs.declared.evaluator.Outer.TheVariants as outer
 use Rattle.expr_eval.specs.declared.lent.Lent.{Lent}
 use Rattle.expr_eval.specs.declared.lent.Lent.TheVariants as lent
 use Rattle.expr_eval.specs.declared.lent_row.LentRow.{LentRow}
+use Rattle.expr_eval.specs.declared.seen.Seen.{Seen}
+use Rattle.expr_eval.specs.declared.seen.Seen.TheVariants as seen
 
 -- the value that is lent
 abbrev pub value_lent : Lent → Value
@@ -31,7 +33,13 @@ abbrev pub outer_value : Outer → Operand → Value
 outer_value (outer.Call func) v = called func v
 outer_value outer.Not v = value.Num (denied v)
 outer_value outer.Neg v = num_or_null (negated v)
-outer_value (outer.RightOf op left) v = num_or_null (joined op (operand_lent left) v)
+
+-- what is seen without the value
+abbrev pub operand_seen : Seen → Operand
+operand_seen seen.Nothing = Nothing
+operand_seen (seen.Number n) = Number n
+operand_seen (seen.Bytes text) = Bytes text.now
+operand_seen seen.Several = Several
 
 -- the row that is lent
 abbrev pub row_of : LentRow → Row

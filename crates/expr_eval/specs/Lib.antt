@@ -6,4 +6,5 @@ pub mod Values
 pub mod Properties
 pub mod Meaning
 pub mod Lending
+pub mod Noting
 pub mod RightSides

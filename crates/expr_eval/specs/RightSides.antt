@@ -1,13 +1,16 @@
--- Operators and their right sides, on a value that stands to their left.
-use Rattle.std.specs.Prelude.{List, [], ◌∷◌}
-use Rattle.ft_base.specs.declared.definition.IndexDef.{IndexDef}
-use Rattle.ft_base.specs.declared.row.Row.{Row}
-use Rattle.ft_base.specs.declared.row.Value.{Value}
-use Rattle.expr_eval.specs.Meaning.{value_of}
-use Rattle.expr_eval.specs.Values.{joined, num_or_null, operand_of}
+-- Operators and their right sides, on a number that stands to their left.
+use Rattle.std.specs.Prelude.{ℤ, List, [], ◌∷◌, Option, Some, None}
+use Rattle.expr_eval.specs.Noting.{operand_at}
+use Rattle.expr_eval.specs.Values.{Operand, Nothing, Number, joined}
 use Rattle.expr_eval.specs.declared.chain.RightSide.{RightSide}
+use Rattle.expr_eval.specs.declared.notes.Context.{Context}
 
--- the value with all right sides, of which the last stands next to it
-abbrev pub joined_on : Row → IndexDef → List RightSide → Value → Value
-joined_on row def [] value = value
-joined_on row def (side ∷ sides) value = num_or_null (joined side.op (operand_of (joined_on row def sides value)) (operand_of (value_of side.part.now row def)))
+-- what operators see of a number, and of Null for none
+abbrev pub operand_number : Option ℤ → Operand
+operand_number None = Nothing
+operand_number (Some n) = Number n
+
+-- the number with all right sides, of which the last stands next to it
+abbrev pub joined_on : Context → List RightSide → Option ℤ → Option ℤ
+joined_on at [] n = n
+joined_on at (side ∷ sides) n = joined side.op (operand_number (joined_on at sides n)) (operand_at at side.part.now)

@@ -1,9 +1,10 @@
 //! Values that are lent by the row or by the expression, so that no text is copied to look at it.
-ghost use Rattle.std.specs.Prelude.{◌≡◌, IfOk};
+ghost use Rattle.std.specs.Prelude.{◌≡◌, IfOk, IfSome};
 ghost use Rattle.std.specs.Option.{option_copied};
-ghost use Rattle.expr_eval.specs.Lending.{value_lent, operand_lent};
+ghost use Rattle.expr_eval.specs.Lending.{value_lent, operand_lent, operand_seen};
 ghost use Rattle.expr_eval.specs.Values.{number_of, text_of, num_or_null, is_true, is_true_number, is_there};
 
+use crate::seen::Seen;
 use ft_base::{Bytes, NoMemory, Value, copy_values};
 use std::alloc::Global;
 
@@ -75,6 +76,32 @@ impl<'a> Lent<'a> {
         match self {
             Lent::Null => false,
             Lent::Num(_) | Lent::Text(_) | Lent::Made(_) | Lent::List(_) => true,
+        }
+    }
+
+    /// What operators and functions see of it.
+    pub(crate) fn seen(&self) -> Seen<'_>
+        ensures { operand_seen result ≡ operand_lent self.now }
+    {
+        match self {
+            Lent::Null => Seen::Nothing,
+            Lent::Num(n) => Seen::Number(*n),
+            Lent::Text(text) => Seen::Bytes(text),
+            Lent::Made(text) => Seen::Bytes(text.as_slice()),
+            Lent::List(_) => Seen::Several,
+        }
+    }
+
+    /// What they see of it, to be kept beyond it; none of a text that was made.
+    pub(crate) fn kept(&self) -> Option<Seen<'a>>
+        ensures { IfSome result (λ seen. operand_seen seen ≡ operand_lent self.now) }
+    {
+        match self {
+            Lent::Null => Some(Seen::Nothing),
+            Lent::Num(n) => Some(Seen::Number(*n)),
+            Lent::Text(text) => Some(Seen::Bytes(text)),
+            Lent::Made(_) => None,
+            Lent::List(_) => Some(Seen::Several),
         }
     }
 

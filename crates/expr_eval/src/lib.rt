@@ -14,9 +14,11 @@ mod laws;
 mod lent;
 mod lent_row;
 mod lexer;
+mod notes;
 mod operators;
 mod parser;
 mod properties;
+mod seen;
 mod token;
 mod tree;
 

@@ -1,19 +1,28 @@
 //! What operators give between values.
 ghost use Rattle.std.specs.Prelude.{◌≡◌, ◌+ℤ◌, ◌-ℤ◌, ◌*ℤ◌};
 ghost use Rattle.ft_base.specs.declared.row.Value.TheVariants.{Num};
-ghost use Rattle.expr_eval.specs.Lending.{value_lent, operand_lent};
+ghost use Rattle.expr_eval.specs.Lending.{value_lent, operand_lent, operand_seen};
 ghost use Rattle.expr_eval.specs.Values.{num_or_null, negative, negated, denied, of_numbers, number_order, text_order, order_of, is_so, compared, joined, one_if};
 
 use crate::lent::Lent;
+use crate::seen::Seen;
 use crate::tree::Op;
 use std::cmp::Ordering;
 
-/// What an operator gives between two values.
-pub fn joined<'a>(op: Op, left: Lent<'_>, right: Lent<'_>) -> Lent<'a>
-    ensures { value_lent result
-        ≡ num_or_null (joined op (operand_lent left.entry) (operand_lent right.entry)) }
+/// The number that an operator gives between two values, none for Null.
+pub fn joined(op: Op, left: Seen<'_>, right: Seen<'_>) -> Option<i64>
+    ensures { result ≡ joined op (operand_seen left.entry) (operand_seen right.entry) }
 {
-    Lent::num_or_null(number_joined(op, &left, &right))
+    match op {
+        Op::Or => Some(one_if(left.is_true() || right.is_true())),
+        Op::And => Some(one_if(left.is_true() && right.is_true())),
+        Op::Plus => sum(left.number(), right.number()),
+        Op::Minus => difference(left.number(), right.number()),
+        Op::Times => product(left.number(), right.number()),
+        Op::Equal | Op::Differ | Op::AtMost | Op::AtLeast | Op::Below | Op::Above => {
+            compared(op, order(left, right))
+        }
+    }
 }
 
 /// What `!` gives.
@@ -28,22 +37,6 @@ pub fn negated<'a>(value: Lent<'_>) -> Lent<'a>
     ensures { value_lent result ≡ num_or_null (negated (operand_lent value.entry)) }
 {
     Lent::num_or_null(negative(value.number()))
-}
-
-/// The number that an operator gives, none for Null.
-fn number_joined(op: Op, left: &Lent<'_>, right: &Lent<'_>) -> Option<i64>
-    ensures { result ≡ joined op (operand_lent left.now) (operand_lent right.now) }
-{
-    match op {
-        Op::Or => Some(one_if(left.is_true() || right.is_true())),
-        Op::And => Some(one_if(left.is_true() && right.is_true())),
-        Op::Plus => sum(left.number(), right.number()),
-        Op::Minus => difference(left.number(), right.number()),
-        Op::Times => product(left.number(), right.number()),
-        Op::Equal | Op::Differ | Op::AtMost | Op::AtLeast | Op::Below | Op::Above => {
-            compared(op, order(left, right))
-        }
-    }
 }
 
 /// 1 or 0.
@@ -102,32 +95,30 @@ fn is_so(op: Op, order: Ordering) -> bool
 }
 
 /// The order of two Nums, or of two Texts by their bytes.
-fn order(left: &Lent<'_>, right: &Lent<'_>) -> Option<Ordering>
-    ensures { result ≡ order_of (operand_lent left.now) (operand_lent right.now) }
+fn order(left: Seen<'_>, right: Seen<'_>) -> Option<Ordering>
+    ensures { result ≡ order_of (operand_seen left.entry) (operand_seen right.entry) }
 {
     match left {
-        Lent::Num(number) => number_order(*number, right),
-        Lent::Text(text) => text_order(text, right),
-        Lent::Made(text) => text_order(text.as_slice(), right),
-        Lent::Null | Lent::List(_) => None,
+        Seen::Number(number) => number_order(number, right),
+        Seen::Bytes(text) => text_order(text, right),
+        Seen::Nothing | Seen::Several => None,
     }
 }
 
-fn number_order(left: i64, right: &Lent<'_>) -> Option<Ordering>
-    ensures { result ≡ number_order left (operand_lent right.now) }
+fn number_order(left: i64, right: Seen<'_>) -> Option<Ordering>
+    ensures { result ≡ number_order left (operand_seen right.entry) }
 {
     match right {
-        Lent::Num(number) => Some(left.cmp(number)),
-        Lent::Null | Lent::Text(_) | Lent::Made(_) | Lent::List(_) => None,
+        Seen::Number(number) => Some(left.cmp(&number)),
+        Seen::Nothing | Seen::Bytes(_) | Seen::Several => None,
     }
 }
 
-fn text_order(left: &[u8], right: &Lent<'_>) -> Option<Ordering>
-    ensures { result ≡ text_order left.now (operand_lent right.now) }
+fn text_order(left: &[u8], right: Seen<'_>) -> Option<Ordering>
+    ensures { result ≡ text_order left.now (operand_seen right.entry) }
 {
     match right {
-        Lent::Text(text) => Some(left.cmp(text)),
-        Lent::Made(text) => Some(left.cmp(text.as_slice())),
-        Lent::Null | Lent::Num(_) | Lent::List(_) => None,
+        Seen::Bytes(text) => Some(left.cmp(text)),
+        Seen::Nothing | Seen::Number(_) | Seen::Several => None,
     }
 }

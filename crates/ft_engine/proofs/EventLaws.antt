@@ -35,3 +35,7 @@ counted-last engine late number = ap (λ (n : ℕ). record engine { next = n }) 
   where
     next-same : (n : ℕ) → last_number ≤ n → n ≤ last_number → n ≡ next_number n
     next-same n late number = omega (arith, late, number)
+
+-- so also where only the lists could have changed, and did not
+pub last-still : (old new : Stands) → old.next ≤ last_number → new ≡ record (counted old) { indexes = new.indexes } → new.indexes ≡ old.indexes → last_number ≤ old.next → new ≡ old
+last-still old new most still same late = still ∙ (ap (λ (xs : List Index). record (counted old) { indexes = xs }) same ∙ sym (counted-last old late most))

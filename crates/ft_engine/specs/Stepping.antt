@@ -11,6 +11,7 @@ use Rattle.id_iters.specs.declared.list_name.ListName.{ListName}
 use Rattle.ft_machine.specs.History.{IsLegal}
 use Rattle.ft_machine.specs.Step.{Answers, last_number, next_number}
 use Rattle.indexed_store.specs.Moving.{IndexesMove}
+use Rattle.indexed_store.specs.Parting.{ScansPart}
 use Rattle.indexed_store.specs.Repairing.{ScansNamed, SplicesSerial, splice_marker}
 use Rattle.ft_engine.specs.Stands.{Stands, opened}
 
@@ -35,6 +36,11 @@ pub record Moves (old new : Stands) : Type 0 where
 -- The index of a name is pictured at the engine's number, and nothing is exactly where there is no such index.
 abbrev pub ScansAt : List ℕ → Stands → Option Snapshot → Type 0
 ScansAt name engine taken = ScansNamed name engine.indexes engine.next taken
+
+-- A part of the index of a name is pictured at a number, as the engine holds it then, and nothing is exactly where there is no such
+-- index.
+abbrev pub ScansPartAt : List ℕ → ℕ → Stands → Option Snapshot → Type 0
+ScansPartAt name number engine taken = ScansPart name engine.indexes number taken
 
 -- the engine once an event is counted that changes nothing
 abbrev pub counted : Stands → Stands

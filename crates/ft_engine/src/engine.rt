@@ -3,7 +3,8 @@ ghost use Rattle.std.specs.Prelude.{◌≡◌, ◌<◌, ◌≤◌, ◌^◌, true
 ghost use Rattle.ft_engine.specs.Commands.{AreRefused, CollectsAsAsked, IsLastText, IsLawful, IsQuietAsAsked, IsReadFor, KeepsLimits, ReadsAsAsked, TellsAsAsked, TellsFault, TellsLast, WordsCollect, WordsRead, WordsTell};
 ghost use Rattle.ft_engine.specs.Preparing.{CommitKeeps, CommitReads, EntersAsSaid, IsLast, StepsBy, WritesAsSaid, committed};
 ghost use Rattle.ft_engine.specs.Stands.{IsIndexed, begun, opened};
-ghost use Rattle.ft_engine.specs.Stepping.{AnswersAt, Counts, Moves, ScansAt, SplicesAt, counted, ended};
+ghost use Rattle.ft_engine.specs.Stepping.{AnswersAt, Counts, Moves, ScansAt, ScansPartAt, SplicesAt, counted, ended};
+ghost use Rattle.ft_machine.specs.Step.{last_number};
 ghost use Rattle.indexed_store.specs.Repairing.{FitsSerial, IndexesThin};
 
 use crate::prepared::Prepared;
@@ -308,6 +309,28 @@ impl Engine {
         ensures moves { Moves self.old self.new }
     {
         let taken = self.held.scan(name, self.next);
+        self.pending = true;
+        self.end();
+        taken
+    }
+
+    /// Pictures of the next part of the lists of the index of a name, as `FtIndex::scan_next` takes it, and which ids are live
+    /// there, in an event of its own. None exactly where there is no such index. Lists that the part before passed over lose their
+    /// dead entries where they stand. Where memory runs out, what was taken out stays out, and the event is counted all the same.
+    pub fn scan_next(&mut self, name: &[u8]) -> Result<Option<Snapshot>, NoMemory>
+        requires free { self.old.pending ≡ false }
+        ensures taken { IfOk result (ScansPartAt name.now self.old.next self.new) }
+        ensures next { Counts self.old self.new }
+        // Nothing of it is seen, and every live entry stays.
+        ensures still { self.new ≡ record (counted self.old) { indexes = self.new.indexes } }
+        ensures thin { IndexesThin self.old.indexes self.new.indexes }
+        // At the last number nothing changes.
+        ensures last { last_number ≤ self.old.next → self.new ≡ self.old }
+        ensures indexed { IsIndexed self.new }
+        // What there was has only grown, or is gone.
+        ensures moves { Moves self.old self.new }
+    {
+        let taken = self.held.scan_next(name, self.next);
         self.pending = true;
         self.end();
         taken

@@ -69,7 +69,7 @@ impl Round {
 
     /// Whether no part is due: no round is under way, and fewer than an eighth of the live documents died, or none.
     fn is_idle(&self, docs: u64) -> bool {
-        self.hand.is_none() && (self.died == 0 || self.died < docs / 8)
+        self.hand.is_none() && (self.died == 0 || self.died.saturating_mul(8) < docs)
     }
 
     /// Goes on behind a part, and hands its pictures out.

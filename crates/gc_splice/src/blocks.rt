@@ -9,7 +9,7 @@ ghost use Rattle.gc_splice.specs.Repaired.{repair_of_block};
 
 use crate::keep::{keep_live, live_in};
 use crate::live::Live;
-use crate::repair::BlockRepair;
+use crate::repair::{BlockRepair, MOST_ENTRIES};
 use ft_base::{ListOf, NoMemory};
 use inverted_list::Sealed;
 use posting_block::{Block, Payload};
@@ -65,6 +65,18 @@ fn repair_block<P: Payload, L: Live>(
     }
     let kept = without_dead::<P, L>(alloc, block.block(), live)?;
     Ok(BlockRepair::Changed(kept))
+}
+
+/// What becomes of one block, where no buffer of ids is in hand.
+pub fn repair_one<P: Payload, L: Live>(
+    alloc: Global,
+    block: &Sealed<P>,
+    live: &L,
+) -> Result<BlockRepair<P>, NoMemory>
+    ensures { IfOk result (λ r. r ≡ repair_of_block (L.is live.now) block.now) }
+{
+    let mut ids = [0; MOST_ENTRIES];
+    repair_block::<P, L>(alloc, block, live, &mut ids)
 }
 
 // The repairs of blocks without a dead entry, with room for those of all blocks.

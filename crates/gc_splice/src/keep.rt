@@ -49,7 +49,7 @@ fn keep_one<P: Payload, L: Live>(
 }
 
 /// A block without its dead entries.
-pub(crate) fn keep_live<P: Payload, L: Live>(
+pub fn keep_live<P: Payload, L: Live>(
     alloc: Global,
     block: &Block<P>,
     live: &L,

@@ -14,10 +14,14 @@ mod mend;
 mod repair;
 mod splice;
 
+/// Repairs one sealed block.
+pub use blocks::repair_one;
 /// Whether a list has a dead entry.
 pub use clean::is_clean;
 /// Takes the dead entries out of a list in one step.
 pub use collect::collect_list;
+/// Takes the dead entries out of a block.
+pub use keep::keep_live;
 /// Which ids are live.
 pub use live::Live;
 /// What a repair makes of a list, and of one sealed block of it.

@@ -10,6 +10,7 @@ pub mod IndexingLaws
 pub mod KeysLaws
 pub mod MovingLaws
 pub mod NamedLaws
+pub mod PartingLaws
 pub mod PreparingLaws
 pub mod ReadsLaws
 pub mod RepairingLaws

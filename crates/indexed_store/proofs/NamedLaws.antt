@@ -1,6 +1,6 @@
 -- The index of a name, its definition and the others.
 use Rattle.std.specs.Prelude.{◌≡◌, ◌<◌, ◌+◌, ℕ, suc, Bool, true, false, cond, List, [], ◌∷◌, None, Some, find, length, position, slice_index_or, slice_set, refl, nat_lt}
-use Rattle.std.specs.List.{All, position_or_len, remove}
+use Rattle.std.specs.List.{All, Contains, position_or_len, remove}
 use Rattle.std.specs.Option.{option_map}
 use Rattle.std.proofs.Common.{sym, ap, ◌∙◌, subst, inl, inr, arith}
 use Rattle.std.proofs.lemmas.Bool.{cases_Bool}
@@ -11,7 +11,7 @@ use Rattle.ft_base.specs.declared.definition.IndexDef.{IndexDef}
 use Rattle.ft_index.specs.Index.{Index}
 use Rattle.ft_machine.specs.Definitions.{Defined, index_of, with_index, without_index}
 use Rattle.indexed_store.specs.DefinitionsOf.{defined, definitions_of}
-use Rattle.indexed_store.specs.Named.{is_named, without_named}
+use Rattle.indexed_store.specs.Named.{has_serial, is_named, without_named}
 
 -- the definition of a name is that of the first index that has it
 pub index_of-named : (indexes : List Index) (name : List ℕ) → index_of (definitions_of indexes) name ≡ option_map defined (find (is_named name) indexes)
@@ -162,3 +162,16 @@ set-named (index ∷ indexes) name i d new is less same = elim (cases_Bool (is_n
 pub one-set : (indexes : List Index) (name : List ℕ) (i : ℕ) (d new : Index) → position (is_named name) indexes ≡ Some i → new.def ≡ (slice_index_or indexes i d).def
     → find (is_named name) (slice_set indexes i new) ≡ Some new
 one-set indexes name i d new found same = let at = place-is (is_named name) indexes i found in set-named indexes name i d new at.0 at.1 same
+
+-- the index of a serial is one of the indexes, and has the serial
+pub found-serial : (serial : ℕ) (indexes : List Index) (index : Index) → find (has_serial serial) indexes ≡ Some index → Contains indexes index × (index.def.serial ≡ serial)
+found-serial serial [] index found = cc (found)
+found-serial serial (first ∷ indexes) index found = by_test (has_serial serial first) refl found (found-serial serial indexes index)
+  where
+    by_test : (here : Bool) → has_serial serial first ≡ here → cond here (Some first) (find (has_serial serial) indexes) ≡ Some index
+        → (find (has_serial serial) indexes ≡ Some index → Contains indexes index × (index.def.serial ≡ serial)) → Contains (first ∷ indexes) index × (index.def.serial ≡ serial)
+    by_test true here found later =
+        let same : first ≡ index = cc (found) in
+        let has : first.def.serial ≡ serial = grind (arith, nat_tests, here) in
+        subst (λ (x : Index). Contains (first ∷ indexes) x × (x.def.serial ≡ serial)) same ((0, omega arith, refl), has)
+    by_test false here found later = let more = later found in ((suc more.0.0, omega (arith, more.0.1), more.0.2), more.1)

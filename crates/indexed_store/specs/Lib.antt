@@ -6,6 +6,7 @@ pub mod Holding
 pub mod Indexing
 pub mod Moving
 pub mod Named
+pub mod Parting
 pub mod Preparing
 pub mod Repairing
 pub mod Standing

@@ -1,6 +1,6 @@
 //! The documents, the indexes over them and the cursors as one value, in which each index always stands for the documents.
 //! Here it begins and changes; what is asked and prepared of one part stands with that part: `reading.rt` and `answering.rt`,
-//! `index_list.rt` and `creation.rt`, `counting.rt`, `collecting.rt`, `repairing.rt`, `waiting.rt`.
+//! `index_list.rt` and `creation.rt`, `counting.rt`, `collecting.rt`, `repairing.rt`, `parting.rt`, `waiting.rt`.
 ghost use Rattle.std.specs.Prelude.{◌≡◌, ◌≤◌, ◌<◌, ◌+◌, ℕ, false, length, IfOk};
 ghost use Rattle.ft_meaning.specs.Meaning.{ValuesFit};
 ghost use Rattle.indexed_store.specs.Changing.{changed, is_write};

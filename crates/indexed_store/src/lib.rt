@@ -23,6 +23,7 @@ mod kept_places;
 mod keys;
 mod listings;
 mod making;
+mod parting;
 mod reading;
 mod removals;
 mod repairing;

@@ -12,6 +12,7 @@ mod expressions;
 mod holders;
 mod lexemes;
 mod lists;
+mod loads;
 mod phrases;
 mod queries;
 mod schemas;
@@ -114,5 +115,6 @@ fn put(alloc: Global, call: &str, words: &[Vec<u8>], out: &mut Answer) -> bool {
         || documents::put(alloc, call, words, out)
         || expressions::put(alloc, call, words, out)
         || lists::put(alloc, call, words, out)
+        || loads::put(alloc, call, words, out)
         || wire::put(alloc, call, words, out)
 }

@@ -1,3 +1,4 @@
 pub mod KnownLaws
 pub mod UnionLaws
 pub mod GainLaws
+pub mod AloneLaws

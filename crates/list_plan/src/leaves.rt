@@ -15,10 +15,12 @@ use ft_base::{NoMemory, Steps};
 use id_iters::{Iter, Leaf, ListName, Lists};
 use std::sync::ledger::Ledger;
 
-/// The leaf of a list, behind the ids up to the one that the sources name.
+/// The leaf of a list of so many entries, behind the ids up to the one that the sources name. Where the room for leaves is used up the
+/// list is not opened.
 pub fn leaf_of<T: Lists, L: Ledger>(
     sources: &Sources<T>,
     list: ListName,
+    entries: u64,
     wanted: &Wanted,
     steps: &mut Steps<L>,
 ) -> Result<Leaf, NoMemory>
@@ -41,9 +43,10 @@ pub fn leaf_of<T: Lists, L: Ledger>(
         IsSome (place_of sources.now.known.now leaf.list) → steps.new ≡ steps.old) }
     ensures counts { steps.old ≤ steps.new }
 {
+    sources.room.take_leaf(entries)?;
+    let fields = wanted.fields.copy(sources.alloc)?;
     let hint = place_of(sources.known, &list);
     let place = list.open_at(sources.lists, hint, sources.after, steps);
-    let fields = wanted.fields.copy(sources.alloc)?;
     Ok(Leaf::new(sources.alloc, list, place, fields, wanted.low, wanted.high))
 }
 
@@ -66,7 +69,7 @@ pub fn plan_list<T: Lists, L: Ledger>(
     ensures counts { steps.old ≤ steps.new }
 {
     let size = list_size(sources.lists, &list);
-    let leaf = leaf_of(sources, list, wanted, steps)?;
+    let leaf = leaf_of(sources, list, size, wanted, steps)?;
     Ok(Planned {
         iter: Iter::of_leaf(leaf),
         size,

@@ -7,6 +7,7 @@
 
 mod known;
 mod leaves;
+mod room;
 mod size;
 mod sources;
 mod union;
@@ -15,6 +16,8 @@ mod union;
 pub use known::{Known, known_places};
 /// Lists that are opened.
 pub use leaves::{leaf_of, plan_list, plan_lists};
+/// Bytes that leaves may take.
+pub use room::Room;
 /// Parts, and how many ids each has at most.
 pub use size::{Planned, add_planned, word_size};
 /// What a plan is made from.

@@ -84,8 +84,28 @@ fn with_part(parts: ListOf<Ahead>, part: Ahead) -> Result<ListOf<Ahead>, NoMemor
     Ok(made)
 }
 
-/// The ids that every part has. The part with the fewest is asked first.
+/// The ids that every part has. The part with the fewest is asked first; a part that is alone is the whole.
 pub fn every_of(alloc: Global, plans: Vec<Planned>) -> Result<Planned, NoMemory>
+    ensures set { IfOk result (λ made. (held : Held) (id : ℕ)
+        → ids_of held made id ≡ list_all (λ planned. ids_of held planned id) plans.items) }
+    ensures ready { IfOk result (λ made. (held : Held) (from : ℕ)
+        → AllReady held plans.items from → Ready held made.iter from) }
+    ensures placed { IfOk result (λ made. (held : Held) (after : ℕ)
+        → PartsOpen held after plans.items → AllOpen held after (leaves_of made.iter)) }
+    ensures known { IfOk result (KnowsLeavesOf plans.items) }
+{
+    if plans.len() != 1 {
+        return every_in_order(alloc, plans);
+    }
+    let mut alone = plans;
+    match alone.pop() {
+        Some(planned) => Ok(planned),
+        None => unreachable!(),
+    }
+}
+
+// The ids that every part has, of which that with the fewest is asked first.
+fn every_in_order(alloc: Global, plans: Vec<Planned>) -> Result<Planned, NoMemory>
     ensures set { IfOk result (λ made. (held : Held) (id : ℕ)
         → ids_of held made id ≡ list_all (λ planned. ids_of held planned id) plans.items) }
     ensures ready { IfOk result (λ made. (held : Held) (from : ℕ)

@@ -196,14 +196,56 @@ fn add_leaves<T: Lists, L: Ledger>(
     };
     let mut places = BTreeMap::new(sources.alloc);
     'words: for word in phrase.words {
-        let place = place_in(&places, word.as_slice());
-        if is_of_word(made.leaves.as_slice(), place, word.as_slice()) {
-            made.order.push(place)?;
-            continue;
-        }
-        places.insert(word.as_slice(), made.leaves.len())?;
-        add_word(sources, word, &wanted, made, steps)?;
+        add_next(sources, word, &wanted, &mut places, made, steps)?;
     }
+    Ok(())
+}
+
+// The next word of a phrase: where it has a leaf, its place goes behind those of the words before, and else a leaf too.
+fn add_next<'w, T: Lists, L: Ledger>(
+    sources: &Sources<T>,
+    word: &'w Bytes,
+    wanted: &Wanted,
+    places: &mut BTreeMap<&'w [u8], usize>,
+    made: &mut WordLeaves,
+    steps: &mut Steps<L>,
+) -> Result<(), NoMemory>
+    requires { KnownFit (T.held sources.now.lists.now) sources.now.after (place_of sources.now.known.now) }
+    ensures words { OnOk result ((words : List (List ℕ)) → AreOfWords words made.old.leaves made.old.order
+        → AreOfWords (words ++ word.now ∷ []) made.new.leaves made.new.order) }
+    ensures ready { OnOk result (LeavesReady (T.held sources.now.lists.now) made.old.leaves (sources.now.after + 1)
+        → LeavesReady (T.held sources.now.lists.now) made.new.leaves (sources.now.after + 1)) }
+    ensures placed { OnOk result (AllOpen (T.held sources.now.lists.now) sources.now.after made.old.leaves
+        → AllOpen (T.held sources.now.lists.now) sources.now.after made.new.leaves) }
+    ensures free { OnOk result (AllKnown (place_of sources.now.known.now) made.new.leaves
+        → (AllKnown (place_of sources.now.known.now) made.old.leaves) × (steps.new ≡ steps.old)) }
+    ensures counts { steps.old ≤ steps.new }
+{
+    let place = place_in(places, word.as_slice());
+    if is_of_word(made.leaves.as_slice(), place, word.as_slice()) {
+        add_turn(made, place)?;
+        return Ok(());
+    }
+    keep_place(places, word, made.leaves.len())?;
+    add_word(sources, word, wanted, made, steps)
+}
+
+// The place of a leaf goes behind those of the words before.
+fn add_turn(made: &mut WordLeaves, place: usize) -> Result<(), NoMemory>
+    ensures leaves { OnOk result (made.new.leaves ≡ made.old.leaves) }
+    ensures order { OnOk result (made.new.order ≡ made.old.order ++ place ∷ []) }
+{
+    made.order.push(place)?;
+    Ok(())
+}
+
+// Keeps the place of a word's leaf.
+fn keep_place<'w>(
+    places: &mut BTreeMap<&'w [u8], usize>,
+    word: &'w Bytes,
+    place: usize,
+) -> Result<(), NoMemory> {
+    places.insert(word.as_slice(), place)?;
     Ok(())
 }
 
@@ -285,6 +327,7 @@ fn word_leaf<T: Lists, L: Ledger>(
         IsSome (place_of sources.now.known.now leaf.list) → steps.new ≡ steps.old) }
     ensures counts { steps.old ≤ steps.new }
 {
+    let entries = word_size(sources.lists, word.as_slice());
     let text = word.clone()?;
-    leaf_of(sources, ListName::Word { text }, wanted, steps)
+    leaf_of(sources, ListName::Word { text }, entries, wanted, steps)
 }

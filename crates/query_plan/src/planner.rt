@@ -10,7 +10,7 @@ ghost use Rattle.query_plan.specs.Finds.{AreOf, finds};
 use crate::query_tree::plan_part;
 use ft_base::{IndexDef, NoMemory, Query, Steps};
 use id_iters::{Hints, Iter, Lists};
-use list_plan::{Sources, known_places};
+use list_plan::{Room, Sources, known_places};
 use std::alloc::Global;
 use std::sync::ledger::Ledger;
 
@@ -49,6 +49,7 @@ pub fn plan<T: Lists, L: Ledger>(
         lists,
         known: &known,
         after,
+        room: Room::new(),
     };
     let planned = plan_part(&sources, query, steps)?;
     Ok(planned.iter)

@@ -39,6 +39,7 @@ pub fn plan_part<T: Lists, L: Ledger>(
         AllKnown (place_of sources.now.known.now) (leaves_of planned.iter) → steps.new ≡ steps.old) }
     ensures counts { steps.old ≤ steps.new }
 {
+    take_room(sources, query)?;
     match query {
         Query::Word { fields, text } => plan_word(sources, fields, text, steps),
         Query::Prefix { fields, text } => plan_prefix(sources, fields, text, steps),
@@ -46,6 +47,16 @@ pub fn plan_part<T: Lists, L: Ledger>(
         Query::Or(parts) => plan_some(sources, parts.as_slice(), steps),
         Query::Not(part) => plan_other(sources, part.get(), steps),
         _ => plan_other_leaf(sources, query, steps),
+    }
+}
+
+// Takes room for what a part needs beside its leaves.
+fn take_room<T>(sources: &Sources<T>, query: &Query) -> Result<(), NoMemory> {
+    match query {
+        Query::Or(_) => sources.room.take_union(),
+        Query::Not(_) => sources.room.take_part(),
+        Query::Phrase { .. } => sources.room.take_part(),
+        _ => Ok(()),
     }
 }
 

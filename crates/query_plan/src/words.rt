@@ -10,7 +10,6 @@ ghost use Rattle.query_plan.specs.Sought.{words_with};
 use ft_base::{Bytes, Fields, NoMemory, Steps};
 use id_iters::{ListName, Lists};
 use list_plan::{Planned, Sources, Wanted, plan_list, plan_lists};
-use std::alloc::Global;
 use std::sync::ledger::Ledger;
 
 /// The documents that have a word in some of the fields.
@@ -62,7 +61,7 @@ pub fn plan_prefix<T: Lists, L: Ledger>(
         AllKnown (place_of sources.now.known.now) (leaves_of planned.iter) → steps.new ≡ steps.old) }
     ensures counts { steps.old ≤ steps.new }
 {
-    let lists = words_with(sources.alloc, sources.lists, text.as_slice())?;
+    let lists = words_with(sources, text.as_slice())?;
     let wanted = Wanted {
         fields,
         low: 0,
@@ -72,24 +71,25 @@ pub fn plan_prefix<T: Lists, L: Ledger>(
 }
 
 // The lists of the words that begin with a text.
-fn words_with<T: Lists>(alloc: Global, lists: &T, text: &[u8]) -> Result<Vec<ListName>, NoMemory>
+fn words_with<T: Lists>(sources: &Sources<T>, text: &[u8]) -> Result<Vec<ListName>, NoMemory>
     ensures { IfOk result (λ found. found.items
-        ≡ map (λ word. ListName.Word word) (words_with text.now (T.named lists.now).words)) }
+        ≡ map (λ word. ListName.Word word) (words_with text.now (T.named sources.now.lists.now).words)) }
 {
-    let mut found = Vec::new(alloc);
+    let mut found = Vec::new(sources.alloc);
     let mut after = None;
-    'words: while let Some(word) = lists.next_word(text, after)? {
-        add_word(alloc, &mut found, word)?;
+    'words: while let Some(word) = sources.lists.next_word(text, after)? {
+        add_word(sources, &mut found, word)?;
         after = Some(word);
     }
     Ok(found)
 }
 
 // The list of a word goes behind the others.
-fn add_word(alloc: Global, found: &mut Vec<ListName>, word: &[u8]) -> Result<(), NoMemory>
+fn add_word<T>(sources: &Sources<T>, found: &mut Vec<ListName>, word: &[u8]) -> Result<(), NoMemory>
     ensures { OnOk result (found.new.items ≡ found.old.items ++ ListName.Word word.now ∷ []) }
 {
-    let text = Bytes::from_slice(alloc, word)?;
+    sources.room.take_name(word)?;
+    let text = Bytes::from_slice(sources.alloc, word)?;
     found.push(ListName::Word { text })?;
     Ok(())
 }

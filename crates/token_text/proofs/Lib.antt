@@ -1,3 +1,4 @@
 pub mod TokensLaws
+pub mod RunsLaws
 pub mod SlicesLaws
 pub mod StepLaws

@@ -6,9 +6,10 @@
 //! Read first `specs/Tokens.antt`, then `token.rt`.
 #![tactic(auto)]
 
+mod part;
+mod runs;
 mod text_tokens;
 mod token;
-mod units;
 
 /// The tokens of a text, held and lent.
 pub use text_tokens::TextTokens;

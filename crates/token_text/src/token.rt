@@ -1,12 +1,14 @@
 //! The words of a text: cut at separators, lowered, stop words dropped, the others numbered.
-ghost use Rattle.std.specs.Prelude.{◌≡◌, ◌≤◌, ◌+◌, ℕ, [], ◌∷◌, ◌++◌, length, if◌then◌else◌, IfOk, OnOk};
+ghost use Rattle.std.specs.Prelude.{◌≡◌, ◌≤◌, ◌+◌, ℕ, [], ◌∷◌, ◌++◌, length, take, if◌then◌else◌, IfOk, OnOk};
 ghost use Rattle.ft_base.specs.declared.limits.TheConstants.{MAX_WORD_BYTES};
-ghost use Rattle.token_text.specs.Slices.{EndsRise, last_end, open_in, tokens_in};
-ghost use Rattle.token_text.specs.Tokens.{before, is_stop, numbered, tokens};
+ghost use Rattle.token_text.specs.Slices.{LieWithin, between, tokens_in};
+ghost use Rattle.token_text.specs.Tokens.{before, is_stop, lowered, numbered, tokens};
 
+use crate::part::Part;
+use crate::runs::{Run, next_run};
 use crate::text_tokens::TextTokens;
-use crate::units::next_unit;
 use ft_base::{Bytes, NoMemory, StopWords};
+use lane_kernels::lower_into;
 use std::alloc::Global;
 
 /// A word of a text, with its place among the words that are no stop words, counted from 1. It is
@@ -23,54 +25,67 @@ pub fn tokens(alloc: Global, text: &[u8], stops: &StopWords) -> Result<TextToken
     requires { length text.now ≤ MAX_WORD_BYTES }
     ensures { IfOk result (λ found. found ≡ tokens text.now stops.now.words) }
 {
-    let mut bytes = Vec::with_capacity(alloc, text.len())?;
-    let mut ends = Vec::new(alloc);
-    cut(text, stops, &mut bytes, &mut ends)?;
-    Ok(TextTokens::of_ends(bytes, ends))
+    let mut bytes = lowered(alloc, text)?;
+    let mut parts = Vec::new(alloc);
+    cut(text, stops, bytes.as_mut_slice(), &mut parts)?;
+    Ok(TextTokens::of_parts(bytes, parts))
 }
 
-/// Writes the tokens of a text into an empty buffer.
+/// A text lowered as a whole, which is faster than word by word.
+fn lowered(alloc: Global, text: &[u8]) -> Result<Vec<u8>, NoMemory>
+    ensures { IfOk result (λ bytes. bytes.items ≡ lowered text.now) }
+{
+    let mut bytes = Vec::with_capacity(alloc, text.len())?;
+    bytes.extend_from_slice(text)?;
+    lower_into(text, bytes.as_mut_slice());
+    Ok(bytes)
+}
+
+/// Finds the tokens of a text, whose words are parts of a buffer that holds it lowered.
 fn cut(
     text: &[u8],
     stops: &StopWords,
-    bytes: &mut Vec<u8>,
-    ends: &mut Vec<u32>,
+    bytes: &mut [u8],
+    parts: &mut Vec<Part>,
 ) -> Result<(), NoMemory>
     requires limit { length text.now ≤ MAX_WORD_BYTES }
-    requires no_bytes { bytes.old.items ≡ [] }
-    requires no_ends { ends.old.items ≡ [] }
-    ensures tokens { OnOk result (tokens_in bytes.new.items ends.new.items ≡ tokens text.now stops.now.words) }
-    ensures rise { OnOk result (EndsRise (length bytes.new.items) 0 ends.new.items) }
-    ensures limit { OnOk result (length bytes.new.items ≤ MAX_WORD_BYTES) }
+    requires lowered { bytes.old ≡ lowered text.now }
+    requires none { parts.old.items ≡ [] }
+    ensures tokens { OnOk result (tokens_in bytes.new parts.new.items ≡ tokens text.now stops.now.words) }
+    ensures within { OnOk result (LieWithin (length bytes.new) parts.new.items) }
+    ensures limit { OnOk result (length parts.new.items ≤ MAX_WORD_BYTES) }
 {
-    let mut rest = text;
-    'cutting: while let Some((unit, after)) = next_unit(rest) {
-        match unit {
-            Some(byte) => bytes.push(byte.to_ascii_lowercase())?,
-            None => finish(stops, bytes, ends)?,
-        }
-        rest = after;
+    let mut from = 0;
+    'cutting: while from < text.len() {
+        let Run { to, end } = next_run(text, bytes, from);
+        add_run(stops, bytes, from, to, parts)?;
+        from = end + 1;
     }
-    finish(stops, bytes, ends)
+    Ok(())
 }
 
-/// Ends the lowered run behind the last token: it is a token more, unless it is empty or a stop
-/// word, whose bytes go again.
-fn finish(stops: &StopWords, bytes: &mut Vec<u8>, ends: &mut Vec<u32>) -> Result<(), NoMemory>
-    requires rise { EndsRise (length bytes.old.items) 0 ends.old.items }
-    requires limit { length bytes.old.items ≤ MAX_WORD_BYTES }
-    ensures added { OnOk result (tokens_in bytes.new.items ends.new.items
-        ≡ tokens_in bytes.old.items ends.old.items
-        ++ numbered stops.now.words (length ends.old.items + 1) (before (open_in bytes.old.items ends.old.items) [])) }
-    ensures closed { OnOk result (open_in bytes.new.items ends.new.items ≡ []) }
-    ensures rise { OnOk result (EndsRise (length bytes.new.items) 0 ends.new.items) }
-    ensures fewer { length bytes.new.items ≤ length bytes.old.items }
+/// Adds a run of a buffer behind the other parts: unless it is empty or a stop word, it is a token.
+fn add_run(
+    stops: &StopWords,
+    bytes: &[u8],
+    from: usize,
+    to: usize,
+    parts: &mut Vec<Part>,
+) -> Result<(), NoMemory>
+    requires order { from ≤ to }
+    requires inside { to ≤ length bytes.now }
+    requires limit { length bytes.now ≤ MAX_WORD_BYTES }
+    ensures added { OnOk result (tokens_in bytes.now parts.new.items ≡ tokens_in bytes.now parts.old.items
+        ++ numbered stops.now.words (length parts.old.items + 1) (before (between bytes.now from to) [])) }
+    ensures within { OnOk result ((size : ℕ) → to ≤ size → LieWithin size parts.old.items
+        → LieWithin size parts.new.items) }
+    ensures one { OnOk result (length parts.new.items ≤ length parts.old.items + 1) }
 {
-    let start = last_end(ends.as_slice());
-    if is_token(stops, &bytes[start..]) {
-        ends.push(bytes.len() as u32)?;
-    } else {
-        bytes.truncate(start);
+    if is_token(stops, &bytes[from..to]) {
+        parts.push(Part {
+            from: from as u32,
+            to: to as u32,
+        })?;
     }
     Ok(())
 }
@@ -81,16 +96,6 @@ fn is_token(stops: &StopWords, run: &[u8]) -> bool
         ≡ (if result then record { place = place; word = run.now } ∷ [] else []) }
 {
     !run.is_empty() && !is_stop(stops, run)
-}
-
-/// Where the run behind the last token begins.
-fn last_end(ends: &[u32]) -> usize
-    ensures { result ≡ last_end 0 ends.now }
-{
-    match ends {
-        [] => 0,
-        [.., end] => *end as usize,
-    }
 }
 
 fn is_stop(stops: &StopWords, word: &[u8]) -> bool

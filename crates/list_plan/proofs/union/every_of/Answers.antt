@@ -1,28 +1,27 @@
-use Rattle.std.proofs.Common.{◌≡◌, ◌∙◌, map, ap, rules, ℕ, Bool}
+use Rattle.std.proofs.Common.{◌≡◌, ◌∷◌, [], arith}
+use Rattle.id_iters.specs.Fitting.{leaves_of}
+use Rattle.id_iters.specs.Ready.{Ready}
+use Rattle.list_plan.specs.Plans.{AllKnown, AllOpen}
 use Rattle.list_plan.specs.declared.size.Planned.{Planned}
-use Rattle.list_plan.proofs.UnionLaws.{every_known, every_placed, every_ready, every_set}
+use Rattle.list_plan.proofs.AloneLaws.{alone, alone_has, each_alone, of_alone}
 use Rattle.list_plan.proofs.union.every_of.Goals as goal
 
 pub returns-clause-set : goal.returns-clause-set
 returns-clause-set c = λ held id.
-    let parts : c.in_ok-parts.parts.items ≡ map (λ (planned : Planned). planned.iter) c.sort_by_key.new.self.items = search rules in
-    ap (λ (has : ℕ → Bool). has id) (c.of_every.ensures.set held)
-    ∙ every_set c.args.plans.items c.sort_by_key.new.self.items c.in_ok-sort_by_key.ensures.permutation c.from_vec.result (c.from_vec.ensures ∙ parts) held id
+    let is : c.args.plans.items ≡ c.in-Some.planned ∷ [] = alone c.args.plans.items c.pop.new.self.items c.in-Some.planned c.in-Some.ensures.items (omega (arith, c.in-Some.ensures.cases)) in
+    alone_has c.args.plans.items c.in-Some.planned is held id
 
 pub returns-clause-ready : goal.returns-clause-ready
 returns-clause-ready c = λ held from all.
-    let parts : c.in_ok-parts.parts.items ≡ map (λ (planned : Planned). planned.iter) c.sort_by_key.new.self.items = search rules in
-    c.of_every.ensures.ready held from
-    (every_ready c.args.plans.items c.sort_by_key.new.self.items c.in_ok-sort_by_key.ensures.permutation c.from_vec.result (c.from_vec.ensures ∙ parts) held from all)
+    let is : c.args.plans.items ≡ c.in-Some.planned ∷ [] = alone c.args.plans.items c.pop.new.self.items c.in-Some.planned c.in-Some.ensures.items (omega (arith, c.in-Some.ensures.cases)) in
+    of_alone (λ (planned : Planned). Ready held planned.iter from) c.args.plans.items c.in-Some.planned is all
 
 pub returns-clause-placed : goal.returns-clause-placed
 returns-clause-placed c = λ held after all.
-    let parts : c.in_ok-parts.parts.items ≡ map (λ (planned : Planned). planned.iter) c.sort_by_key.new.self.items = search rules in
-    every_placed c.args.plans.items c.sort_by_key.new.self.items c.in_ok-sort_by_key.ensures.permutation c.from_vec.result (c.from_vec.ensures ∙ parts)
-    c.of_every.result c.of_every.ensures.leaves held after all
+    let is : c.args.plans.items ≡ c.in-Some.planned ∷ [] = alone c.args.plans.items c.pop.new.self.items c.in-Some.planned c.in-Some.ensures.items (omega (arith, c.in-Some.ensures.cases)) in
+    of_alone (λ (planned : Planned). AllOpen held after (leaves_of planned.iter)) c.args.plans.items c.in-Some.planned is all
 
 pub returns-clause-known : goal.returns-clause-known
 returns-clause-known c = λ known all.
-    let parts : c.in_ok-parts.parts.items ≡ map (λ (planned : Planned). planned.iter) c.sort_by_key.new.self.items = search rules in
-    every_known c.args.plans.items c.sort_by_key.new.self.items c.in_ok-sort_by_key.ensures.permutation c.from_vec.result (c.from_vec.ensures ∙ parts)
-    c.of_every.result c.of_every.ensures.leaves known all
+    let is : c.args.plans.items ≡ c.in-Some.planned ∷ [] = alone c.args.plans.items c.pop.new.self.items c.in-Some.planned c.in-Some.ensures.items (omega (arith, c.in-Some.ensures.cases)) in
+    each_alone (λ (planned : Planned). AllKnown known (leaves_of planned.iter)) c.args.plans.items c.in-Some.planned is all

@@ -7,8 +7,8 @@ use Rattle.query_plan.proofs.tags.add_tags_with.Given as goal
 
 abbrev pub invariant-tags : goal.invariant-tags
 invariant-tags g l =
-    l.found.items ++ map (λ tag. names.Tag l.field tag) (words_after l.text (option_copied l.after) ((g.T.Lists.named l.lists).tags l.field))
-    ≡ l.initial.found.items ++ map (λ tag. names.Tag l.field tag) (words_with l.text ((g.T.Lists.named l.lists).tags l.field))
+    l.found.items ++ map (λ tag. names.Tag l.field tag) (words_after l.text (option_copied l.after) ((g.T.Lists.named l.fn.sources.lists.now).tags l.field))
+    ≡ l.initial.found.items ++ map (λ tag. names.Tag l.field tag) (words_with l.text ((g.T.Lists.named l.fn.sources.lists.now).tags l.field))
 
 abbrev pub decreases-tags : goal.decreases-tags
-decreases-tags g l = length (words_after l.text (option_copied l.after) ((g.T.Lists.named l.lists).tags l.field))
+decreases-tags g l = length (words_after l.text (option_copied l.after) ((g.T.Lists.named l.fn.sources.lists.now).tags l.field))

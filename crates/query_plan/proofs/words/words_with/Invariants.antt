@@ -7,8 +7,8 @@ use Rattle.query_plan.proofs.words.words_with.Given as goal
 
 abbrev pub invariant-words : goal.invariant-words
 invariant-words g l =
-    l.found.items ++ map (λ word. names.Word word) (words_after l.text (option_copied l.after) (g.T.Lists.named l.lists).words)
-    ≡ map (λ word. names.Word word) (words_with l.text (g.T.Lists.named l.lists).words)
+    l.found.items ++ map (λ word. names.Word word) (words_after l.text (option_copied l.after) (g.T.Lists.named l.fn.sources.lists.now).words)
+    ≡ map (λ word. names.Word word) (words_with l.text (g.T.Lists.named l.fn.sources.lists.now).words)
 
 abbrev pub decreases-words : goal.decreases-words
-decreases-words g l = length (words_after l.text (option_copied l.after) (g.T.Lists.named l.lists).words)
+decreases-words g l = length (words_after l.text (option_copied l.after) (g.T.Lists.named l.fn.sources.lists.now).words)

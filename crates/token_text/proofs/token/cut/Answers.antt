@@ -1,63 +1,60 @@
-use Rattle.std.proofs.Common.{◌≡◌, ◌≤◌, ◌<◌, ◌+◌, ◌∷◌, ◌++◌, [], List, ℕ, Option, Some, None, length, length-append, ap, subst, ◌∙◌, arith}
+use Rattle.std.proofs.Common.{◌≡◌, ◌+◌, ◌++◌, [], List, length, drop, append-nil, ap, sym, ◌∙◌, arith}
+use Rattle.std.proofs.lemmas.List.{drop_all, length-map}
 use Rattle.std.specs.Char.{to_ascii_lowercase}
 use Rattle.token_text.specs.declared.token.Token.{Token}
-use Rattle.token_text.specs.Slices.{EndsRise, open_in, tokens_in}
-use Rattle.token_text.specs.Tokens.{before, numbered, tokens, units}
-use Rattle.token_text.proofs.SlicesLaws.{length-tokens, open-grown, rise-grown, tokens-behind}
-use Rattle.token_text.proofs.TokensLaws.{coming, coming-start, coming-end, coming-some, coming-closed}
+use Rattle.token_text.specs.Slices.{tokens_in}
+use Rattle.token_text.proofs.SlicesLaws.{length-tokens, tokens-front, within-more}
+use Rattle.token_text.proofs.TokensLaws.{coming, coming-start, coming-end, coming-found}
 use Rattle.token_text.proofs.token.cut.Goals as goal
 
 pub cutting-init : goal.cutting-init
-cutting-init c = grind (arith, coming-start)
-
--- a byte of a word goes behind the open run
-grown : (stops : List (List ℕ)) (all : List Token) (bytes ends new : List ℕ) (b low : ℕ) (us : List (Option ℕ)) → EndsRise (length bytes) 0 ends
-    → low ≡ to_ascii_lowercase b → new ≡ bytes ++ low ∷ []
-    → all ≡ tokens_in bytes ends ++ coming stops (length ends + 1) (open_in bytes ends) (Some b ∷ us)
-    → all ≡ tokens_in new ends ++ coming stops (length ends + 1) (open_in new ends) us
-grown stops all bytes ends new b low us rise lower pushed found =
-    let words : tokens_in (bytes ++ low ∷ []) ends ≡ tokens_in bytes ends = tokens-behind bytes (low ∷ []) 1 0 ends rise in
-    rw (pushed, words, open-grown bytes ends low rise, lower)
-    (found ∙ ap (λ (more : List Token). tokens_in bytes ends ++ more) (coming-some stops (length ends + 1) (open_in bytes ends) b us))
-
--- what parts words ends the open run
-ended : (stops : List (List ℕ)) (all : List Token) (bytes ends new_bytes new_ends : List ℕ) (us : List (Option ℕ))
-    → tokens_in new_bytes new_ends ≡ tokens_in bytes ends ++ numbered stops (length ends + 1) (before (open_in bytes ends) [])
-    → open_in new_bytes new_ends ≡ []
-    → all ≡ tokens_in bytes ends ++ coming stops (length ends + 1) (open_in bytes ends) (None ∷ us)
-    → all ≡ tokens_in new_bytes new_ends ++ coming stops (length new_ends + 1) (open_in new_bytes new_ends) us
-ended stops all bytes ends new_bytes new_ends us added closed found =
-    let old : length (tokens_in bytes ends) ≡ length ends = length-tokens bytes 1 0 ends in
-    let new : length (tokens_in new_bytes new_ends) ≡ length new_ends = length-tokens new_bytes 1 0 new_ends in
-    rw closed (found ∙ coming-closed stops (open_in bytes ends) us (tokens_in bytes ends) (tokens_in new_bytes new_ends) (length ends + 1) (length new_ends + 1) (omega arith) (omega arith) added)
-
-pub cutting-preserved-in_ok-push-in-Some-unit : goal.cutting-preserved-in_ok-push-in-Some-unit
-cutting-preserved-in_ok-push-in-Some-unit c =
-    let next : units c.cutting.rest.now ≡ Some c.in-Some-unit.byte ∷ units c.in-Some.after.now =
-    c.in-Some.ensures.unit ∙ ap (λ (unit : Option ℕ). unit ∷ units c.in-Some.after.now) c.in-Some-unit.is in
-    let found = subst (λ (us : List (Option ℕ)). tokens c.args.text.now c.args.stops.now.words
-    ≡ tokens_in c.cutting.bytes.items c.cutting.ends.items ++ coming c.args.stops.now.words (length c.cutting.ends.items + 1) (open_in c.cutting.bytes.items c.cutting.ends.items) us) next c.cutting.invariant.found in
+cutting-init c =
+    let none : length c.args.parts.now.items ≡ 0 = ap length c.requires.none in
+    let long : length c.args.bytes.now ≡ length c.args.text.now = ap length c.requires.lowered ∙ length-map c.args.text.now to_ascii_lowercase in
     record {
-      found = grown c.args.stops.now.words _ c.cutting.bytes.items c.cutting.ends.items c.push.new.self.items c.in-Some-unit.byte _ (units c.in-Some.after.now) c.cutting.invariant.rise
-          c.to_ascii_lowercase.ensures.value c.in_ok-push-in-Some-unit.ensures.items found;
-      rise = rw c.in_ok-push-in-Some-unit.ensures.items (rise-grown c.cutting.bytes.items c.cutting.ends.items _ c.cutting.invariant.rise);
-      fits = grind (arith, length-append);
+      found = rw c.requires.none (coming-start c.args.stops.now.words c.args.text.now);
+      within = rw c.requires.none tt;
+      inside = rw c.requires.none tt;
+      unread = c.requires.lowered;
+      long = long;
+      fewer = omega arith;
+      few = omega arith;
     }
 
 pub cutting-preserved : goal.cutting-preserved
 cutting-preserved c =
-    let next : units c.cutting.rest.now ≡ None ∷ units c.in-Some.after.now =
-    c.in-Some.ensures.unit ∙ ap (λ (unit : Option ℕ). unit ∷ units c.in-Some.after.now) c.in-None.is in
-    let found = subst (λ (us : List (Option ℕ)). tokens c.args.text.now c.args.stops.now.words
-    ≡ tokens_in c.cutting.bytes.items c.cutting.ends.items ++ coming c.args.stops.now.words (length c.cutting.ends.items + 1) (open_in c.cutting.bytes.items c.cutting.ends.items) us) next c.cutting.invariant.found in
-    let shorter : length c.in-Some.after.now < length c.cutting.rest.now = c.in-Some.ensures.shorter in
-    let fewer : length c.finish.new.bytes.items ≤ length c.cutting.bytes.items = c.in_ok-finish-in-None.ensures.fewer in
+    let text = c.args.text.now in
+    let stops = c.args.stops.now.words in
+    let old = c.cutting.bytes in
+    let bytes = c.next_run-to.new.bytes in
+    let parts = c.cutting.parts.items in
+    let new = c.add_run.new.parts.items in
+    let from = c.cutting.from in
+    let to = c.next_run-to.result.to in
+    let end = c.next_run-to.result.end in
+    let inv = c.cutting.invariant in
+    let run = c.next_run-to.ensures in
+    let added = c.in_ok-add_run.ensures in
+    let front : tokens_in bytes parts ≡ tokens_in old parts = tokens-front old bytes 1 from parts run.kept inv.within in
+    let before : length (tokens_in bytes parts) ≡ length parts = length-tokens bytes 1 parts in
+    let after : length (tokens_in bytes new) ≡ length new = length-tokens bytes 1 new in
+    let so_far = inv.found ∙ ap (λ (found : List Token). found ++ coming stops (length parts + 1) (drop from text)) (sym front) in
     record {
-      found = ended c.args.stops.now.words _ c.cutting.bytes.items c.cutting.ends.items c.finish.new.bytes.items c.finish.new.ends.items (units c.in-Some.after.now)
-          c.in_ok-finish-in-None.ensures.added c.in_ok-finish-in-None.ensures.closed found;
-      rise = c.in_ok-finish-in-None.ensures.rise;
-      fits = omega arith;
+      found = coming-found stops _ (tokens_in bytes parts) (tokens_in bytes new) (length parts + 1) (length new + 1) (drop from text) _ (drop (end + 1) text)
+          so_far (sym run.word) run.others added.added (omega arith) (omega arith);
+      within = added.within (end + 1) (omega (arith, run.order)) (within-more from (end + 1) parts (omega (arith, run.some, run.order)) inv.within);
+      inside = added.within (length text) (omega (arith, run.order, run.within)) inv.inside;
+      unread = run.unread;
+      long = run.long ∙ inv.long;
+      fewer = omega (arith, added.one, run.some, run.order, inv.fewer);
+      few = omega (arith, added.one, inv.fewer);
     }
 
 pub returns-clause-tokens : goal.returns-clause-tokens
-returns-clause-tokens c = grind (arith, coming-end)
+returns-clause-tokens c =
+    let text = c.args.text.now in
+    let stops = c.args.stops.now.words in
+    let parts = c.cutting.parts.items in
+    let none : drop c.cutting.from text ≡ [] = drop_all c.cutting.from text (omega arith) in
+    let left : coming stops (length parts + 1) (drop c.cutting.from text) ≡ [] = ap (coming stops (length parts + 1)) none ∙ coming-end stops (length parts + 1) in
+    sym (c.cutting.invariant.found ∙ ap (λ (rest : List Token). tokens_in c.cutting.bytes parts ++ rest) left ∙ append-nil (tokens_in c.cutting.bytes parts))

@@ -1,0 +1,9 @@
+use Rattle.std.proofs.Common.{◌≡◌, ◌-◌, ◌≤◌, ◌&&◌, length, take, map, int_le}
+use Rattle.lane_kernels.proofs.ranging.last_in_range.Given as goal
+
+abbrev pub invariant-values : goal.invariant-values
+invariant-values l =
+    (take l.i l.out ≡ map (λ value. int_le l.low value && int_le value l.high) (take l.i l.values)) × (length l.out ≡ length l.values) × (l.i ≤ length l.values)
+
+abbrev pub decreases-values : goal.decreases-values
+decreases-values l = length l.values - l.i
