@@ -10,6 +10,7 @@ mod arguments;
 mod documents;
 mod expressions;
 mod holders;
+mod lanes;
 mod lexemes;
 mod lists;
 mod loads;
@@ -115,6 +116,7 @@ fn put(alloc: Global, call: &str, words: &[Vec<u8>], out: &mut Answer) -> bool {
         || documents::put(alloc, call, words, out)
         || expressions::put(alloc, call, words, out)
         || lists::put(alloc, call, words, out)
+        || lanes::put(alloc, call, words, out)
         || loads::put(alloc, call, words, out)
         || wire::put(alloc, call, words, out)
 }
