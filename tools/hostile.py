@@ -267,7 +267,10 @@ def main():
     if word in "400,000 reads written before a reply is read":
         watch.row("400,000 reads written before a reply is read", lambda: (pipelined(port), ""), 60)
     if any(word in name for name, _, _ in MANY_ROWS):
+        # The server is emptied once more, what the other client wrote too.
+        beside.end()
         fill_with_many(client)
+        beside = watch.beside = Beside(port)
     for name, words, wanted in MANY_ROWS:
         if word in name:
             watch.row(name, lambda: answered(client, words, wanted))
