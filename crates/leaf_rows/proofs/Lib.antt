@@ -1,2 +1,3 @@
 mod RangeLaws
+mod RoundLaws
 mod SplicingLaws

@@ -1,14 +1,16 @@
 //! Calls of what lists are made of: blocks, posting lists, tables of documents, dictionaries, ranges and plans.
 
 mod blocks;
-mod dead;
+pub mod dead;
 mod names;
 mod numbers;
-mod plans;
+pub mod parts;
+pub mod plans;
 mod postings;
 mod ranges;
+mod repairs;
 mod scans;
-mod splices;
+pub mod splices;
 mod tables;
 mod tags;
 
@@ -26,4 +28,5 @@ pub fn put(alloc: Global, call: &str, words: &[Vec<u8>], out: &mut Answer) -> bo
         || splices::put(alloc, call, words, out)
         || plans::put(alloc, call, words, out)
         || scans::put(alloc, call, words, out)
+        || parts::put(alloc, call, words, out)
 }

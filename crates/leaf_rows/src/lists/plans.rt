@@ -73,8 +73,8 @@ fn plan_over(alloc: Global, index: &FtIndex, text: &[u8]) -> Result<Option<Iter>
     }
 }
 
-// An index of every key, with the TEXT field `t`, the TAG field `g` and the NUMERIC field `n`.
-fn begin(
+/// An index of every key, with the TEXT field `t`, the TAG field `g` and the NUMERIC field `n`.
+pub fn begin(
     alloc: Global,
     markers: &mut Markers,
     out: &mut Answer,
@@ -104,14 +104,20 @@ fn values_fit(hash: &HashView<'_>) -> bool
     ensures { IsTrue result → ValuesFit hash.now }
 {
     'values: for i in 0..hash.len() {
-        if 100 < hash.at(i).1.len() {
+        if 100_000 < hash.at(i).1.len() {
             return false;
         }
     }
     true
 }
 
-fn write(index: &mut FtIndex, markers: &mut Markers, doc: &Doc) -> Result<(), NoMemory>
+/// Prepares a document, and commits it where it is to be kept.
+pub fn write(
+    index: &mut FtIndex,
+    markers: &mut Markers,
+    doc: &Doc,
+    kept: bool,
+) -> Result<(), NoMemory>
     requires id { index.old.table.last < doc.now.id }
     requires before { AreBefore markers.old index.old.lists }
     ensures last { index.new.table.last ≤ doc.now.id }
@@ -121,7 +127,9 @@ fn write(index: &mut FtIndex, markers: &mut Markers, doc: &Doc) -> Result<(), No
         return Ok(());
     }
     let ready = index.prepare(doc, markers)?;
-    index.commit(ready);
+    if kept {
+        index.commit(ready);
+    }
     Ok(())
 }
 
@@ -161,7 +169,7 @@ fn write_some(
     'writing: for _ in 0..count {
         if id < 1_000 {
             id += 1;
-            write(index, markers, &doc(alloc, id, text)?)?;
+            write(index, markers, &doc(alloc, id, text)?, true)?;
         }
     }
     Ok(id)

@@ -3,6 +3,9 @@
 //! Each picture is given in its place: the list's name, the number of its sealed blocks, that of the entries behind them, and
 //! whether an entry is dead. A tag has its field before it, and a range too, whose low stands for its name. At the end stand the
 //! numbers of those of the ids up to 9 that are live.
+ghost use Rattle.std.specs.Prelude.{◌≡◌, ℕ, true};
+ghost use Rattle.ft_index.specs.Index.{is_live};
+
 use super::dead::ids_of;
 use super::numbers::{put_found, put_name, put_number};
 use super::plans::filled;
@@ -34,8 +37,13 @@ fn put_scan(alloc: Global, words: &[Vec<u8>], out: &mut Answer) -> Result<(), No
     put_snapshot(alloc, &index.scan(9)?, out)
 }
 
-fn kill(alloc: Global, index: &mut FtIndex, spans: &[u8]) -> Result<(), NoMemory> {
-    for id in ids_of(alloc, spans)?.as_slice() {
+/// Takes the documents of ids out.
+pub fn kill(alloc: Global, index: &mut FtIndex, spans: &[u8]) -> Result<(), NoMemory>
+    ensures lists { index.new.lists ≡ index.old.lists }
+    ensures last { index.new.table.last ≡ index.old.table.last }
+    ensures live { (id : ℕ) → is_live index.new id ≡ true → is_live index.old id ≡ true }
+{
+    'ids: for id in ids_of(alloc, spans)?.as_slice() {
         index.kill(*id);
     }
     Ok(())
@@ -55,7 +63,8 @@ fn put_snapshot(alloc: Global, snapshot: &Snapshot, out: &mut Answer) -> Result<
     Ok(())
 }
 
-fn put_list_name(name: &ListName, out: &mut Answer) {
+/// Writes a name behind a blank, that of a tag or a range with its field before it.
+pub fn put_list_name(name: &ListName, out: &mut Answer) {
     match name {
         ListName::Word { text } => put_name(Some(text.as_slice()), out),
         ListName::Tag { field, text } => {

@@ -20,7 +20,7 @@ use std::marker::Brand;
 use std::sync::ledger::{Blank, Ledger};
 
 /// The marker of a list before it is spliced.
-const PICTURED: Marker = Marker { event: 1, nth: 0 };
+pub const PICTURED: Marker = Marker { event: 1, nth: 0 };
 
 /// Writes the answer of a call, and tells whether it is of this file.
 pub fn put(alloc: Global, call: &str, words: &[Vec<u8>], out: &mut Answer) -> bool {
@@ -35,8 +35,8 @@ pub fn put(alloc: Global, call: &str, words: &[Vec<u8>], out: &mut Answer) -> bo
     true
 }
 
-// Adds the ids that rise behind the last one, each with its negative, and answers the last.
-fn append_all(list: &mut List<NumHit>, last: u64, ids: &[u64]) -> Result<u64, NoMemory>
+/// Adds the ids that rise behind the last one, each with its negative, and answers the last.
+pub fn append_all(list: &mut List<NumHit>, last: u64, ids: &[u64]) -> Result<u64, NoMemory>
     requires { last_id 0 list.old.entries ≡ last }
     ensures last { IfOk result (λ end. last_id 0 list.new.entries ≡ end) }
     ensures grows { OnOk result (Grows list.old list.new) }
@@ -54,7 +54,8 @@ fn append_all(list: &mut List<NumHit>, last: u64, ids: &[u64]) -> Result<u64, No
 
 // `splice FIRST DEAD LATER LAST FROM`: what the splice of a repair did. The list had the ids FIRST when it was pictured, of which
 // DEAD are dead, and got LATER before the splice. Then its marker and its blocks, each as its first and last id and their number,
-// the tail behind `+`, and what a place of before the splice behind the id LAST finds from FROM on.
+// the tail behind `+`, and what is found from FROM on behind the id LAST: by a place of before the splice, by one that is opened close
+// to that, and in which block.
 fn put_splice(alloc: Global, words: &[Vec<u8>], out: &mut Answer) -> Result<(), NoMemory> {
     let mut list = List::new(alloc, PICTURED);
     let first = ids_of(alloc, word(words, 0))?;
@@ -157,8 +158,16 @@ fn put_sought<L: Ledger>(
     requires ahead { place.last < from }
 {
     let mut steps = Steps::<L>::new(blank);
-    let mut place = place;
-    put_found(list.seek(&mut place, from, &mut steps), out);
+    let mut near = list.open_near(place, place.last, &mut steps);
+    let mut old = place;
+    put_found(list.seek(&mut old, from, &mut steps), out);
+    put_found(list.seek(&mut near, from, &mut steps), out);
+    let mut old = place;
+    out.put(b" in");
+    match list.next_block(&mut old, from, &mut steps) {
+        Some(block) => put_block(block, out),
+        None => put_found(None, out),
+    }
 }
 
 // `splice_late FIRST DEAD`: what a splice does whose list was collected since it was pictured.
