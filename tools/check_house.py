@@ -118,7 +118,7 @@ def check_crate(crate, architecture, faults):
 
 # The definitions that the clauses of the program's `run` and `serve` cite.
 CITED = {
-    "ft_server": ("Ends", "FaultText", "Forms", "Limits", "Session", "Status"),
+    "ft_server": ("Ends", "FaultText", "Forms", "Limits", "Load", "Session", "Status"),
     "worker_pool": ("Jobs", "Visits", "Works"),
 }
 USED = re.compile(r"^use Rattle\.(\w+)\.specs\.(\w+)", re.M)

@@ -82,6 +82,8 @@ MANY_ROWS = [
     ("words that all differ, all wanted", searched(numbered(b"u#", b" ")), (b"*1\r\n:0\r\n", REFUSED)),
     ("words of a field that all differ", searched(numbered(b"@t:u#", b"|")), (b"*2\r\n", REFUSED)),
     ("words that are not wanted", searched(numbered(b"-u#", b" ")), (b"*", REFUSED)),
+    ("words of which one must be missing", searched(numbered(b"-u#", b"|")), (b"*", REFUSED)),
+    ("optional words", searched(numbered(b"-u#", b" ").replace(b"-", b"~")), (b"*", REFUSED)),
     ("pairs of words, both wanted", searched(numbered(b"(u# u~)", b"|")), (b"*1\r\n:0\r\n", REFUSED)),
     ("pairs of words, one wanted", searched(numbered(b"(u#|u~)", b" ")), (b"*1\r\n:0\r\n", REFUSED)),
     ("phrases that all differ", searched(numbered(b'"u# common"', b"|")), (b"*2\r\n", REFUSED)),

@@ -1,6 +1,6 @@
 """Rows of sessions: a command's words, a bar, and the lines of its reply, as crates/rows/stdin has them.
 
-A line `@ N` there has the moment of the rows behind it, in milliseconds; one that begins with `~` is of no session.
+A line `@ N` there has the moment of the rows behind it, in milliseconds; one that begins with `~`, `?` or `$` is of no session.
 """
 import re
 
@@ -73,7 +73,7 @@ def read_sessions(lines) -> dict:
             rows, moment = found.setdefault(line[3:].strip().decode(), []), 0
         elif line.startswith(b"@ "):
             moment = int(line[2:])
-        elif line.strip() and not line.lstrip().startswith((b"#", b"~")):
+        elif line.strip() and not line.lstrip().startswith((b"#", b"~", b"? ", b"$ ")):
             rows += [(words, reply, moment) for words, reply in read_rows(line)]
     return found
 

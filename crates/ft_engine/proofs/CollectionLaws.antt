@@ -15,6 +15,7 @@ use Rattle.ft_machine.specs.Indexes.{collected, done, unknown_index}
 use Rattle.ft_machine.specs.Machine.{State, answered}
 use Rattle.ft_machine.specs.Step.{Does}
 use Rattle.indexed_store.specs.Collecting.{IsCleanAt}
+use Rattle.indexed_store.specs.Listed.{OthersKeep}
 use Rattle.indexed_store.specs.Holding.{Holding, state_of}
 use Rattle.indexed_store.specs.Preparing.{Prepares, Stays}
 use Rattle.indexed_store.specs.declared.change.Change.{Change}
@@ -24,7 +25,7 @@ use Rattle.ft_engine.specs.Exactness.{IsRefusal}
 use Rattle.ft_engine.specs.Quiet.{IsQuietFor}
 
 -- a refusal does not say that a collection is done
-refusal-other : (written : List ℕ) → IsRefusal written → written ≢ spelling done
+pub refusal-other : (written : List ℕ) → IsRefusal written → written ≢ spelling done
 refusal-other written (text, is) said =
     let minus : slice_index_or written 0 0 ≡ 45 = ap (λ (bytes : List ℕ). slice_index_or bytes 0 0) (is ∙ spelling-Fault text) in
     let plus : slice_index_or written 0 0 ≡ 43 = ap (λ (bytes : List ℕ). slice_index_or bytes 0 0) (said ∙ spelling-Line (codes "DONE")) in
@@ -79,8 +80,14 @@ collect-done args number state written there said =
     by_index None there = cc (there)
     by_index (Some index) there = refl
 
-pub prepares-collected : (args : List (List ℕ)) (old new : Holding) (written : List ℕ) → Stays old new → Does (Plain Debug args) old.next (state_of old) written (state_of old) → Prepares (Plain Debug args) old new written Nothing
-prepares-collected args old new written stays does = record { does = does; stays = stays; ready = tt; still = λ nothing. inr (inr tt) }
+pub prepares-collected : (args : List (List ℕ)) (old new : Holding) (written name : List ℕ) → name ≡ second args → IsCleanAt name new.indexes → OthersKeep name old.indexes new.indexes → Stays old new
+    → Does (Plain Debug args) old.next (state_of old) written (state_of old) → Prepares (Plain Debug args) old new written Nothing
+prepares-collected args old new written name is clean others stays does = record {
+  does = does;
+  stays = stays;
+  ready = tt;
+  enters = inr (inr (subst (λ (w : List ℕ). IsCleanAt w new.indexes × OthersKeep w old.indexes new.indexes) is (clean, others)));
+}
 
 -- the text that says so
 pub done_written : (written : List ℕ) → written ≡ 43 ∷ 68 ∷ 79 ∷ 78 ∷ 69 ∷ 13 ∷ 10 ∷ [] → written ≡ spelling done

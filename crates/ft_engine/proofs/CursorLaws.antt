@@ -20,6 +20,7 @@ use Rattle.ft_machine.specs.Parts.{Part, part_of}
 use Rattle.ft_machine.specs.Step.{Does}
 use Rattle.ft_engine.specs.Parts.{IsNext, change_left}
 use Rattle.indexed_store.specs.Changing.{IsReady, changed, is_write}
+use Rattle.indexed_store.specs.Listed.{Enters}
 use Rattle.indexed_store.specs.Holding.{Holding, IsBook, seen, state_of, waiting}
 use Rattle.indexed_store.specs.Preparing.{Prepares, Stays}
 use Rattle.indexed_store.specs.declared.change.Change.{Change}
@@ -87,6 +88,23 @@ quiet-waits (Drop name) waits opens state quiet = refl
 quiet-waits (DropMembers name) waits opens state quiet = refl
 quiet-waits Flush waits opens state quiet = refl
 
+-- where no document and no definition changes, nothing is entered
+quiet-enters : (change : Change) (waits : Option Doc) (olds news : List Index) → is_write change ≡ false → news ≡ olds → Enters change waits olds news
+quiet-enters Nothing waits olds news quiet same = same
+quiet-enters OpenCursor waits olds news quiet same = same
+quiet-enters (ReadCursor place taken) waits olds news quiet same = same
+quiet-enters (CloseCursor place) waits olds news quiet same = same
+quiet-enters CloseCursors waits olds news quiet same = same
+quiet-enters (Write put) waits olds news quiet same = cc (quiet)
+quiet-enters (Move put from) waits olds news quiet same = cc (quiet)
+quiet-enters (EraseKey key) waits olds news quiet same = same
+quiet-enters (EraseKeys keys) waits olds news quiet same = same
+quiet-enters (Create index) waits olds news quiet same = same
+quiet-enters (Alter index) waits olds news quiet same = same
+quiet-enters (Drop name) waits olds news quiet same = same
+quiet-enters (DropMembers name) waits olds news quiet same = same
+quiet-enters Flush waits olds news quiet same = same
+
 -- a command that changes cursors at most is prepared
 pub prepares-quiet : (asks : Asked) (old new : Holding) (written : List ℕ) (change : Change) → is_write change ≡ false → Stays old new → new.indexes ≡ old.indexes
     → Does asks old.next (state_of old) written (changed change new.waits new.opens (state_of old)) → Prepares asks old new written change
@@ -94,7 +112,7 @@ prepares-quiet asks old new written change quiet stays same does = record {
   does = does;
   stays = stays;
   ready = quiet-ready change old.next new.space new.waits new.indexes quiet;
-  still = λ nothing. inr (inl same);
+  enters = inr (inl (quiet-enters change new.waits old.indexes new.indexes quiet same));
 }
 
 -- ---- FT.CURSOR READ

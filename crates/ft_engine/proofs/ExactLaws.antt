@@ -1,6 +1,6 @@
 -- What is read for a search and for an aggregate, and what is told of an index, exactly.
 use Rattle.std.specs.Prelude.{◌≡◌, ◌≤◌, ℕ, List, Option, None, Some, Result, Ok, Err, IfOk, find, refl}
-use Rattle.std.proofs.Common.{ap, ◌∙◌, inl, inr}
+use Rattle.std.proofs.Common.{ap, ◌∙◌, inl, inr, subst}
 use Rattle.cmd_parse.specs.Aggregating.{Aggregating}
 use Rattle.cmd_parse.specs.Searching.{Searching}
 use Rattle.cmd_parse.specs.Asked.{Asked, Plain, Search, Aggregate}
@@ -21,7 +21,7 @@ use Rattle.ft_engine.specs.Told.{TellsIndex}
 use Rattle.ft_machine.specs.Info.{info_reply}
 use Rattle.ft_machine.specs.declared.counts.Counts.{Counts}
 use Rattle.ft_index.specs.Lists.{AllLists}
-use Rattle.ft_index.specs.Records.{all_entries}
+use Rattle.ft_index.specs.Records.{CountsJust, all_entries}
 use Rattle.indexed_store.specs.Named.{is_named}
 use Rattle.ft_meaning.specs.Holds.{found_of}
 use Rattle.hash_store.specs.Store.{Store}
@@ -69,13 +69,14 @@ tells-refused (Plain Info args) indexes written refused = of_index (find (is_nam
 tells-refused _ indexes written refused = tt
 
 -- what is told by the counts of an index
-pub entries-of : {E : Type 0} (index : Index) (def : IndexDef) (lists : AllLists) (made : Result Reply E) (counts : Counts) → def ≡ index.def → lists ≡ index.lists → counts.records ≡ all_entries lists
+pub entries-of : {E : Type 0} (index : Index) (def : IndexDef) (lists : AllLists) (made : Result Reply E) (counts : Counts) → def ≡ index.def → lists ≡ index.lists → counts.records ≡ all_entries lists → CountsJust lists (Some counts.records)
     → IfOk made (λ reply. reply ≡ info_reply def counts) → IfOk made (λ reply. TellsEntries index reply)
-entries-of index def lists (Err e) counts its of_lists count made = tt
-entries-of index def lists (Ok reply) counts its of_lists count made = record {
+entries-of index def lists (Err e) counts its of_lists count just made = tt
+entries-of index def lists (Ok reply) counts its of_lists count just made = record {
   counts = counts;
   same = made ∙ ap (λ (d : IndexDef). info_reply d counts) its;
   records = count ∙ ap all_entries of_lists;
+  just = subst (λ (ls : AllLists). CountsJust ls (Some counts.records)) of_lists just;
 }
 
 -- it was answered, or out of memory

@@ -71,7 +71,7 @@ prepares-stays asks old new written stays same does = record {
   does = does;
   stays = stays;
   ready = tt;
-  still = λ nothing. inr (inl same);
+  enters = inr (inl same);
 }
 
 -- where memory ran out for an index, no change is prepared
@@ -209,7 +209,7 @@ alter-prepares name fields old new index made read def count written found some 
         subst (All (AreApart made)) (sym same) done.apart,
         done.given,
       );
-      still = λ nothing. cc (nothing);
+      enters = inr (inl same);
     }
 
 -- FT.DROPINDEX

@@ -1,6 +1,7 @@
 pub mod AggregateLaws
 pub mod AnsweringLaws
 mod BehindLaws
+pub mod CleaningLaws
 pub mod CollectionLaws
 pub mod CursorLaws
 pub mod EngineLaws
@@ -9,6 +10,7 @@ pub mod ExactLaws
 pub mod FilterLaws
 pub mod IndexCommandLaws
 pub mod InfoLaws
+pub mod MarkLaws
 pub mod MovesLaws
 pub mod OpeningLaws
 mod PlainLaws

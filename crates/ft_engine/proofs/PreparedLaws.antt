@@ -1,8 +1,9 @@
 -- Commands that are prepared, and those for which memory ran out.
-use Rattle.std.proofs.Common.{◌≡◌, ◌-◌, Bor, ℕ, List, length, drop, refl, sym, ap, ◌∙◌, subst, inl, inr}
-use Rattle.std.specs.Prelude.{◌+ℤ◌, ℤ, pos, codes, Bool, true, false, Option, Some, is_some}
+use Rattle.std.proofs.Common.{◌≡◌, ◌-◌, ◌<◌, Bor, ℕ, List, [], ◌∷◌, length, drop, refl, sym, ap, ◌∙◌, arith, subst, inl, inr}
+use Rattle.std.specs.Prelude.{◌⊎◌, ◌+ℤ◌, ℤ, pos, codes, Bool, true, false, nat_lt, Option, Some, is_some}
 use Rattle.std.specs.Fmt.{signed_decimal}
 use Rattle.std.specs.Str.{bytes_eq}
+use Rattle.std.proofs.lemmas.Bool.Decides.{nat_tests}
 use Rattle.std.proofs.lemmas.Slice.Eq.{bytes_eq-Decides}
 use Rattle.cmd_parse.specs.Read.{Asked, Plain}
 use Rattle.cmd_parse.specs.declared.command.Verb.TheVariants.{Hset, Hsetnx, Hdel, Hincrby, Rename}
@@ -19,14 +20,17 @@ use Rattle.ft_machine.specs.Definitions.{all_tried}
 use Rattle.ft_machine.specs.Machine.{Outcome, State, hash_of}
 use Rattle.ft_machine.specs.Reads.{hash_in}
 use Rattle.ft_machine.specs.Step.{Does, MayWant, given, outcomes}
-use Rattle.ft_machine.specs.Writes.{fields_gone, hdel, hincrby, hset_unless, number_in, put, set_pairs, without_fields}
+use Rattle.ft_machine.specs.Writes.{fields_gone, hash_left, hdel, hincrby, hset_unless, number_in, put, set_pairs, without_fields}
 use Rattle.ft_machine.proofs.Stepping.{gives, wants, widened}
 use Rattle.indexed_store.specs.Changing.{IsOther, changed}
 use Rattle.indexed_store.specs.Holding.{Holding, state_of}
+use Rattle.indexed_store.specs.Listed.{Enters, Gathers}
+use Rattle.ft_index.specs.Index.{Index}
 use Rattle.indexed_store.specs.Preparing.{OnlyReads, Prepares, Stays, WaitsFor}
+use Rattle.indexed_store.proofs.ListedLaws.{enters-waiting}
 use Rattle.indexed_store.proofs.PreparingLaws.{prepares-read}
 use Rattle.ft_engine.specs.Hashes.{TakesOut, hash_held}
-use Rattle.ft_engine.proofs.BehindLaws.{reads-nothing, stays-behind, waits-behind}
+use Rattle.ft_engine.proofs.BehindLaws.{reads-nothing, stays-behind, waits-after, waits-behind}
 use Rattle.ft_engine.proofs.PlainLaws.{moved, renamed, same-words, stays-plain}
 use Rattle.indexed_store.specs.Writing.{written}
 use Rattle.indexed_store.specs.declared.change.Change.{Change}
@@ -38,7 +42,7 @@ prepares-wanting asks old new said may stays is = record {
   does = wants asks old.next (state_of old) said may is;
   stays = stays;
   ready = tt;
-  still = λ nothing. inl is;
+  enters = inl is;
 }
 
 -- a command that leaves everything as it was
@@ -60,7 +64,7 @@ prepares-write asks old new said key hash token reply may waits stays is = recor
       may is (ap (λ (w : Option Doc). after_write w state) waits.ready);
   stays = stays;
   ready = waits.waits;
-  still = λ nothing. cc (nothing);
+  enters = inr (inl (enters-waiting (record { id = old.next; key = key; hash = hash }) new.waits old.indexes new.indexes waits.ready waits.enters));
 }
 
 -- HSET of a key and pairs that are among the arguments
@@ -84,6 +88,14 @@ there-by docs args key field said test k f is tested =
 pub kept-there : (args : List (List ℕ)) (number : ℕ) (state : State) (said : List ℕ) → is_some (get_field (hash_of state (first args)) (second args)) ≡ true → said ≡ spelling (Number (pos 0)) → Does (Plain Hsetnx args) number state said state
 kept-there args number state said there is = stays-plain Hsetnx Hsetnx args number state said (Number (pos 0)) refl (sym (ap (λ (test : Bool). hset_unless test args number state) there)) is
 
+-- what HSET enters HSETNX does
+also-enters : (args : List (List ℕ)) (olds news : List Index) (change : Change) (waits : Option Doc) (said : List ℕ)
+    → (said ≡ spelling out_of_memory) ⊎ (Enters change waits olds news ⊎ Gathers (Plain Hset args) olds news)
+    → (said ≡ spelling out_of_memory) ⊎ (Enters change waits olds news ⊎ Gathers (Plain Hsetnx args) olds news)
+also-enters args olds news change waits said (inl want) = inl want
+also-enters args olds news change waits said (inr (inl enters)) = inr (inl enters)
+also-enters args olds news change waits said (inr (inr gathers)) = absurd gathers
+
 -- HSETNX of another field is HSET
 pub sets-absent : (args : List (List ℕ)) (old new : Holding) (said : List ℕ) (change : Change) → is_some (get_field (hash_in (doc_of old.space (first args))) (second args)) ≡ false
     → Prepares (Plain Hset args) old new said change → Prepares (Plain Hsetnx args) old new said change
@@ -91,13 +103,43 @@ sets-absent args old new said change absent prepares = record {
   does = widened (outcomes (Plain Hset args) old.next (state_of old)) (outcomes (Plain Hsetnx args) old.next (state_of old)) said _ (by_case (state_of old) refl) prepares.does;
   stays = prepares.stays;
   ready = prepares.ready;
-  still = prepares.still;
+  enters = also-enters args old.indexes new.indexes change new.waits said prepares.enters;
 }
   where
     by_case : (state : State) → state.space ≡ old.space → (outcome : Outcome) → outcomes (Plain Hset args) old.next state outcome → outcomes (Plain Hsetnx args) old.next state outcome
     by_case state same outcome (inl may) =
         inl (may ∙ sym (ap (λ (test : Bool). hset_unless test args old.next state) (ap (λ (docs : List Doc). is_some (get_field (hash_in (doc_of docs (first args))) (second args))) same ∙ absent)))
     by_case state same outcome (inr want) = inr want
+
+-- a hash that has fewer fields, and has some, is written
+left-some : (less : Bool) (left : Hash) (key : List ℕ) (number : ℕ) (state : State) → less ≡ true → 0 < length left → put key left number state ≡ hash_left less left key number state
+left-some less [] key number state is some = absurd (omega (arith, some))
+left-some false (field ∷ left) key number state is some = cc (is)
+left-some true (field ∷ left) key number state is some = refl
+
+-- HDEL of some fields, but not of all: what is left of the hash waits
+pub takes-some : (key : List ℕ) (fields : List (List ℕ)) (before gone token : ℕ) (left : Hash) (old mid new : Holding) → before ≡ length (hash_held old key) → left ≡ without_fields (hash_held old key) fields
+    → gone ≡ before - length left → 0 < gone → 0 < length left → OnlyReads old mid → WaitsFor key left token mid new → TakesOut key fields old new (Write token, gone)
+takes-some key fields before gone token left old mid new count is fewer some more reads waits =
+    let held : Hash = hash_held old key in
+    let rest : Hash = without_fields held fields in
+    let made : WaitsFor key rest token old new = waits-after key left rest token old mid new reads is waits in
+    let size : length left ≡ length rest = ap (λ (hash : Hash). length hash) is in
+    let less : length rest < length held = omega (arith, count, fewer, some, size) in
+    record {
+      change = λ state same.
+          ap (λ (w : Option Doc). after_write w state) made.ready
+          ∙ (left-some (nat_lt (length rest) (length held)) rest key old.next state (grind (arith, nat_tests, less)) (omega (arith, size, more))
+          ∙ ap (λ (docs : List Doc). gone_from (hash_in (doc_of docs key)) state) (sym same));
+      gone = omega (arith, count, fewer, size);
+      ready = record {
+        ready = made.waits;
+        enters = enters-waiting (record { id = old.next; key = key; hash = rest }) new.waits old.indexes new.indexes made.ready made.enters;
+      };
+    }
+  where
+    gone_from : Hash → State → State
+    gone_from hash state = hash_left (nat_lt (length (without_fields hash fields)) (length hash)) (without_fields hash fields) key old.next state
 
 -- HDEL of a key and fields that are among the arguments
 pub hdel-prepares : (args : List (List ℕ)) (old new : Holding) (said key : List ℕ) (fields : List (List ℕ)) (change : Change) (gone : ℕ) → key ≡ first args → fields ≡ drop 1 args
@@ -110,7 +152,7 @@ hdel-prepares args old new said key fields change gone k f taken stays is = reco
       (taken.change state refl ∙ (ap (λ (word : List ℕ). fields_gone word fields old.next state) k ∙ ap (λ (words : List (List ℕ)). fields_gone (first args) words old.next state) f)));
   stays = stays;
   ready = taken.ready.ready;
-  still = λ nothing. inr (inl (taken.ready.still nothing));
+  enters = inr (inl taken.ready.enters);
 }
   where
     lost : List ℕ → List (List ℕ) → ℕ
@@ -157,5 +199,5 @@ rename-prepares args old new said from to token test f t there is apart waits st
       (moved new.waits state from.now to (first args) (second args) old.next f t waits.ready));
   stays = stays;
   ready = (waits.waits, is-other new.waits (record { id = old.next; key = to; hash = hash_in (doc_of old.space from.now) }) from.now waits.ready (sym is ∙ apart));
-  still = λ nothing. cc (nothing);
+  enters = inr (inl (enters-waiting (record { id = old.next; key = to; hash = hash_in (doc_of old.space from.now) }) new.waits old.indexes new.indexes waits.ready waits.enters));
 }

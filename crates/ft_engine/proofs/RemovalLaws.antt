@@ -66,7 +66,7 @@ del-prepares args rest old new said count keys same counted some is =
       does = deleted-some args old.next count (state_of old) said old.space refl counted is;
       stays = unseen old;
       ready = omega (arith, counted, some);
-      still = λ nothing. cc (nothing);
+      enters = inr (inl refl);
     }
 
 -- FLUSHALL of something
@@ -75,7 +75,7 @@ flush-prepares args held said is some = record {
   does = flushed args held.next (state_of held) said is;
   stays = unseen held;
   ready = some;
-  still = λ nothing. cc (nothing);
+  enters = inr (inl refl);
 }
 
 -- FLUSHALL where there are cursors at most
@@ -84,5 +84,5 @@ close-prepares args held said is none nothing = record {
   does = closed args held.next (state_of held) said none nothing is;
   stays = unseen held;
   ready = tt;
-  still = λ same. inr (inl refl);
+  enters = inr (inl refl);
 }

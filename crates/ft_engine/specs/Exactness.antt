@@ -19,7 +19,7 @@ use Rattle.ft_machine.specs.Info.{info_reply}
 use Rattle.ft_machine.specs.Searching.{counted_reply}
 use Rattle.ft_machine.specs.declared.counts.Counts.{Counts}
 use Rattle.hash_store.specs.Store.{reads_after}
-use Rattle.ft_index.specs.Records.{all_entries}
+use Rattle.ft_index.specs.Records.{CountsJust, all_entries}
 use Rattle.indexed_store.specs.Named.{is_named}
 use Rattle.doc_reads.specs.Pages.{reads_for}
 
@@ -72,11 +72,12 @@ ReadsFew (Search what) written old new = ReadsRows what written old new
 ReadsFew (Aggregate what) written old new = ReadsAll what.cursor what written old new
 ReadsFew _ written old new = Unit {0}
 
--- What is told of an index has as many records as its lists have entries.
+-- What is told of an index has as many records as its lists have entries: just the live ones, where no entry is dead.
 pub record TellsEntries (index : Index) (reply : Reply) : Type 0 where
   pub counts : Counts
   pub same : reply ≡ info_reply index.def counts
   pub records : counts.records ≡ all_entries index.lists
+  pub just : CountsJust index.lists (Some counts.records)
 
 -- the same of what is written, unless it is a refusal
 abbrev pub TellsOf : Option Index → List ℕ → Type 0

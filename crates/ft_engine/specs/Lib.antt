@@ -1,3 +1,4 @@
+pub mod Cleaning
 pub mod Collecting
 pub mod Commands
 pub mod Exactness

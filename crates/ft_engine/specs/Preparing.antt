@@ -5,7 +5,7 @@ use Rattle.cmd_parse.specs.declared.command.Command.{Command}
 use Rattle.ft_base.specs.Memory.{out_of_memory}
 use Rattle.ft_base.specs.Reply.{spelling}
 use Rattle.indexed_store.specs.Changing.{IsReady, changed, is_change, is_write}
-use Rattle.indexed_store.specs.Collecting.{MayCollect}
+use Rattle.indexed_store.specs.Listed.{Enters, Gathers, KeepsLists}
 use Rattle.indexed_store.specs.Standing.{AreWritten}
 use Rattle.indexed_store.specs.declared.change.Change.{Change}
 use Rattle.indexed_store.specs.declared.change.Change.TheVariants.{Nothing}
@@ -30,14 +30,20 @@ Writes old new = new.space ≡ old.space → new.definitions ≢ old.definitions
 abbrev pub WritesAsSaid : Change → Stands → Type 0
 WritesAsSaid change engine = IsTrue (is_write change) → Writes engine.state (committed change engine)
 
--- where it does not write, nothing is entered into an index, nor taken out but by FT.DEBUG, unless memory ran out
+-- Unless memory ran out: where it writes a document, that is entered into the lists of the indexes of which it is a member, and
+-- else nothing is entered, nor taken out but by FT.DEBUG, which takes out all dead entries of the index that it names.
 abbrev pub EntersAsSaid : Command → Change → Stands → List ℕ → Stands → Type 0
 EntersAsSaid command change old written new =
-    is_write change ≡ false → (written ≡ spelling out_of_memory) ⊎ ((new.indexes ≡ old.indexes) ⊎ MayCollect (command_of command))
+    (written ≡ spelling out_of_memory)
+    ⊎ (Enters change new.waits old.indexes new.indexes ⊎ Gathers (command_of command) old.indexes new.indexes)
 
 -- and then its commit reads no document
 abbrev pub CommitReads : Change → Stands → Stands → Type 0
 CommitReads change old new = is_write change ≡ false → new.reads ≡ old.reads
+
+-- each index keeps its lists, unless it is made, altered or dropped
+abbrev pub CommitKeepsLists : Change → Stands → Stands → Type 0
+CommitKeepsLists change old new = KeepsLists change old.indexes new.indexes
 
 -- where nothing is to be changed, a commit leaves the indexes as they are
 abbrev pub CommitKeeps : Change → Stands → Stands → Type 0

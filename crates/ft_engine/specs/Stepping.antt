@@ -13,6 +13,7 @@ use Rattle.ft_machine.specs.Step.{Answers, last_number, next_number}
 use Rattle.indexed_store.specs.Moving.{IndexesMove}
 use Rattle.indexed_store.specs.Parting.{ScansPart}
 use Rattle.indexed_store.specs.Repairing.{ScansNamed, SplicesSerial, splice_marker}
+use Rattle.ft_engine.specs.Cleaning.{KeepsClean, StandsFor}
 use Rattle.ft_engine.specs.Stands.{Stands, opened}
 
 -- words are answered at a moment by a step of the machine, at the engine's number
@@ -56,9 +57,15 @@ pub record SplicesAt (serial : ℕ) (name : ListName) (repair : AnyRepair) (old 
 pub record Steps (old : Stands) (moment : ℕ) (words : List (List ℕ)) (reply : List ℕ) (new : Stands) : Type 0 where
   pub answer : Answers words old.next moment old.state reply new.state
   pub next : new.next ≡ next_number old.next
+  pub clean : KeepsClean old.next words old reply new
 
 -- Entries that lead from an engine that was opened at a number to another are a legal history from this number, and it leads to
 -- the other's state.
 abbrev pub StepsAreLegal : Type 0
 StepsAreLegal = (first : ℕ) (entries : List Entry) (engine : Stands)
     → first ≤ last_number → Leads (IsStep Steps) [] (opened first) entries engine → IsLegal first entries engine.state
+
+-- It is one that tells of clean indexes just their live records.
+abbrev pub StepsAreHistory : Type 0
+StepsAreHistory = (first : ℕ) (entries : List Entry) (engine : Stands)
+    → first ≤ last_number → Leads (IsStep Steps) [] (opened first) entries engine → StandsFor first entries engine

@@ -1,7 +1,8 @@
 //! The engine: a state of the machine, and the events that lead from one to the next.
 ghost use Rattle.std.specs.Prelude.{◌≡◌, ◌<◌, ◌≤◌, ◌^◌, true, false, length, vec_capacity, IfOk};
+ghost use Rattle.ft_engine.specs.Cleaning.{KeepsClean};
 ghost use Rattle.ft_engine.specs.Commands.{AreRefused, CollectsAsAsked, IsLastText, IsLawful, IsQuietAsAsked, IsReadFor, KeepsLimits, ReadsAsAsked, TellsAsAsked, TellsFault, TellsLast, WordsCollect, WordsRead, WordsTell};
-ghost use Rattle.ft_engine.specs.Preparing.{CommitKeeps, CommitReads, EntersAsSaid, IsLast, StepsBy, WritesAsSaid, committed};
+ghost use Rattle.ft_engine.specs.Preparing.{CommitKeeps, CommitKeepsLists, CommitReads, EntersAsSaid, IsLast, StepsBy, WritesAsSaid, committed};
 ghost use Rattle.ft_engine.specs.Stands.{IsIndexed, begun, opened};
 ghost use Rattle.ft_engine.specs.Stepping.{AnswersAt, Counts, Moves, ScansAt, ScansPartAt, SplicesAt, counted, ended};
 ghost use Rattle.ft_machine.specs.Step.{last_number};
@@ -116,12 +117,17 @@ impl Engine {
 
         // Where FT.DEBUG says that it is done, no list of the index has a dead entry.
         ensures collects { WordsCollect self.old.next words.entry self.new.indexes out.new.items }
+        // An index is clean then until its members or its definition change, or memory runs out; and FT.INFO tells of it just the
+        // live records.
+        ensures clean { KeepsClean self.old.next words.entry self.old out.new.items self.new }
         // What there was has only grown, or is gone.
         ensures moves { Moves self.old self.new }
 
         ensures free { self.new.pending ≡ false }
         ensures room { vec_capacity out.old ≤ vec_capacity out.new }
     {
+        // Tells that each index stands for the documents.
+        self.held.stand();
         match read_command(self.alloc, words.rest(0), self.next) {
             Ok(command) => {
                 let prepared = self.prepare(now, command, out);
@@ -152,7 +158,7 @@ impl Engine {
         ensures records { TellsAsAsked command.entry self.old.indexes out.new.items }
         ensures collects { CollectsAsAsked command.entry self.new.indexes out.new.items }
         ensures quiet { IsQuietAsAsked command.entry result }
-        // Where no document and no definition changes, nothing is entered into an index either, nor taken out but by FT.DEBUG.
+        // A document that it writes is entered where it is a member, and else nothing is, nor taken out but by FT.DEBUG.
         ensures still { EntersAsSaid command.entry result self.old out.new.items self.new }
         // What there was has only grown, or is gone.
         ensures moves { Moves self.old self.new }
@@ -222,6 +228,8 @@ impl Engine {
         // Where no document and no definition changes, none is read.
         ensures quiet { CommitReads prepared.entry self.old self.new }
         ensures kept { CommitKeeps prepared.entry self.old self.new }
+        // Each index keeps its lists, unless it is made, altered or dropped.
+        ensures lists { CommitKeepsLists prepared.entry self.old self.new }
         // What there was has only grown, or is gone.
         ensures moves { Moves self.old self.new }
         ensures free { self.new.pending ≡ false }
@@ -259,6 +267,7 @@ impl Engine {
         // The moment counts, by which idle cursors are gone, and nothing else changes.
         ensures state { self.new.state ≡ begun self.old.next now self.old.state }
         ensures reads { self.new.reads ≡ self.old.reads }
+        ensures lists { self.new.indexes ≡ self.old.indexes }
         ensures next { Counts self.old self.new }
         ensures indexed { IsIndexed self.new }
         // What there was has only grown, or is gone.
@@ -281,6 +290,7 @@ impl Engine {
         ensures last { TellsLast self.old.next reply.new.bytes }
         ensures state { self.new.state ≡ begun self.old.next now self.old.state }
         ensures reads { self.new.reads ≡ self.old.reads }
+        ensures lists { self.new.indexes ≡ self.old.indexes }
         ensures next { Counts self.old self.new }
         ensures indexed { IsIndexed self.new }
         // What there was has only grown, or is gone.

@@ -63,7 +63,7 @@ number-mark n e = let is : mark (spelling (Number n)) ≡ 58 = ap mark (spelling
 line-mark : (text : List ℕ) → mark (spelling (Line text)) ≢ 45
 line-mark text e = let is : mark (spelling (Line text)) ≡ 43 = ap mark (spelling-Line text) in absurd (omega (arith, is, e))
 
-array-is : (replies : List Reply) → mark (spelling (Array replies)) ≡ 42
+pub array-is : (replies : List Reply) → mark (spelling (Array replies)) ≡ 42
 unfolding out-Reply out
 array-is replies = ap mark (fold_out-Reply (List ℕ) spelling_step (Array replies))
 

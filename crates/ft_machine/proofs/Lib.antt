@@ -1,3 +1,4 @@
+pub mod CleanLaws
 pub mod NameLaws
 pub mod DeterminedLaws
 pub mod Examples

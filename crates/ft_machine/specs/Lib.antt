@@ -1,5 +1,6 @@
 pub mod Aggregating
 pub mod Answering
+pub mod Clean
 pub mod Counted
 pub mod Cursors
 pub mod Definitions

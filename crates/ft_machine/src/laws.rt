@@ -1,4 +1,5 @@
 //! Laws of the machine, whatever code obeys it. The functions do nothing: their contracts are the laws.
+ghost use Rattle.ft_machine.specs.Clean.{HistoriesAreLegal};
 ghost use Rattle.ft_machine.specs.Determined.{HasOneReply, HasOneState, InfoDiffersInRecords};
 
 use query_grammar::{one_fault, one_tree, tree_or_fault};
@@ -21,3 +22,9 @@ pub fn one_state()
     one_fault();
     tree_or_fault();
 }
+
+/// A history in which FT.INFO tells just the live records of clean indexes is legal: so what holds of each legal history holds of
+/// it.
+pub fn histories_are_legal()
+    ensures { HistoriesAreLegal }
+{}

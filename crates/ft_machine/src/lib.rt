@@ -10,5 +10,5 @@ mod laws;
 
 /// The numbers that FT.INFO tells.
 pub use counts::Counts;
-/// That a command has one reply, and leads to one state.
-pub use laws::{one_reply, one_state};
+/// That a command has one reply, and leads to one state, and that histories are legal.
+pub use laws::{histories_are_legal, one_reply, one_state};

@@ -14,7 +14,7 @@ use Rattle.history_core.specs.declared.entry.Entry.TheVariants.{Exec}
 use Rattle.history_core.proofs.CommandLaws.{own-push}
 use Rattle.turn_gate.specs.Known.{Known}
 use Rattle.turn_gate.specs.Log.{NoneBy}
-use Rattle.ft_machine.specs.Machine.{empty_state}
+use Rattle.ft_machine.specs.Clean.{empty_marked}
 use Rattle.ft_server.specs.Answer.{Answer}
 use Rattle.ft_server.specs.Callers.{Answered, Called}
 use Rattle.ft_server.specs.Passes.{LegalFrom}
@@ -101,4 +101,4 @@ called_alone pass later said given given' none alone first legal called =
 
 -- nothing was answered yet
 pub answered_none : (given : Option (List ℕ)) → Answered [] given given
-answered_none given = record { entries = []; after = empty_state; legal = refl; own_are = refl; alone = All-nil _; moments = Gives-nil given }
+answered_none given = record { entries = []; after = empty_marked; legal = refl; own_are = refl; alone = All-nil _; moments = Gives-nil given }

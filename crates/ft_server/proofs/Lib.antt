@@ -3,6 +3,7 @@ pub mod Crossing
 mod EndingLaws
 mod FormLaws
 mod NumberLaws
+mod PlayingLaws
 mod QuitLaws
 mod ServingLaws
 mod TellingLaws

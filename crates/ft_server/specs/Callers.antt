@@ -6,8 +6,7 @@ use Rattle.fs_ports.specs.Moments.{Gives}
 use Rattle.history_core.specs.Commands.{Said, caller_of, moments_of, own}
 use Rattle.history_core.specs.declared.entry.Entry.{Entry}
 use Rattle.turn_gate.specs.Known.{Known}
-use Rattle.ft_machine.specs.Machine.{State}
-use Rattle.ft_machine.specs.History.{IsLegal}
+use Rattle.ft_machine.specs.Clean.{IsHistory, Marked}
 
 -- They are its own among the entries that its pass has seen since, at the moments that the clock gave, in order. Where the
 -- pass is alone, these entries are all its own.
@@ -19,11 +18,12 @@ pub record Called (pass pass' : Known Entry) (said : List Said) (given given' : 
   pub moments : Gives given given' (moments_of said)
 
 -- This caller's commands were answered so: they are those of caller 0 in a legal history that begins at number 1 in the
--- empty state, at the moments that the clock gave, in order. Nobody else has an entry in it.
+-- empty state, at the moments that the clock gave, in order. Nobody else has an entry in it. FT.INFO tells in it just the live
+-- records of indexes that are clean.
 pub record Answered (said : List Said) (given given' : Option (List ℕ)) : Type 0 where
   pub entries : List Entry
-  pub after : State
-  pub legal : IsLegal 1 entries after
+  pub after : Marked
+  pub legal : IsHistory 1 entries after
   pub own_are : own 0 entries ≡ said
   pub alone : All (λ (entry : Entry). caller_of entry ≡ 0) entries
   pub moments : Gives given given' (moments_of said)

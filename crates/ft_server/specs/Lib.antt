@@ -4,7 +4,9 @@ pub mod Ends
 pub mod FaultText
 pub mod Forms
 pub mod Limits
+pub mod Load
 pub mod Passes
+pub mod Playing
 pub mod Prompt
 pub mod Reading
 pub mod Serving

@@ -5,12 +5,11 @@ use Rattle.history_core.specs.declared.entry.Entry.{Entry}
 use Rattle.history_core.specs.declared.entry.Entry.TheVariants.{Exec}
 use Rattle.turn_gate.specs.Known.{GateName, Known}
 use Rattle.turn_gate.specs.Log.{NoneBy}
-use Rattle.ft_machine.specs.History.{IsLegal}
-use Rattle.ft_machine.specs.Machine.{State}
+use Rattle.ft_machine.specs.Clean.{IsHistory, Marked}
 
--- the entries are a legal history from this number on
+-- the entries are a legal history from this number on, and FT.INFO tells in it just the live records of clean indexes
 abbrev pub LegalFrom : ℕ → List Entry → Type 0
-LegalFrom first entries = (after : State) × IsLegal first entries after
+LegalFrom first entries = (after : Marked) × IsHistory first entries after
 
 -- a pass of a server, and what it has seen is legal from the server's first number on
 abbrev pub IsOf : GateName → Known Entry → Type 0

@@ -3,11 +3,11 @@ use Rattle.std.specs.Prelude.{◌≡◌, ℕ, List, false}
 use Rattle.history_core.specs.Histories.{number}
 use Rattle.history_core.specs.declared.entry.Entry.{Entry}
 use Rattle.ft_engine.specs.Stands.{Stands}
-use Rattle.ft_machine.specs.History.{IsLegal}
+use Rattle.ft_engine.specs.Cleaning.{StandsFor}
 
--- The engine stands for these entries, the first of which has this number: they are legal and lead to its state, the next
--- one has its number, and none is prepared.
+-- The engine stands for these entries, the first of which has this number: they are a history that leads to its state and its
+-- clean indexes, the next one has its number, and none is prepared.
 pub record Tells (engine : Stands) (entries : List Entry) (first : ℕ) : Type 0 where
-  pub legal : IsLegal first entries engine.state
+  pub history : StandsFor first entries engine
   pub next : engine.next ≡ number first entries
   pub free : engine.pending ≡ false

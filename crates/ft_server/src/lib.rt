@@ -4,8 +4,9 @@
 //! `Server` is an engine under the turn lock. A caller holds a `Pass`; `call` takes a turn of one command, and
 //! `serve_connection` does so for each command of a link. `run` does what the words of the command line ask for with a
 //! server of its own, and carries the promise of the whole: what is written is the replies of a legal history of the
-//! commands read. Read `specs/Passes.antt`, `specs/Callers.antt`, `specs/Session.antt`, `specs/Ends.antt`, `server.rt`
-//! and `calls.rt` first, then `connection.rt` and `runner.rt`.
+//! commands read; for the load, that four lines sum up the replies of a legal history of its commands.
+//! Read `specs/Passes.antt`, `specs/Callers.antt`, `specs/Session.antt`, `specs/Ends.antt`, `server.rt` and `calls.rt` first, then
+//! `connection.rt` and `runner.rt`; for the load `specs/Load.antt` and `load.rt`.
 #![tactic(auto)]
 
 mod calls;
@@ -14,10 +15,12 @@ mod exit;
 mod fault_text;
 mod form;
 mod input;
+mod load;
 mod logged_engine;
 mod replies;
 mod runner;
 mod server;
+mod tally;
 
 /// One command of a caller among others.
 pub use calls::call;

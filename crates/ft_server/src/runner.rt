@@ -1,8 +1,9 @@
 //! All that the program does over a link and a clock of any kind.
-ghost use Rattle.std.specs.Prelude.{◌≡◌, ◌↔◌, [], true, IfOk};
+ghost use Rattle.std.specs.Prelude.{◌≡◌, ◌↔◌, ℕ, [], true, IfOk};
 ghost use Rattle.ft_server.specs.Callers.{Answered};
 ghost use Rattle.ft_server.specs.Ends.{Ended, Ends};
-ghost use Rattle.ft_server.specs.Forms.{IsScript};
+ghost use Rattle.ft_server.specs.Forms.{IsLoad, IsScript};
+ghost use Rattle.ft_server.specs.Load.{EndsLoad};
 ghost use Rattle.ft_server.specs.Limits.{HaveNumbers};
 ghost use Rattle.ft_server.specs.Passes.{IsOf};
 ghost use Rattle.ft_server.specs.Session.{AllAnswered, told};
@@ -10,6 +11,7 @@ ghost use Rattle.ft_server.specs.Session.{AllAnswered, told};
 use crate::connection::{End, serve_connection};
 use crate::exit::Exit;
 use crate::form::{Form, WordFault, read_words};
+use crate::load::run_load;
 use crate::server::{Pass, Server};
 use fs_ports::{Clock, Link};
 use ft_base::NoMemory;
@@ -33,14 +35,21 @@ pub fn run<L: Link, C: Clock, R: Wait>(
         (told L.Link C.Clock link.old clock.old) (told L.Link C.Clock now moment) → L.readable now }
 
     // What was read, answered and written, by how the run ended.
-    ensures ends { Ended result
+    ensures ends { IsScript words.now → Ended result
         (told L.Link C.Clock link.old clock.old) (told L.Link C.Clock link.new clock.new) }
-    ensures usage { (result ≡ Exit.Usage) ↔ (IsScript words.now → ⊥) }
+    // What the load wrote, by how the run ended.
+    ensures load { (seed docs : ℕ) → IsLoad words.now seed docs → EndsLoad seed docs result
+        (told L.Link C.Clock link.old clock.old) (told L.Link C.Clock link.new clock.new) }
+    ensures usage { (result ≡ Exit.Usage)
+        ↔ ((IsScript words.now → ⊥) × ((seed docs : ℕ) → IsLoad words.now seed docs → ⊥)) }
+    ensures nothing { result ≡ Exit.Usage
+        → told L.Link C.Clock link.new clock.new ≡ told L.Link C.Clock link.old clock.old }
     // What the limits of a command are, by which its definition goes.
     ensures limits { HaveNumbers }
 {
     match read_words(alloc, words) {
         Ok(Form::Script) => Exit::at(serve_alone(rt, alloc, hashing, link, clock)),
+        Ok(Form::Load { seed, docs }) => run_load(rt, alloc, hashing, seed, docs, link),
         Ok(Form::Serve { .. }) | Err(WordFault::Usage) => Exit::Usage,
         Err(WordFault::NoMemory) => Exit::NoMemory,
     }
@@ -66,7 +75,7 @@ fn serve_alone<L: Link, C: Clock, R: Wait>(
 }
 
 /// A new server whose first event has the number 1, and its first pass.
-fn open(alloc: Global, hashing: RandomState) -> Result<(Server, Pass), NoMemory>
+pub fn open(alloc: Global, hashing: RandomState) -> Result<(Server, Pass), NoMemory>
     ensures first { IfOk result (λ r. r.0.first ≡ 1) }
     ensures of { IfOk result (λ r. IsOf r.0 r.1) }
     ensures pass { IfOk result (λ r. (r.1.seen ≡ []) × (r.1.alone ≡ true) × (r.1.caller ≡ 0)) }

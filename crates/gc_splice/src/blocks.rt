@@ -7,7 +7,7 @@ ghost use Rattle.inverted_list.specs.Blocks.{joined};
 ghost use Rattle.gc_splice.specs.Alive.{alive, all_alive};
 ghost use Rattle.gc_splice.specs.Repaired.{repair_of_block};
 
-use crate::keep::{keep_live, live_in};
+use crate::keep::{keep_so_many, live_in};
 use crate::live::Live;
 use crate::repair::{BlockRepair, MOST_ENTRIES};
 use ft_base::{ListOf, NoMemory};
@@ -34,15 +34,16 @@ pub(crate) fn first_dead<P: Payload, L: Live>(
     blocks.len()
 }
 
-// A sealed block without the dead entries of another one.
+// A sealed block without the dead entries of another one, of which so many are live.
 fn without_dead<P: Payload, L: Live>(
     alloc: Global,
     block: &Block<P>,
     live: &L,
+    left: usize,
 ) -> Result<Sealed<P>, NoMemory>
     ensures { IfOk result (λ b. b ≡ alive (L.is live.now) block.now) }
 {
-    let kept = keep_live::<P, L>(alloc, block, live)?;
+    let kept = keep_so_many::<P, L>(alloc, block, live, left)?;
     Sealed::new(alloc, kept)
 }
 
@@ -63,7 +64,7 @@ fn repair_block<P: Payload, L: Live>(
     if left == 0 {
         return Ok(BlockRepair::Gone);
     }
-    let kept = without_dead::<P, L>(alloc, block.block(), live)?;
+    let kept = without_dead::<P, L>(alloc, block.block(), live, left)?;
     Ok(BlockRepair::Changed(kept))
 }
 

@@ -56,7 +56,32 @@ pub fn keep_live<P: Payload, L: Live>(
 ) -> Result<Block<P>, NoMemory>
     ensures { IfOk result (λ b. b ≡ alive (L.is live.now) block.now) }
 {
-    let mut kept = Block::new(alloc);
+    keep_in::<P, L>(Block::new(alloc), block, live)
+}
+
+/// The same, where so many entries are live. It takes about as much memory as they need, at once.
+pub(crate) fn keep_so_many<P: Payload, L: Live>(
+    alloc: Global,
+    block: &Block<P>,
+    live: &L,
+    left: usize,
+) -> Result<Block<P>, NoMemory>
+    ensures { IfOk result (λ b. b ≡ alive (L.is live.now) block.now) }
+{
+    let bytes = block.bytes().len().saturating_mul(left) / block.len().max(1);
+    keep_in::<P, L>(Block::with_room(alloc, bytes)?, block, live)
+}
+
+// Fills a block that is empty.
+fn keep_in<P: Payload, L: Live>(
+    empty: Block<P>,
+    block: &Block<P>,
+    live: &L,
+) -> Result<Block<P>, NoMemory>
+    requires { empty ≡ [] }
+    ensures { IfOk result (λ b. b ≡ alive (L.is live.now) block.now) }
+{
+    let mut kept = empty;
     let mut at = 0;
     let mut before = 0;
     let len = block.len();

@@ -8,6 +8,7 @@ pub mod FillingLaws
 pub mod HoldingLaws
 pub mod IndexingLaws
 pub mod KeysLaws
+pub mod ListedLaws
 pub mod MovingLaws
 pub mod NamedLaws
 pub mod PartingLaws

@@ -10,9 +10,9 @@ use Rattle.ft_index.specs.Index.{Index}
 use Rattle.ft_machine.specs.Machine.{State}
 use Rattle.ft_machine.specs.Step.{Does}
 use Rattle.indexed_store.specs.Changing.{IsReady, changed}
-use Rattle.indexed_store.specs.Collecting.{MayCollect}
 use Rattle.indexed_store.specs.DefinitionsOf.{definitions_of}
 use Rattle.indexed_store.specs.Holding.{Holding, state_of}
+use Rattle.indexed_store.specs.Listed.{Enters, Gathers}
 use Rattle.indexed_store.specs.Preparing.{OnlyReads, Prepares}
 use Rattle.indexed_store.proofs.MovingLaws.{moves-again, moves-kept}
 use Rattle.indexed_store.specs.declared.change.Change.{Change}
@@ -25,7 +25,7 @@ prepares-nothing asks old new written space indexes cursors latest next does = r
   does = does;
   stays = record { space = space; definitions = ap (λ (is : List Index). definitions_of is) indexes; cursors = cursors; latest = latest; next = next; moves = moves-kept old.next old.indexes new.indexes indexes };
   ready = tt;
-  still = λ nothing. inr (inl indexes);
+  enters = inr (inl indexes);
 }
 
 -- so does one that only reads
@@ -52,12 +52,6 @@ state-read old new reads =
     ∙ (ap (λ (cursors : List Cursor). record { space = old.space; definitions = definitions_of old.indexes; cursors = cursors; latest = new.latest }) reads.cursors
     ∙ ap (λ (latest : ℕ). record { space = old.space; definitions = definitions_of old.indexes; cursors = old.cursors; latest = latest }) reads.latest))
 
-still-behind : (asks : Asked) (written : List ℕ) (old mid new : List Index) → mid ≡ old → (written ≡ spelling out_of_memory) ⊎ ((new ≡ mid) ⊎ MayCollect asks)
-    → (written ≡ spelling out_of_memory) ⊎ ((new ≡ old) ⊎ MayCollect asks)
-still-behind asks written old mid new same (inl wanting) = inl wanting
-still-behind asks written old mid new same (inr (inl still)) = inr (inl (still ∙ same))
-still-behind asks written old mid new same (inr (inr collects)) = inr (inr collects)
-
 -- what is prepared behind a read is prepared
 pub prepares-behind : (asks : Asked) (old mid new : Holding) (written : List ℕ) (change : Change) → OnlyReads old mid → Prepares asks mid new written change → Prepares asks old new written change
 prepares-behind asks old mid new written change reads prepares = record {
@@ -72,5 +66,5 @@ prepares-behind asks old mid new written change reads prepares = record {
     moves = moves-again old.next mid.next old.indexes mid.indexes new.indexes (omega (arith, reads.next)) (moves-kept old.next old.indexes mid.indexes reads.indexes) prepares.stays.moves;
   };
   ready = subst (λ (number : ℕ). IsReady change number new.space new.waits new.indexes) reads.next prepares.ready;
-  still = λ nothing. still-behind asks written old.indexes mid.indexes new.indexes reads.indexes (prepares.still nothing);
+  enters = subst (λ (olds : List Index). (written ≡ spelling out_of_memory) ⊎ (Enters change new.waits olds new.indexes ⊎ Gathers asks olds new.indexes)) reads.indexes prepares.enters;
 }

@@ -1,8 +1,6 @@
--- Indexes whose lists have no dead entry, and which command makes them so.
+-- Indexes whose lists have no dead entry.
 use Rattle.std.specs.Prelude.{ℕ, List, IfSome}
 use Rattle.std.specs.List.{find}
-use Rattle.cmd_parse.specs.Asked.{Asked, Plain}
-use Rattle.cmd_parse.specs.declared.command.Verb.TheVariants.{Debug}
 use Rattle.ft_index.specs.Index.{Index, is_live}
 use Rattle.ft_index.specs.Thinned.{ListsLive}
 use Rattle.indexed_store.specs.Named.{is_named}
@@ -14,8 +12,3 @@ IsClean index = ListsLive (is_live index) index.lists
 -- the same of the index of a name, where there is one
 abbrev pub IsCleanAt : List ℕ → List Index → Type 0
 IsCleanAt name indexes = IfSome (find (is_named name) indexes) IsClean
-
--- FT.DEBUG takes dead entries out of lists, and changes nothing that a command tells of
-abbrev pub MayCollect : Asked → Type 0
-MayCollect (Plain Debug args) = Unit {0}
-MayCollect _ = ⊥

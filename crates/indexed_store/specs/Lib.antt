@@ -4,6 +4,7 @@ pub mod Counting
 pub mod DefinitionsOf
 pub mod Holding
 pub mod Indexing
+pub mod Listed
 pub mod Moving
 pub mod Named
 pub mod Parting

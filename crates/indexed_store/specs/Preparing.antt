@@ -1,5 +1,5 @@
 -- What a command leaves: one that reads, one that is prepared, and the change that is made of it.
-use Rattle.std.specs.Prelude.{◌≡◌, ◌≤◌, ◌<◌, ◌+◌, ◌⊎◌, ℕ, List, Some, false, IsTrue}
+use Rattle.std.specs.Prelude.{◌≡◌, ◌≤◌, ◌<◌, ◌+◌, ◌⊎◌, ℕ, List, Some, IsTrue}
 use Rattle.std.specs.List.{All}
 use Rattle.cmd_parse.specs.Asked.{Asked}
 use Rattle.ft_base.specs.Hash.{Hash}
@@ -9,10 +9,10 @@ use Rattle.ft_base.specs.declared.definition.IndexDef.{IndexDef}
 use Rattle.ft_index.specs.Index.{Index}
 use Rattle.ft_machine.specs.Definitions.{failures_over}
 use Rattle.ft_machine.specs.Step.{Does, last_number}
-use Rattle.indexed_store.specs.Changing.{IsReady, changed, is_change, is_write}
-use Rattle.indexed_store.specs.Collecting.{MayCollect}
+use Rattle.indexed_store.specs.Changing.{IsReady, changed, is_change}
 use Rattle.indexed_store.specs.DefinitionsOf.{definitions_of}
 use Rattle.indexed_store.specs.Holding.{Holding, state_of}
+use Rattle.indexed_store.specs.Listed.{Enters, EntersDoc, Gathers}
 use Rattle.indexed_store.specs.Moving.{IndexesMove}
 use Rattle.indexed_store.specs.Standing.{AreApart, AreOfEvent, AreWritten, IndexStands, markers_at}
 use Rattle.indexed_store.specs.Writing.{Waits}
@@ -45,19 +45,21 @@ pub record Stays (old new : Holding) : Type 0 where
 pub record WaitsFor (key : List ℕ) (hash : Hash) (put : ℕ) (old new : Holding) : Type 0 where
   pub ready : new.waits ≡ Some (record { id = old.next; key = key; hash = hash })
   pub waits : Waits put old.next new.space new.indexes new.waits
+  pub enters : EntersDoc (record { id = old.next; key = key; hash = hash }) old.indexes new.indexes
 
--- A change is ready in this event. Where no document and no definition changes, nothing is entered into an index either.
+-- A change is ready in this event. A document that waits is entered where it is a member, and nothing else is.
 pub record IsPrepared (change : Change) (old new : Holding) : Type 0 where
   pub ready : IsReady change old.next new.space new.waits new.indexes
-  pub still : is_write change ≡ false → new.indexes ≡ old.indexes
+  pub enters : Enters change new.waits old.indexes new.indexes
 
 -- A command is prepared in this event: its reply is written, its change is ready, and nothing is seen of it yet.
 pub record Prepares (asks : Asked) (old new : Holding) (written : List ℕ) (change : Change) : Type 0 where
   pub does : Does asks old.next (state_of old) written (changed change new.waits new.opens (state_of old))
   pub stays : Stays old new
   pub ready : IsReady change old.next new.space new.waits new.indexes
-  -- Where no document and no definition changes, nothing is entered into an index either, nor taken out but by FT.DEBUG.
-  pub still : is_write change ≡ false → (written ≡ spelling out_of_memory) ⊎ ((new.indexes ≡ old.indexes) ⊎ MayCollect asks)
+  -- Unless memory ran out, a document that waits is entered where it is a member, and nothing else is, nor is anything taken out
+  -- but by FT.DEBUG, which takes out all dead entries of the index that it names.
+  pub enters : (written ≡ spelling out_of_memory) ⊎ (Enters change new.waits old.indexes new.indexes ⊎ Gathers asks old.indexes new.indexes)
 
 -- A change of the event of this number can be made.
 pub record CanMake (change : Change) (number : ℕ) (held : Holding) : Type 0 where

@@ -6,6 +6,7 @@ ghost use Rattle.ft_index.specs.Markers.{AreBefore};
 ghost use Rattle.hash_store.specs.Store.{Store};
 ghost use Rattle.indexed_store.specs.Collecting.{IsCleanAt};
 ghost use Rattle.indexed_store.specs.DefinitionsOf.{definitions_of};
+ghost use Rattle.indexed_store.specs.Listed.{OthersKeep};
 ghost use Rattle.indexed_store.specs.Moving.{IndexesMove};
 ghost use Rattle.indexed_store.specs.Preparing.{HasNumber, Stays};
 ghost use Rattle.indexed_store.specs.Standing.{InStep, markers_at};
@@ -22,6 +23,8 @@ impl IndexedStore {
     pub fn collect(&mut self, name: &[u8]) -> Result<(), NoMemory>
         requires number { HasNumber self.old }
         ensures clean { OnOk result (IsCleanAt name.now self.new.indexes) }
+        // The lists of the other indexes are as they were.
+        ensures others { OthersKeep name.now self.old.indexes self.new.indexes }
         ensures stays { Stays self.old self.new }
     {
         let number = self.next;
@@ -34,6 +37,7 @@ impl IndexedStore {
 fn collect_named(indexes: &mut [FtIndex], event: u64, name: &[u8]) -> Result<(), NoMemory>
     requires before { All (λ (index : Index). AreBefore (markers_at event) index.lists) indexes.old }
     ensures clean { OnOk result (IsCleanAt name.now indexes.new) }
+    ensures others { OthersKeep name.now indexes.old indexes.new }
     ensures definitions { definitions_of indexes.new ≡ definitions_of indexes.old }
     ensures kept { (store : Store) → InStep store indexes.old event → InStep store indexes.new (event + 1) }
     ensures moves { IndexesMove event indexes.old indexes.new }

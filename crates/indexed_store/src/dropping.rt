@@ -5,6 +5,7 @@ ghost use Rattle.hash_store.specs.Store.{Store};
 ghost use Rattle.ft_machine.specs.Definitions.{index_of, without_index, without_members};
 ghost use Rattle.indexed_store.specs.Changing.{without_cursors_of};
 ghost use Rattle.indexed_store.specs.DefinitionsOf.{definitions_of};
+ghost use Rattle.indexed_store.specs.Listed.{KeepLists, OthersKeep};
 ghost use Rattle.indexed_store.specs.Moving.{IndexesMove};
 ghost use Rattle.indexed_store.specs.Standing.{InStep};
 
@@ -18,6 +19,7 @@ use hash_store::HashStore;
 pub fn drop_index(indexes: &mut Vec<FtIndex>, name: &[u8])
     ensures definitions { definitions_of indexes.new.items
         ≡ without_index (definitions_of indexes.old.items) name.now }
+    ensures lists { OthersKeep name.now indexes.old.items indexes.new.items }
     ensures kept { (store : Store) (next : ℕ)
         → InStep store indexes.old.items next → InStep store indexes.new.items next }
     ensures moves { (event : ℕ) → IndexesMove event indexes.old.items indexes.new.items }
@@ -31,6 +33,7 @@ pub fn drop_index(indexes: &mut Vec<FtIndex>, name: &[u8])
 pub fn drop_with_cursors(indexes: &mut Vec<FtIndex>, cursors: &mut CursorBook, name: &[u8])
     ensures definitions { definitions_of indexes.new.items
         ≡ without_index (definitions_of indexes.old.items) name.now }
+    ensures lists { OthersKeep name.now indexes.old.items indexes.new.items }
     ensures cursors { cursors.new
         ≡ without_cursors_of (index_of (definitions_of indexes.old.items) name.now) cursors.old }
     ensures kept { (store : Store) (next : ℕ)
@@ -60,6 +63,7 @@ pub fn drop_members(store: &mut HashStore, indexes: &mut Vec<FtIndex>, name: &[u
     ensures rest { store.new ≡ record store.old { space = store.new.space } }
     ensures definitions { definitions_of indexes.new.items
         ≡ without_index (definitions_of indexes.old.items) name.now }
+    ensures lists { OthersKeep name.now indexes.old.items indexes.new.items }
     ensures kept { (next : ℕ)
         → InStep store.old indexes.old.items next → InStep store.new indexes.new.items next }
     ensures moves { (event : ℕ) → IndexesMove event indexes.old.items indexes.new.items }
@@ -79,6 +83,7 @@ fn remove_live(store: &mut HashStore, indexes: &mut [FtIndex], dropped: &mut FtI
     ensures rest { store.new ≡ record store.old { space = store.new.space } }
     ensures kept { (next : ℕ) → InStep store.old indexes.old next → InStep store.new indexes.new next }
     ensures definitions { definitions_of indexes.new ≡ definitions_of indexes.old }
+    ensures lists { KeepLists indexes.old indexes.new }
     ensures moves { (event : ℕ) → IndexesMove event indexes.old indexes.new }
 {
     'removing: while let Some(id) = dropped.table().next_live(0) {

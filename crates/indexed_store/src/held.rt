@@ -5,6 +5,7 @@ ghost use Rattle.std.specs.Prelude.{◌≡◌, ◌≤◌, ◌<◌, ◌+◌, ℕ,
 ghost use Rattle.ft_meaning.specs.Meaning.{ValuesFit};
 ghost use Rattle.indexed_store.specs.Changing.{changed, is_write};
 ghost use Rattle.indexed_store.specs.Holding.{AllStand, HaveDistinctKeys, begun, nothing_held, state_of};
+ghost use Rattle.indexed_store.specs.Listed.{KeepsLists};
 ghost use Rattle.indexed_store.specs.Moving.{IndexesMove};
 ghost use Rattle.indexed_store.specs.Preparing.{CanMake, HasNumber, Stays, WaitsFor};
 ghost use Rattle.indexed_store.specs.declared.change.Change.TheVariants.{Nothing};
@@ -130,6 +131,8 @@ impl IndexedStore {
         // Where no document and no definition changes, none is read.
         ensures quiet { is_write change.entry ≡ false → self.new.reads ≡ self.old.reads }
         ensures same { change.entry ≡ Nothing → self.new ≡ self.old }
+        // Each index keeps its lists, unless it is made, altered or dropped.
+        ensures lists { KeepsLists change.entry self.old.indexes self.new.indexes }
         // Each index was there and has only grown since, or is made in this event.
         ensures moves { IndexesMove number self.old.indexes self.new.indexes }
     {

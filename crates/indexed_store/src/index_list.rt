@@ -6,6 +6,7 @@ ghost use Rattle.hash_store.specs.Store.{Store};
 ghost use Rattle.ft_machine.specs.Definitions.{with_index};
 ghost use Rattle.indexed_store.specs.DefinitionsOf.{defined, definitions_of};
 ghost use Rattle.ft_index.specs.Coming.{IsFresh};
+ghost use Rattle.indexed_store.specs.Listed.{OthersKeep};
 ghost use Rattle.indexed_store.specs.Moving.{IndexesMove};
 ghost use Rattle.indexed_store.specs.Named.{is_named, without_named};
 ghost use Rattle.indexed_store.specs.Standing.{AreApart, IndexStands, InStep, markers_at};
@@ -53,6 +54,7 @@ pub fn push_index(indexes: &mut Vec<FtIndex>, index: FtIndex)
 pub fn replace_index(indexes: &mut [FtIndex], index: FtIndex)
     ensures definitions { definitions_of indexes.new
         ≡ with_index (definitions_of indexes.old) (defined index) }
+    ensures lists { OthersKeep index.def.name indexes.old indexes.new }
     ensures kept { (store : Store) (next : ℕ) → IndexStands store.space next (markers_at next) index
         → All (AreApart index) indexes.old → InStep store indexes.old next → InStep store indexes.new next }
     ensures moves { (event : ℕ) → IsFresh event index → IndexesMove event indexes.old indexes.new }

@@ -5,6 +5,7 @@ ghost use Rattle.ft_base.specs.Docs.{Doc};
 ghost use Rattle.ft_meaning.specs.Meaning.{ValuesFit};
 ghost use Rattle.indexed_store.specs.DefinitionsOf.{definitions_of};
 ghost use Rattle.indexed_store.specs.Indexing.{Awaits, killed, settled};
+ghost use Rattle.indexed_store.specs.Listed.{EntersDoc};
 ghost use Rattle.indexed_store.specs.Moving.{IndexesMove};
 ghost use Rattle.indexed_store.specs.Standing.{AreApart, IndexStands};
 
@@ -28,6 +29,7 @@ pub fn prepare_all(
     ensures apart { AllPairs AreApart indexes.new }
     ensures definitions { definitions_of indexes.new ≡ definitions_of indexes.old }
     ensures waits { OnOk result (All (Awaits space doc.now) indexes.new) }
+    ensures enters { OnOk result (EntersDoc doc.now indexes.old indexes.new) }
     ensures event { markers.new.event ≡ markers.old.event }
     ensures moves { IndexesMove markers.old.event indexes.old indexes.new }
 {

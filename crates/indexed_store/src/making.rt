@@ -2,6 +2,7 @@
 ghost use Rattle.std.specs.Prelude.{◌≡◌, ◌<◌, ◌≤◌, ℕ, List, [], None, false, length, vec_capacity, IsTrue};
 ghost use Rattle.cursor_book.specs.declared.cursor.Cursor.{Cursor};
 ghost use Rattle.indexed_store.specs.Changing.{IsOfDocuments, IsReady, changed, is_change, is_write};
+ghost use Rattle.indexed_store.specs.Listed.{KeepLists, KeepsLists};
 ghost use Rattle.indexed_store.specs.Moving.{IndexesMove};
 ghost use Rattle.indexed_store.specs.Standing.{AreWritten, InStep};
 ghost use Rattle.indexed_store.specs.States.{state_with};
@@ -35,6 +36,7 @@ pub fn make(
     ensures state { state_with store.new indexes.new.items cursors.new latest
         ≡ changed change.entry store.old.ready None (state_with store.old indexes.old.items cursors.old latest) }
     ensures kept { InStep store.new indexes.new.items (next_number number) }
+    ensures lists { KeepsLists change.entry indexes.old.items indexes.new.items }
     ensures moves { IndexesMove number indexes.old.items indexes.new.items }
     ensures quiet { is_write change.entry ≡ false → store.new ≡ store.old }
     ensures few { length indexes.new.items ≤ MOST_INDEXES }
@@ -68,6 +70,7 @@ fn make_documents(store: &mut HashStore, indexes: &mut [FtIndex], number: u64, c
     ensures state { (cursors : List Cursor) (latest : ℕ) → state_with store.new indexes.new cursors latest
         ≡ changed change.entry store.old.ready None (state_with store.old indexes.old cursors latest) }
     ensures kept { InStep store.new indexes.new (next_number number) }
+    ensures lists { KeepLists indexes.old indexes.new }
     ensures moves { IndexesMove number indexes.old indexes.new }
     ensures quiet { is_write change.entry ≡ false → store.new ≡ store.old }
 {

@@ -4,6 +4,7 @@ ghost use Rattle.ft_base.specs.Space.{erase};
 ghost use Rattle.hash_store.specs.Erasing.{erase_id};
 ghost use Rattle.indexed_store.specs.DefinitionsOf.{definitions_of};
 ghost use Rattle.ft_machine.specs.Definitions.{without_keys};
+ghost use Rattle.indexed_store.specs.Listed.{KeepLists};
 ghost use Rattle.indexed_store.specs.Moving.{IndexesMove};
 ghost use Rattle.indexed_store.specs.Standing.{InStep};
 
@@ -20,6 +21,7 @@ pub fn remove_all(store: &mut HashStore, indexes: &mut [FtIndex], keys: &Words<'
     ensures rest { store.new ≡ record store.old { space = store.new.space } }
     ensures kept { (next : ℕ) → InStep store.old indexes.old next → InStep store.new indexes.new next }
     ensures definitions { definitions_of indexes.new ≡ definitions_of indexes.old }
+    ensures lists { KeepLists indexes.old indexes.new }
     ensures moves { (event : ℕ) → IndexesMove event indexes.old indexes.new }
 {
     for i in 0..keys.len() {
@@ -34,6 +36,7 @@ pub fn remove(store: &mut HashStore, indexes: &mut [FtIndex], key: &[u8])
     ensures rest { store.new ≡ record store.old { space = store.new.space } }
     ensures kept { (next : ℕ) → InStep store.old indexes.old next → InStep store.new indexes.new next }
     ensures definitions { definitions_of indexes.new ≡ definitions_of indexes.old }
+    ensures lists { KeepLists indexes.old indexes.new }
     ensures moves { (event : ℕ) → IndexesMove event indexes.old indexes.new }
 {
     if let Some(id) = store.erase(key) {
@@ -48,6 +51,7 @@ pub fn remove_id(store: &mut HashStore, indexes: &mut [FtIndex], id: u64)
     ensures rest { store.new ≡ record store.old { space = store.new.space } }
     ensures kept { (next : ℕ) → InStep store.old indexes.old next → InStep store.new indexes.new next }
     ensures definitions { definitions_of indexes.new ≡ definitions_of indexes.old }
+    ensures lists { KeepLists indexes.old indexes.new }
     ensures moves { (event : ℕ) → IndexesMove event indexes.old indexes.new }
 {
     store.erase_id(id);

@@ -4,6 +4,7 @@ ghost use Rattle.std.specs.Prelude.{◌≡◌, ◌<◌, ◌+◌, ◌-◌, List, 
 ghost use Rattle.ft_base.specs.Docs.{Doc};
 ghost use Rattle.ft_base.specs.Space.{erase};
 ghost use Rattle.indexed_store.specs.Writing.{Waits, written};
+ghost use Rattle.indexed_store.specs.Listed.{EntersDoc, KeepLists};
 ghost use Rattle.indexed_store.specs.Moving.{IndexesMove};
 ghost use Rattle.indexed_store.specs.Standing.{AreWritten, InStep};
 ghost use Rattle.ft_machine.specs.Definitions.{all_tried};
@@ -32,6 +33,7 @@ fn prepare_write(
     requires kept { InStep store.old indexes.old doc.id }
     ensures ready { OnOk result (store.new.ready ≡ Some doc) }
     ensures waits { IfOk result (λ put. Waits put doc.id store.new.space indexes.new store.new.ready) }
+    ensures enters { OnOk result (EntersDoc doc indexes.old indexes.new) }
     ensures space { store.new.space ≡ store.old.space }
     ensures kept { InStep store.new indexes.new (doc.id + 1) }
     ensures definitions { definitions_of indexes.new ≡ definitions_of indexes.old }
@@ -56,6 +58,7 @@ pub fn settle(store: &mut HashStore, indexes: &mut [FtIndex], number: u64, put: 
     ensures kept { InStep store.new indexes.new (number + 1) }
     ensures definitions { definitions_of indexes.new
         ≡ all_tried store.old.ready (definitions_of indexes.old) }
+    ensures lists { KeepLists indexes.old indexes.new }
     ensures moves { IndexesMove number indexes.old indexes.new }
 {
     let replaced = store.commit_put(put);
@@ -76,6 +79,7 @@ pub fn settle_moved(
     ensures space { store.new.space ≡ erase (written store.old.ready store.old.space) from.now }
     ensures kept { InStep store.new indexes.new (number + 1) }
     ensures definitions { definitions_of indexes.new ≡ all_tried store.old.ready (definitions_of indexes.old) }
+    ensures lists { KeepLists indexes.old indexes.new }
     ensures moves { IndexesMove number indexes.old indexes.new }
 {
     settle(store, indexes, number, put);
@@ -97,6 +101,7 @@ pub fn prepare_hash(
     requires kept { InStep store.old indexes.old id }
     ensures ready { OnOk result (store.new.ready ≡ Some (record { id = id; key = key.now; hash = hash })) }
     ensures waits { IfOk result (λ put. Waits put id store.new.space indexes.new store.new.ready) }
+    ensures enters { OnOk result (EntersDoc (record { id = id; key = key.now; hash = hash }) indexes.old indexes.new) }
     ensures space { store.new.space ≡ store.old.space }
     ensures kept { InStep store.new indexes.new (id + 1) }
     ensures definitions { definitions_of indexes.new ≡ definitions_of indexes.old }

@@ -1,5 +1,5 @@
 -- The repair of a list.
-use Rattle.std.specs.Prelude.{◌≡◌, ◌&&◌, ◌%◌, ℕ, List, Bool, true, not, nat_eq, nat_le, IfSome}
+use Rattle.std.specs.Prelude.{◌≡◌, ℕ, List, Bool, true, not, nat_eq, IfSome}
 use Rattle.std.specs.List.{list_any}
 use Rattle.doc_table.specs.Pages.{has_id}
 use Rattle.ft_index.specs.declared.snapshots.Snapshot.{Snapshot}
@@ -16,10 +16,6 @@ use Rattle.term_dict.specs.Terms.{list_of}
 -- whether an id is live where these are dead
 abbrev pub live_but : List ℕ → ℕ → Bool
 live_but dead id = not (list_any (nat_eq id) dead)
-
--- whether an id is live where each tenth up to a number is dead
-abbrev pub but_tenth : ℕ → ℕ → Bool
-but_tenth till id = not (nat_eq (id % 10) 0 && nat_le id till)
 
 -- a repair is that of a picture of the list
 abbrev pub IsRepairOf : {P : Type 0} → (ℕ → Bool) → Listing P → Repair P → Type 0

@@ -15,6 +15,7 @@ pub fn put(alloc: Global, call: &str, words: &[Vec<u8>], out: &mut Answer) -> bo
     match call {
         "tokens" => put_tokens(alloc, first, rest(words, 1), out),
         "many_tokens" => put_many(alloc, count_of(first), out),
+        "long_tokens" => put_long(alloc, count_of(first), word(words, 1), out),
         "is_separator" => out.put_truth(first.iter().all(|byte| is_separator(*byte))),
         "value_tags" => put_tags(alloc, words, out),
         "value_number" => out.put_number(number(first)),
@@ -70,6 +71,21 @@ fn put_many(alloc: Global, count: usize, out: &mut Answer) {
     out.put(b" ");
     match found.len().checked_sub(1) {
         Some(last) => out.put_word(found.word(last)),
+        None => out.put(b"none"),
+    }
+}
+
+// Of a text that is so many times a word, how many tokens it has, and how many bytes the last one has.
+fn put_long(alloc: Global, count: usize, repeated: &[u8], out: &mut Answer) {
+    let mut text = Vec::new(alloc);
+    for _ in 0..count {
+        out.note(text.extend_from_slice(repeated));
+    }
+    let found = found(alloc, text.as_slice(), &[], out);
+    out.put_count(found.len());
+    out.put(b" ");
+    match found.len().checked_sub(1) {
+        Some(last) => out.put_count(found.word(last).len()),
         None => out.put(b"none"),
     }
 }

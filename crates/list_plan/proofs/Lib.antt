@@ -2,3 +2,4 @@ pub mod KnownLaws
 pub mod UnionLaws
 pub mod GainLaws
 pub mod AloneLaws
+pub mod PartLaws

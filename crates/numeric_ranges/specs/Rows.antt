@@ -1,5 +1,5 @@
 -- What the rows of the code stand for, and what they know of their values.
-use Rattle.std.specs.Prelude.{◌≡◌, ◌<◌, ℕ, suc, Bool, true, cond, ℤ, int_le, int_lt, ◌<ℤ◌, List, [], ◌∷◌, map, length, slice_index_or}
+use Rattle.std.specs.Prelude.{◌≡◌, ◌<◌, ℕ, suc, Bool, true, cond, ℤ, pos, int_le, int_lt, ◌<ℤ◌, List, [], ◌∷◌, map, length, slice_index_or}
 use Rattle.std.specs.List.{AllByRecursion, Contains, filter}
 use Rattle.posting_block.specs.declared.hits.NumHit.{NumHit}
 use Rattle.inverted_list.specs.declared.marker.Markers.{Markers}
@@ -53,6 +53,14 @@ pub record IsInside (cut : ℤ) (all : List ℤ) : Type 0 where
 pub record IsRowAt (at : ℕ) (low : ℤ) (rows : Rows) : Type 0 where
   pub within : at < length rows
   pub begins : (d : ℤ × Listing NumHit) → (slice_index_or rows at d).0 ≡ low
+
+-- For each entry whether its value is from a cut on.
+abbrev pub flags_from : ℤ → Entries → List Bool
+flags_from cut es = map (λ value. int_le cut value) (values es)
+
+-- No value is above the greatest number.
+abbrev pub AreNumbers : List ℤ → Type 0
+AreNumbers all = AllByRecursion (λ value. int_le value (pos 9223372036854775807) ≡ true) all
 
 -- Two rows keep their lows and markers, and have the entries below the right one's low and those from it on.
 pub record AreFilled (left right : Row) (es : Entries) (below above : Row) : Type 0 where

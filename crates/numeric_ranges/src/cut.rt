@@ -1,17 +1,37 @@
-//! Where a range splits.
+//! Where a range splits, and which of its entries go to the right.
 ghost use Rattle.std.specs.Prelude.{◌≡◌, ◌<◌, slice_index_or, pos, ◌<ℤ◌, int_le, ℤ, List, count_by, length, IfOk, true};
 ghost use Rattle.std.specs.List.{Contains};
 ghost use Rattle.std.specs.List.Sorted.{IsSorted, IsPermutation};
 ghost use Rattle.std.specs.Ordering.{int_cmp};
-ghost use Rattle.numeric_ranges.specs.Rows.{IsInside};
+ghost use Rattle.numeric_ranges.specs.Rows.{AreNumbers, IsInside, flags_from};
 ghost use Rattle.numeric_ranges.specs.Values.{values, are_mixed, cut_of, nth_value};
 
 use ft_base::NoMemory;
+use lane_kernels::in_range;
 use posting_block::NumHit;
 use std::alloc::Global;
 
+/// Where entries are cut in two, and for each whether it goes to the right.
+#[derive(Drop)]
+pub(crate) struct Parts {
+    pub(crate) cut: i64,
+    pub(crate) flags: Vec<bool>,
+}
+
+/// How entries with two distinct values are cut in two.
+pub(crate) fn parts_of(alloc: Global, entries: &[(u64, NumHit)]) -> Result<Parts, NoMemory>
+    requires { are_mixed entries.now ≡ true }
+    ensures value { IfOk result (λ parts. parts.cut ≡ cut_of (values entries.now)) }
+    ensures fits { IfOk result (λ parts. IsInside parts.cut (values entries.now)) }
+    ensures flags { IfOk result (λ parts. parts.flags.items ≡ flags_from parts.cut entries.now) }
+{
+    let cut = cut_of(alloc, entries)?;
+    let flags = flags_from(alloc, entries, cut)?;
+    Ok(Parts { cut, flags })
+}
+
 /// Where entries with two distinct values are cut.
-pub(crate) fn cut_of(alloc: Global, entries: &[(u64, NumHit)]) -> Result<i64, NoMemory>
+fn cut_of(alloc: Global, entries: &[(u64, NumHit)]) -> Result<i64, NoMemory>
     requires { are_mixed entries.now ≡ true }
     ensures value { IfOk result (λ cut. cut ≡ cut_of (values entries.now)) }
     ensures fits { IfOk result (λ cut. IsInside cut (values entries.now)) }
@@ -21,9 +41,20 @@ pub(crate) fn cut_of(alloc: Global, entries: &[(u64, NumHit)]) -> Result<i64, No
     Ok(middle(rising.as_slice()))
 }
 
+/// For each entry whether it goes to the right of a cut.
+fn flags_from(alloc: Global, entries: &[(u64, NumHit)], cut: i64) -> Result<Vec<bool>, NoMemory>
+    ensures { IfOk result (λ flags. flags.items ≡ flags_from cut entries.now) }
+{
+    let values = values_of(alloc, entries)?;
+    let mut flags = vec![in alloc; false; values.len()]?;
+    in_range(values.as_slice(), cut, i64::MAX, flags.as_mut_slice());
+    Ok(flags)
+}
+
 /// The values of entries, in their order.
 fn values_of(alloc: Global, entries: &[(u64, NumHit)]) -> Result<Vec<i64>, NoMemory>
-    ensures { IfOk result (λ copy. copy.items ≡ values entries.now) }
+    ensures values { IfOk result (λ copy. copy.items ≡ values entries.now) }
+    ensures numbers { IfOk result (λ copy. AreNumbers copy.items) }
 {
     let mut copy = Vec::new(alloc);
     'values: for (_, hit) in entries {

@@ -2,9 +2,9 @@
 ghost use Rattle.std.specs.Prelude.{◌≡◌, ◌<◌, ◌≤◌, ◌+◌, [], ◌∷◌, ◌++◌, true, IfOk, OnOk, OnErr};
 ghost use Rattle.inverted_list.specs.Listing.{RisesAbove, last_id, marker_of, filled_list};
 ghost use Rattle.numeric_ranges.specs.Values.{are_mixed};
-ghost use Rattle.numeric_ranges.specs.Rows.{Knows, AreHalves, AreFilled};
+ghost use Rattle.numeric_ranges.specs.Rows.{Knows, AreHalves, AreFilled, flags_from};
 
-use crate::cut::cut_of;
+use crate::cut::parts_of;
 use crate::row::Row;
 use ft_base::NoMemory;
 use inverted_list::{List, Marker, Markers};
@@ -30,12 +30,12 @@ pub(crate) fn halves_of(
     ensures twice { markers.new.next ≤ markers.old.next + 2 }
 {
     let entries = entries_with(&row.list, id, hit)?;
-    let cut = cut_of(alloc, entries.as_slice())?;
+    let parts = parts_of(alloc, entries.as_slice())?;
     let first = next_marker(markers)?;
     let second = next_marker(markers)?;
     let left = Row::new(alloc, row.low, first);
-    let right = Row::new(alloc, cut, second);
-    filled(left, right, entries.as_slice())
+    let right = Row::new(alloc, parts.cut, second);
+    filled(left, right, entries.as_slice(), parts.flags.as_slice())
 }
 
 /// The entries of a list, and one more behind them.
@@ -60,9 +60,15 @@ pub(crate) fn next_marker(markers: &mut Markers) -> Result<Marker, NoMemory>
     }
 }
 
-/// Two empty rows with the entries below the right one's low, and with those from it on.
-fn filled(left: Row, right: Row, entries: &[(u64, NumHit)]) -> Result<(Row, Row), NoMemory>
+/// Two empty rows with the entries below the right one's low, and with those from it on, as flags tell.
+fn filled(
+    left: Row,
+    right: Row,
+    entries: &[(u64, NumHit)],
+    flags: &[bool],
+) -> Result<(Row, Row), NoMemory>
     requires rises { RisesAbove 0 entries.now }
+    requires flags { flags.now ≡ flags_from right.low entries.now }
     requires left { left.list ≡ filled_list left.list.marker [] }
     requires right { right.list ≡ filled_list right.list.marker [] }
     requires knows_left { Knows left.spread left.list.entries }
@@ -71,13 +77,14 @@ fn filled(left: Row, right: Row, entries: &[(u64, NumHit)]) -> Result<(Row, Row)
 {
     let mut below = left;
     let mut above = right;
-    let cut = above.low;
+    let mut i = 0;
     'entries: for (id, hit) in entries {
-        if hit.value < cut {
-            below.push(*id, hit)?;
-        } else {
+        if flags[i] {
             above.push(*id, hit)?;
+        } else {
+            below.push(*id, hit)?;
         }
+        i += 1;
     }
     Ok((below, above))
 }

@@ -2,7 +2,7 @@
 use Rattle.std.proofs.Common.{◌≡◌, ℕ, ℤ, ◌<◌, ◌≤◌, Bool, true, false, not, ◌&&◌, List, [], ◌∷◌, ◌++◌, map, length, Option, Some, None, refl, sym, ap, ◌∙◌, subst, arith}
 use Rattle.std.specs.Prelude.{IfOk, Result, int_le, negsuc, pos}
 use Rattle.std.specs.List.{list_all, list_any}
-use Rattle.std.proofs.Math.Bool.{and-true, or-false}
+use Rattle.std.proofs.Math.Bool.{and-true}
 use Rattle.std.proofs.lemmas.Bool.{le-leb}
 use Rattle.std.proofs.lemmas.List.{map-append}
 use Rattle.std.proofs.lemmas.List.Folds.{list_all-map}
@@ -21,18 +21,18 @@ use Rattle.id_iters.specs.Entries.{codes_at, phrase_has, stand_together}
 use Rattle.id_iters.specs.Held.{Held, codes_of}
 use Rattle.id_iters.specs.Leaves.{list_has, phrase_ids, word_entries}
 use Rattle.id_iters.specs.Named.{Named, lies_at}
-use Rattle.id_iters.specs.Ready.{Ready}
 use Rattle.id_iters.specs.declared.list_name.ListName.{ListName}
 use Rattle.id_iters.specs.declared.list_name.ListName.TheVariants as names
 use Rattle.id_iters.specs.declared.phrase.PhraseIter.{PhraseIter}
 use Rattle.phrase_match.specs.Phrase.{within}
 use Rattle.query_merge.specs.Merged.{AreParts}
 use Rattle.query_plan.specs.Asked.{asked_of_each}
-use Rattle.list_plan.specs.Plans.{AllReady, Joins, ids_of, some_has}
-use Rattle.query_plan.specs.Plans.{AllTell, Tells}
+use Rattle.list_plan.specs.Parts.{IsAny, IsEvery, part_has}
+use Rattle.list_plan.specs.Plans.{some_has}
+use Rattle.query_plan.specs.Plans.{AllTell, TellTogether, Tells}
 use Rattle.query_plan.specs.Phrases.{AreOfWords}
 use Rattle.query_plan.specs.Sought.{all_sought, section_of, words_with}
-use Rattle.list_plan.specs.declared.size.Planned.{Planned}
+use Rattle.list_plan.specs.declared.parts.Part.{Part}
 use Rattle.query_plan.proofs.AnyLaws.{any_cong}
 use Rattle.query_plan.proofs.AskedLaws.{section_as}
 use Rattle.query_plan.proofs.TagLaws.{kept_sought}
@@ -136,46 +136,52 @@ module _ (def : IndexDef) (held : Held) (named : Named) where
           ∙ sym (any_filter_and (λ (field : Field). has_phrase [] slop in_order (field_tokens def doc field)) has_words (fields_named def looked))
 
   -- what is told of a query is told of one that is the same
-  pub tells_same : {E : Type 0} (whole query : Query) (made : Result Planned E) → whole ≡ query
-      → IfOk made (λ planned. Tells def held named (λ doc. holds query def doc) (ids_of held planned))
-      → IfOk made (λ planned. Tells def held named (λ doc. holds whole def doc) (ids_of held planned))
+  pub tells_same : {E : Type 0} (whole query : Query) (made : Result Part E) → whole ≡ query
+      → IfOk made (λ part. Tells def held named (λ doc. holds query def doc) (part_has held part))
+      → IfOk made (λ part. Tells def held named (λ doc. holds whole def doc) (part_has held part))
   tells_same {E} whole query made is tells =
-      subst (λ (q : Query). IfOk made (λ planned. Tells def held named (λ doc. holds q def doc) (ids_of held planned))) (sym is) tells
+      subst (λ (q : Query). IfOk made (λ part. Tells def held named (λ doc. holds q def doc) (part_has held part))) (sym is) tells
+
+  -- a set of the same ids tells the same
+  pub tells_as : (test : Doc → Bool) (ids others : ℕ → Bool) → ((id : ℕ) → others id ≡ ids id) → Tells def held named test ids → Tells def held named test others
+  tells_as test ids others same tells = record { at = λ docs doc are among. same doc.id ∙ tells.at docs doc are among }
 
   -- ---- parts made of others
 
   -- of equal parts one is planned, as the others change neither what all of them ask nor what some of them does
-  pub every_tells : (queries kept : List Query) (whole : Query) (plans : List Planned) (ids : ℕ → Bool) → whole ≡ query.And queries
-      → AreParts queries kept → AllTell def held named kept plans
-      → ((id : ℕ) → ids id ≡ list_all (λ planned. ids_of held planned id) plans) → Tells def held named (λ doc. holds whole def doc) ids
-  every_tells queries kept whole plans ids is are_parts tell set = record {
-    at = λ docs doc are among.
-        set doc.id
-        ∙ sym (list_all-map (λ b. b) (λ planned. ids_of held planned doc.id) plans)
+  pub together : (queries kept : List Query) (parts : List Part) → AreParts queries kept → AllTell def held named kept parts → TellTogether def held named queries parts
+  together queries kept parts are_parts tell = record {
+    every = λ docs doc are among.
+        sym (list_all-map (λ b. b) (λ part. part_has held part doc.id) parts)
         ∙ ap (list_all (λ b. b)) (tell.at docs doc are among)
         ∙ list_all-map (λ b. b) (λ q. holds q def doc) kept
-        ∙ are_parts.every (λ q. holds q def doc)
+        ∙ are_parts.every (λ q. holds q def doc);
+    some = λ docs doc are among.
+        sym (any_map (λ b. b) (λ part. part_has held part doc.id) parts)
+        ∙ ap (list_any (λ b. b)) (tell.at docs doc are among)
+        ∙ any_map (λ b. b) (λ q. holds q def doc) kept
+        ∙ are_parts.some (λ q. holds q def doc);
+  }
+
+  pub every_tells : (queries : List Query) (whole : Query) (parts : List Part) (made : Part) → whole ≡ query.And queries
+      → TellTogether def held named queries parts → IsEvery parts made → Tells def held named (λ doc. holds whole def doc) (part_has held made)
+  every_tells queries whole parts made is tell every = record {
+    at = λ docs doc are among.
+        every.set held doc.id
+        ∙ tell.every docs doc are among
         ∙ sym (holds-And (has_of def doc) queries)
         ∙ ap (λ q. holds q def doc) (sym is);
   }
 
-  pub some_tells : (queries kept : List Query) (whole : Query) (plans : List Planned) (made : Planned) → whole ≡ query.Or queries
-      → AreParts queries kept → AllTell def held named kept plans
-      → Joins plans (made ∷ []) → Tells def held named (λ doc. holds whole def doc) (ids_of held made)
-  some_tells queries kept whole plans made is are_parts tell joins = record {
+  pub some_tells : (queries : List Query) (whole : Query) (parts : List Part) (made : Part) → whole ≡ query.Or queries
+      → TellTogether def held named queries parts → IsAny parts made → Tells def held named (λ doc. holds whole def doc) (part_has held made)
+  some_tells queries whole parts made is tell any = record {
     at = λ docs doc are among.
-        sym (or-false (ids_of held made doc.id))
-        ∙ joins.set held doc.id
-        ∙ sym (any_map (λ b. b) (λ planned. ids_of held planned doc.id) plans)
-        ∙ ap (list_any (λ b. b)) (tell.at docs doc are among)
-        ∙ any_map (λ b. b) (λ q. holds q def doc) kept
-        ∙ are_parts.some (λ q. holds q def doc)
+        any.set held doc.id
+        ∙ tell.some docs doc are among
         ∙ sym (holds-Or (has_of def doc) queries)
         ∙ ap (λ q. holds q def doc) (sym is);
   }
-
-  pub some_ready : (plans : List Planned) (made : Planned) (from : ℕ) → Joins plans (made ∷ []) → AllReady held plans from → Ready held made.iter from
-  some_ready plans made from joins all = (joins.ready held from all).0
 
   pub none_tells : (whole : Query) (ids : ℕ → Bool) → whole ≡ query.Empty → ids ≡ (λ id. false) → Tells def held named (λ doc. holds whole def doc) ids
   none_tells whole ids is same = record {
@@ -208,14 +214,14 @@ module _ (def : IndexDef) (held : Held) (named : Named) where
   pub none_tell : AllTell def held named [] []
   none_tell = record { at = λ docs doc are among. refl }
 
-  pub one_more_tells : (queries more : List Query) (one : Query) (plans new : List Planned) (planned : Planned)
-      → more ≡ queries ++ one ∷ [] → new ≡ plans ++ planned ∷ []
-      → AllTell def held named queries plans → Tells def held named (λ doc. holds one def doc) (ids_of held planned) → AllTell def held named more new
-  one_more_tells queries more one plans new planned is_more is_new tell tells = record {
+  pub one_more_tells : (queries more : List Query) (one : Query) (parts new : List Part) (part : Part)
+      → more ≡ queries ++ one ∷ [] → new ≡ parts ++ part ∷ []
+      → AllTell def held named queries parts → Tells def held named (λ doc. holds one def doc) (part_has held part) → AllTell def held named more new
+  one_more_tells queries more one parts new part is_more is_new tell tells = record {
     at = λ docs doc are among.
-        ap (map (λ p. ids_of held p doc.id)) is_new
+        ap (map (λ p. part_has held p doc.id)) is_new
         ∙ map-append _ _ _
-        ∙ ap (λ xs. xs ++ ids_of held planned doc.id ∷ []) (tell.at docs doc are among)
+        ∙ ap (λ xs. xs ++ part_has held part doc.id ∷ []) (tell.at docs doc are among)
         ∙ ap (λ b. map (λ q. holds q def doc) queries ++ b ∷ []) (tells.at docs doc are among)
         ∙ sym (ap (map (λ q. holds q def doc)) is_more ∙ map-append _ _ _);
   }

@@ -28,14 +28,12 @@ abbrev pub passes : {X : Type 0} → (X → Bool) → Option X → Bool
 passes test None = false
 passes test (Some x) = test x
 
--- whether a query asks neither for a word or a prefix nor for what other queries find
-abbrev pub asks_other_step : layer.Query-F Bool → Bool
-asks_other_step (layer.Word fields text) = false
-asks_other_step (layer.Prefix fields text) = false
-asks_other_step (layer.And parts) = false
-asks_other_step (layer.Or parts) = false
-asks_other_step (layer.Not part) = false
-asks_other_step other = true
+-- whether a query asks nothing of what other queries find; an optional one finds all, whatever its part finds
+abbrev pub single_step : layer.Query-F Bool → Bool
+single_step (layer.And parts) = false
+single_step (layer.Or parts) = false
+single_step (layer.Not part) = false
+single_step other = true
 
-abbrev pub asks_other : Query → Bool
-asks_other = fold-Query Bool asks_other_step
+abbrev pub is_single : Query → Bool
+is_single = fold-Query Bool single_step

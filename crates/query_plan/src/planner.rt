@@ -51,6 +51,7 @@ pub fn plan<T: Lists, L: Ledger>(
         after,
         room: Room::new(),
     };
-    let planned = plan_part(&sources, query, steps)?;
+    let part = plan_part(&sources, query, steps)?;
+    let planned = part.whole(alloc)?;
     Ok(planned.iter)
 }

@@ -72,7 +72,8 @@ fn run_held<R: Wait>(
     lines_of(alloc, name_of(exit), output.as_slice())
 }
 
-fn lines_of(alloc: Global, end: &[u8], output: &[u8]) -> Result<Vec<Vec<u8>>, NoMemory> {
+/// The lines of a link's row: how the run ends, and all that was written.
+pub fn lines_of(alloc: Global, end: &[u8], output: &[u8]) -> Result<Vec<Vec<u8>>, NoMemory> {
     let mut lines = Vec::new(alloc);
     lines.push(Vec::from_slice(alloc, end)?)?;
     lines.push(Vec::from_slice(alloc, output)?)?;
@@ -92,7 +93,8 @@ fn link_of(alloc: Global, words: &[Vec<u8>]) -> Result<MemLink, NoMemory> {
     )
 }
 
-fn calls_of(alloc: Global, call: u64) -> Result<ListOfCalls, NoMemory> {
+/// The one call that fails.
+pub fn calls_of(alloc: Global, call: u64) -> Result<ListOfCalls, NoMemory> {
     let mut calls = ListOf::new(alloc);
     calls.push(call)?;
     Ok(calls)
@@ -121,13 +123,14 @@ fn put_pieces(
     Ok(())
 }
 
-// The number at a place, 0 where there is none.
-fn number(words: &[Vec<u8>], place: usize) -> u64 {
+/// The number at a place, 0 where there is none.
+pub fn number(words: &[Vec<u8>], place: usize) -> u64 {
     let number = words.get(place).and_then(|word| read_int(word.as_slice()));
     u64::try_from(number.unwrap_or(0)).unwrap_or(0)
 }
 
-fn name_of(exit: Exit) -> &'static [u8] {
+/// An end as a row has it.
+pub fn name_of(exit: Exit) -> &'static [u8] {
     match exit {
         Exit::Done => b"Done",
         Exit::CutShort => b"CutShort",

@@ -5,10 +5,12 @@
 //! these numbers, with `{}` in its words and its reply replaced by the number. A word with braces may stand for
 //! many words, or for a long one: `spread.rt` says how. `@ N` is the moment, in milliseconds, of each command
 //! behind it. Each session is run twice: over a link in memory, and over one that holds back what is written, as
-//! the program has it. A line that begins with `~` or `~~` is a link of its own: `links.rt` has these. Each row that
-//! is answered otherwise is told, and the last line counts them.
+//! the program has it. A line that begins with `~` or `~~` is a link of its own: `links.rt` has these. One that begins with
+//! `?` or `$` is a command line: `command_lines.rt` has these. Each row that is answered otherwise is told, and the last
+//! line counts them.
 #![tactic(auto)]
 
+mod command_lines;
 mod links;
 mod spread;
 
@@ -126,6 +128,24 @@ fn take_line<R: Wait>(
     }
     match line.strip_prefix("~ ") {
         Some(row) => links::judge(rt, alloc, hashing, row, false, tally),
+        None => take_other(rt, alloc, hashing, line, session, tally),
+    }
+}
+
+// Runs a command line's row, and else takes the line as one of the session.
+fn take_other<R: Wait>(
+    rt: &R,
+    alloc: Global,
+    hashing: RandomState,
+    line: &str,
+    session: &mut Session,
+    tally: &mut Tally,
+) -> Result<(), NoMemory> {
+    if let Some(row) = line.strip_prefix("? ") {
+        return command_lines::judge_form(alloc, row, tally);
+    }
+    match line.strip_prefix("$ ") {
+        Some(row) => command_lines::judge_run(rt, alloc, hashing, row, tally),
         None => take_session_line(alloc, line, session),
     }
 }

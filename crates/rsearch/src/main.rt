@@ -1,5 +1,6 @@
-//! The program: `rsearch script` answers the requests of standard input on standard output, and
-//! `rsearch serve PORT WORKERS` answers connections at a port of 127.0.0.1 by so many threads.
+//! The program: `rsearch script` answers the requests of standard input on standard output, `rsearch load SEED DOCS`
+//! executes a load and sums up its replies, and `rsearch serve PORT WORKERS` answers connections at a port of 127.0.0.1 by so
+//! many threads.
 //!
 //! `main` only makes the ports of the system, of `system_ports`, and calls `run` of `ft_server` or `serve` of
 //! `worker_pool`, which carry the promise of the whole.
@@ -219,7 +220,7 @@ fn end(rt: &HostRuntime, exit: Exit) -> ExitCode
     ensures { exit_status result ≡ status_of exit }
 {
     if exit == Exit::Usage {
-        let _ = eprintln!(rt; "usage: rsearch script | serve PORT WORKERS");
+        let _ = eprintln!(rt; "usage: rsearch script | load SEED DOCS | serve PORT WORKERS");
     }
     ExitCode::from(exit.status())
 }

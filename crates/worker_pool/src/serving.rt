@@ -66,6 +66,7 @@ fn refusal(alloc: Global, words: &[String]) -> Option<Exit>
     match read_words(alloc, words) {
         Ok(Form::Serve { .. }) => None,
         Ok(Form::Script) => Some(Exit::Usage),
+        Ok(Form::Load { .. }) => Some(Exit::Usage),
         Err(WordFault::Usage) => Some(Exit::Usage),
         Err(WordFault::NoMemory) => Some(Exit::NoMemory),
     }

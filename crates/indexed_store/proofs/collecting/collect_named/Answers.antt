@@ -1,5 +1,6 @@
-use Rattle.std.specs.Prelude.{Option, OnOk, IfSome}
-use Rattle.std.proofs.Common.{ap, subst, sym}
+use Rattle.std.specs.Prelude.{◌≡◌, true, Option, OnOk, IfSome, refl, slice_index_or}
+use Rattle.std.specs.Str.{bytes_eq}
+use Rattle.std.proofs.Common.{ap, subst, sym, ◌∙◌}
 use Rattle.std.proofs.Math.Seq.{map-set_same}
 use Rattle.ft_index.specs.Index.{Index}
 use Rattle.ft_index.proofs.ComingLaws.{came-prepared}
@@ -7,6 +8,8 @@ use Rattle.indexed_store.specs.Collecting.{IsClean}
 use Rattle.indexed_store.specs.DefinitionsOf.{defined}
 use Rattle.indexed_store.specs.Named.{is_named}
 use Rattle.indexed_store.proofs.CollectingLaws.{in_step-collected}
+use Rattle.indexed_store.proofs.ListedLaws.{found-passes, placed-others}
+use Rattle.indexed_store.proofs.RepairingLaws.{found-at}
 use Rattle.indexed_store.proofs.MovingLaws.{moves-one, moves_same}
 use Rattle.indexed_store.proofs.NamedLaws.{none-taken, one-set, place-is}
 use Rattle.indexed_store.proofs.collecting.collect_named.Goals as goal
@@ -39,3 +42,13 @@ returns-clause-moves c =
     moves-one c.args.event c.args.indexes.now c.in-Some.place was c.collect.new.self
     (place-is (is_named c.args.name.now) c.args.indexes.now c.in-Some.place (sym c.in-Some.ensures)).1
     (came-prepared c.args.event _ c.collect.new.self (ap (λ (index : Index). index.def) lists) (ap (λ (index : Index). index.table.live) lists) c.collect.ensures.comes)
+
+pub returns-in_default-clause-others : goal.returns-in_default-clause-others
+returns-in_default-clause-others c other apart = refl
+
+pub returns-clause-others : goal.returns-clause-others
+returns-clause-others c other apart =
+    let was : Index = slice_index_or c.args.indexes.now c.in-Some.place c.index-indexes-place.result in
+    let named : is_named c.args.name.now was ≡ true = found-passes (is_named c.args.name.now) c.args.indexes.now was (found-at (is_named c.args.name.now) c.args.indexes.now c.in-Some.place c.index-indexes-place.result (sym c.in-Some.ensures)) in
+    let same : is_named c.args.name.now c.collect.new.self ≡ true = ap (λ (index : Index). bytes_eq c.args.name.now index.def.name) c.collect.ensures.lists ∙ named in
+    placed-others c.args.indexes.now c.args.name.now other c.in-Some.place c.index-indexes-place.result c.collect.new.self (sym c.in-Some.ensures) same apart

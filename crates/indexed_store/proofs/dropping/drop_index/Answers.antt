@@ -1,6 +1,8 @@
 use Rattle.std.proofs.Common.{◌∙◌, ap, arith, subst, sym}
 use Rattle.std.specs.Prelude.{List, length}
 use Rattle.ft_index.specs.Index.{Index}
+use Rattle.indexed_store.specs.Listed.{lists_at}
+use Rattle.indexed_store.proofs.ListedLaws.{without-at}
 use Rattle.indexed_store.specs.Moving.{IndexesMove}
 use Rattle.indexed_store.proofs.MovingLaws.{moves-others}
 use Rattle.indexed_store.specs.DefinitionsOf.{definitions_of}
@@ -19,3 +21,6 @@ returns-clause-fewer c = omega (arith, ap length c.take_index.ensures.others, ot
 
 pub returns-clause-moves : goal.returns-clause-moves
 returns-clause-moves c event = subst (λ (xs : List Index). IndexesMove event c.args.indexes.now.items xs) (sym c.take_index.ensures.others) (moves-others event c.args.indexes.now.items c.args.name.now)
+
+pub returns-clause-lists : goal.returns-clause-lists
+returns-clause-lists c other apart = ap (lists_at other) c.take_index.ensures.others ∙ without-at c.args.indexes.now.items c.args.name.now other apart

@@ -7,6 +7,8 @@ use Rattle.indexed_store.specs.DefinitionsOf.{definitions_of}
 use Rattle.indexed_store.specs.Standing.{InStep}
 use Rattle.indexed_store.proofs.DroppingLaws.{in_step-others, members-removed, no-members}
 use Rattle.indexed_store.proofs.NamedLaws.{others-defined, others-fewer}
+use Rattle.indexed_store.specs.Listed.{lists_at}
+use Rattle.indexed_store.proofs.ListedLaws.{keep-at, without-at}
 use Rattle.indexed_store.specs.Moving.{IndexesMove}
 use Rattle.indexed_store.proofs.MovingLaws.{moves-again, moves-others}
 use Rattle.indexed_store.proofs.dropping.drop_members.Goals as goal
@@ -58,3 +60,12 @@ returns-in-Some-clause-moves c event =
 
 pub returns-in_default-clause-moves : goal.returns-in_default-clause-moves
 returns-in_default-clause-moves c event = subst (λ (xs : List Index). IndexesMove event c.args.indexes.now.items xs) (sym c.take_index.ensures.others) (moves-others event c.args.indexes.now.items c.args.name.now)
+
+pub returns-in-Some-clause-lists : goal.returns-in-Some-clause-lists
+returns-in-Some-clause-lists c other apart =
+    ap (lists_at other) (take_at c.remove_live.new.indexes (drop (length c.remove_live.new.indexes) c.take_index.new.indexes.items) c.take_index.new.indexes.len (omega (arith, c.remove_live.auto.indexes, c.as_mut_slice.ensures.len)))
+    ∙ (keep-at other c.as_mut_slice.result.now c.remove_live.new.indexes c.remove_live.ensures.lists
+    ∙ (ap (lists_at other) (c.as_mut_slice.ensures.value ∙ c.take_index.ensures.others) ∙ without-at c.args.indexes.now.items c.args.name.now other apart))
+
+pub returns-in_default-clause-lists : goal.returns-in_default-clause-lists
+returns-in_default-clause-lists c other apart = ap (lists_at other) c.take_index.ensures.others ∙ without-at c.args.indexes.now.items c.args.name.now other apart

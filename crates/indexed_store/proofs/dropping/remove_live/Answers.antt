@@ -21,6 +21,7 @@ removing-preserved c =
       rest = rest-after c.args.store.now c.removing.store c.remove_id.new.store c.removing.invariant.rest c.remove_id.ensures.rest;
       kept = λ next step. c.remove_id.ensures.kept next (c.removing.invariant.kept next step);
       definitions = c.remove_id.ensures.definitions ∙ c.removing.invariant.definitions;
+      lists = c.remove_id.ensures.lists ∙ c.removing.invariant.lists;
       moves = λ event. moves-again event event c.args.indexes.now c.removing.indexes c.remove_id.new.indexes (omega arith) (c.removing.invariant.moves event) (c.remove_id.ensures.moves event);
     }
 

@@ -1,6 +1,7 @@
 use Rattle.std.specs.Prelude.{◌≡◌, ℕ, fold, map, length}
 use Rattle.indexed_store.specs.DefinitionsOf.{definitions_of}
 use Rattle.hash_store.specs.Erasing.{erase_id}
+use Rattle.indexed_store.specs.Listed.{KeepLists}
 use Rattle.indexed_store.specs.Moving.{IndexesMove}
 use Rattle.indexed_store.specs.Standing.{InStep}
 use Rattle.indexed_store.proofs.dropping.remove_live.Given as goal
@@ -12,6 +13,7 @@ invariant-removing l = record {
   rest : l.store ≡ record l.fn.store { space = l.store.space };
   kept : (next : ℕ) → InStep l.fn.store l.fn.indexes next → InStep l.store l.indexes next;
   definitions : definitions_of l.indexes ≡ definitions_of l.fn.indexes;
+  lists : KeepLists l.fn.indexes l.indexes;
   moves : (event : ℕ) → IndexesMove event l.fn.indexes l.indexes;
 }
 

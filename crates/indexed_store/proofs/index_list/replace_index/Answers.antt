@@ -1,4 +1,4 @@
-use Rattle.std.specs.Prelude.{ℕ, List, position}
+use Rattle.std.specs.Prelude.{◌≡◌, ℕ, List, position, refl}
 use Rattle.std.proofs.Common.{◌∙◌, ap, sym, subst}
 use Rattle.ft_base.specs.declared.definition.IndexDef.{IndexDef}
 use Rattle.indexed_store.specs.Named.{is_named}
@@ -8,6 +8,9 @@ use Rattle.indexed_store.specs.Standing.{InStep, IndexStands, markers_at}
 use Rattle.indexed_store.proofs.ApartLaws.{apart-set}
 use Rattle.indexed_store.proofs.IndexingLaws.{all-set}
 use Rattle.indexed_store.proofs.NamedLaws.{place-is, replaced-none, replaced-one}
+use Rattle.std.proofs.lemmas.Slice.Eq.{bytes_eq-Decides}
+use Rattle.indexed_store.specs.Listed.{lists_at}
+use Rattle.indexed_store.proofs.ListedLaws.{placed-others}
 use Rattle.indexed_store.specs.Moving.{IndexesMove}
 use Rattle.indexed_store.proofs.MovingLaws.{moves-placed, moves_same}
 use Rattle.indexed_store.proofs.index_list.replace_index.Goals as goal
@@ -40,3 +43,12 @@ returns-in-Some-clause-moves c event fresh =
 
 pub returns-in_default-clause-moves : goal.returns-in_default-clause-moves
 returns-in_default-clause-moves c event fresh = moves_same event c.args.indexes.now
+
+pub returns-in-Some-clause-lists : goal.returns-in-Some-clause-lists
+returns-in-Some-clause-lists c other apart =
+    let found = ap (λ (name : List ℕ). position (is_named name) c.args.indexes.now) (sym (c.as_slice.ensures ∙ ap (λ (d : IndexDef). d.name) c.def.ensures.def)) ∙ (sym c.place_of.ensures ∙ c.in-Some.is) in
+    ap (lists_at other) c.put.ensures
+    ∙ placed-others c.args.indexes.now c.args.index.def.name other c.in-Some.place c.args.index c.args.index found ((bytes_eq-Decides c.args.index.def.name c.args.index.def.name).1 refl) apart
+
+pub returns-in_default-clause-lists : goal.returns-in_default-clause-lists
+returns-in_default-clause-lists c other apart = refl

@@ -12,6 +12,8 @@ use Rattle.indexed_store.proofs.ApartLaws.{apart-prepared}
 use Rattle.indexed_store.proofs.IndexingLaws.{all-set, prepared, set-above, set-below, stands-later}
 use Rattle.ft_index.proofs.ComingLaws.{came-prepared}
 use Rattle.ft_index.specs.Coming.{ListsCome}
+use Rattle.indexed_store.specs.Listed.{unentered}
+use Rattle.indexed_store.proofs.ListedLaws.{entered-one}
 use Rattle.indexed_store.proofs.MovingLaws.{moves-again, moves-one}
 use Rattle.indexed_store.proofs.indexes.prepare_all.Goals as goal
 
@@ -64,6 +66,9 @@ loop-index-preserved g c =
           (λ j e above there. stands-later g.space c.args.doc.now.id c.args.doc.now.id c.loop-index.markers c.prepare.new.markers (slice_index_or c.loop-index.indexes j e) (omega arith) later (c.loop-index.invariant.left j e (omega (arith, above)) there)) k d (omega (arith, more)) short;
       definitions = map-set_same defined c.loop-index.indexes at c.prepare.new.self c.index-item.result (same_defined (slice_index_or c.loop-index.indexes c.loop-index.index-index c.index-item.result) c.prepare.new.self c.prepare.ensures.def c.prepare.ensures.failures)
           ∙ c.loop-index.invariant.definitions;
+      enters = map-set_same (unentered c.args.doc.now) c.loop-index.indexes at c.prepare.new.self c.index-item.result
+          (entered-one c.args.doc.now _ (slice_index_or c.loop-index.indexes c.loop-index.index-index c.index-item.result) c.prepare.new.self c.prepare.ensures.def c.in_ok-prepare.ensures.ready c.in_ok-prepare.ensures.others)
+          ∙ c.loop-index.invariant.enters;
       apart = apart-prepared c.loop-index.indexes at c.index-item.result c.prepare.new.self c.loop-index.markers c.prepare.new.markers within c.prepare.ensures.gains
           (λ k d short. elim (le_or_lt at k) [ inl more ↦ (c.loop-index.invariant.left k d more short).before | inr less ↦ (c.loop-index.invariant.done k d less).0.before ]) c.loop-index.invariant.apart;
       event = c.prepare.ensures.event ∙ c.loop-index.invariant.event;

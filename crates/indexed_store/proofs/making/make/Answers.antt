@@ -4,7 +4,11 @@ use Rattle.ft_base.specs.Docs.{Doc}
 use Rattle.ft_index.specs.Index.{Index}
 use Rattle.ft_machine.specs.Definitions.{Defined, index_of, without_index, without_members}
 use Rattle.indexed_store.specs.DefinitionsOf.{definitions_of}
-use Rattle.std.specs.Prelude.{◌≡◌, ◌+◌, ◌++◌, ◌∷◌, [], None}
+use Rattle.std.specs.Prelude.{◌≡◌, ◌+◌, ◌++◌, ◌∷◌, [], None, ℕ, false, true, drop, length}
+use Rattle.std.specs.Str.{bytes_eq}
+use Rattle.std.proofs.lemmas.List.{take_at}
+use Rattle.indexed_store.specs.Listed.{lists_at, touches}
+use Rattle.indexed_store.proofs.ListedLaws.{keep-at, lent-lists, more-at}
 use Rattle.std.specs.List.{All}
 use Rattle.ft_machine.specs.Step.{next_number}
 use Rattle.cursor_book.specs.declared.cursor.Cursor.{Cursor}
@@ -85,3 +89,30 @@ pub returns-in_default-clause-moves : goal.returns-in_default-clause-moves
 returns-in_default-clause-moves c =
     moves-whole c.args.number c.args.indexes.now.items c.as_mut_slice-in_default.result.now c.args.indexes.now.items c.make_documents.new.indexes c.args.indexes.now.len
     (omega (arith, c.make_documents.auto.indexes, c.as_mut_slice-in_default.ensures.len)) c.as_mut_slice-in_default.ensures.value c.make_documents.ensures.moves
+
+pub returns-in-Create-clause-lists : goal.returns-in-Create-clause-lists
+returns-in-Create-clause-lists c name apart =
+    let other = sym (ap (λ (change : Change). touches change name) c.in-Create.is) ∙ apart in
+    ap (lists_at name) (c.push_index.ensures.items ∙ ap (λ (i : Index). c.args.indexes.now.items ++ i ∷ []) c.into_inner.ensures) ∙ more-at name c.args.indexes.now.items c.in-Create.index other
+
+pub returns-in-Alter-clause-lists : goal.returns-in-Alter-clause-lists
+returns-in-Alter-clause-lists c name apart =
+    let other = sym (ap (λ (change : Change). touches change name) c.in-Alter.is) ∙ apart in
+    let now = c.replace_index.new.indexes in
+    ap (lists_at name) (take_at now (drop (length now) c.args.indexes.now.items) c.args.indexes.now.len (omega (arith, c.replace_index.auto.indexes, c.as_mut_slice.ensures.len)))
+    ∙ (c.replace_index.ensures.lists name (ap (λ (i : Index). bytes_eq name i.def.name) c.into_inner-in-Alter.ensures ∙ other) ∙ ap (lists_at name) c.as_mut_slice.ensures.value)
+
+pub returns-in-Drop-clause-lists : goal.returns-in-Drop-clause-lists
+returns-in-Drop-clause-lists c name apart = c.drop_with_cursors.ensures.lists name (sym (ap (λ (change : Change). touches change name) c.in-Drop.is) ∙ apart)
+
+pub returns-in-DropMembers-clause-lists : goal.returns-in-DropMembers-clause-lists
+returns-in-DropMembers-clause-lists c name apart = c.drop_members.ensures.lists name (sym (ap (λ (change : Change). touches change name) c.in-DropMembers.is) ∙ apart)
+
+pub returns-in-Flush-clause-lists : goal.returns-in-Flush-clause-lists
+returns-in-Flush-clause-lists c name apart = let always : true ≡ false = sym (ap (λ (change : Change). touches change name) c.in-Flush.is) ∙ apart in cc (always)
+
+pub returns-in_default-clause-lists : goal.returns-in_default-clause-lists
+returns-in_default-clause-lists c name apart =
+    keep-at name c.args.indexes.now.items _
+    (lent-lists c.args.indexes.now.items c.as_mut_slice-in_default.result.now c.args.indexes.now.items c.make_documents.new.indexes c.args.indexes.now.len
+    (omega (arith, c.make_documents.auto.indexes, c.as_mut_slice-in_default.ensures.len)) c.as_mut_slice-in_default.ensures.value c.make_documents.ensures.lists)

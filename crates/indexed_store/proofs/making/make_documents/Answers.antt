@@ -36,3 +36,6 @@ returns-in-EraseKeys-clause-moves c = c.remove_all.ensures.moves c.args.number
 
 pub returns-in_default-clause-moves : goal.returns-in_default-clause-moves
 returns-in_default-clause-moves c = moves_same c.args.number c.args.indexes.now
+
+pub returns-in_default-clause-lists : goal.returns-in_default-clause-lists
+returns-in_default-clause-lists c = refl

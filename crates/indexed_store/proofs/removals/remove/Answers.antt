@@ -6,6 +6,8 @@ use Rattle.ft_base.specs.Space.{erase}
 use Rattle.indexed_store.specs.Standing.{InStep}
 use Rattle.indexed_store.specs.DefinitionsOf.{definitions_of}
 use Rattle.indexed_store.proofs.StepLaws.{definitions-killed, in_step-absent, in_step-erased, rest-same}
+use Rattle.indexed_store.specs.Listed.{KeepLists}
+use Rattle.indexed_store.proofs.ListedLaws.{keep-killed}
 use Rattle.indexed_store.specs.Moving.{IndexesMove}
 use Rattle.indexed_store.proofs.MovingLaws.{moves-killed, moves_same}
 use Rattle.indexed_store.proofs.removals.remove.Goals as goal
@@ -35,3 +37,6 @@ returns-in-Some-clause-moves c event = subst (λ (xs : List Index). IndexesMove 
 
 pub returns-in_default-clause-moves : goal.returns-in_default-clause-moves
 returns-in_default-clause-moves c event = moves_same event c.args.indexes.now
+
+pub returns-in-Some-clause-lists : goal.returns-in-Some-clause-lists
+returns-in-Some-clause-lists c = subst (KeepLists c.args.indexes.now) (sym c.kill_all.ensures) (keep-killed c.in-Some.id c.args.indexes.now)

@@ -9,5 +9,6 @@ loop-i-preserved c = record {
   rest = rest-after c.args.store.now c.loop-i.store c.remove.new.store c.loop-i.invariant.rest c.remove.ensures.rest;
   kept = λ next step. c.remove.ensures.kept next (c.loop-i.invariant.kept next step);
   definitions = c.remove.ensures.definitions ∙ c.loop-i.invariant.definitions;
+  lists = c.remove.ensures.lists ∙ c.loop-i.invariant.lists;
   moves = λ event. moves-again event event c.args.indexes.now c.loop-i.indexes c.remove.new.indexes (omega arith) (c.loop-i.invariant.moves event) (c.remove.ensures.moves event);
 }

@@ -1,4 +1,5 @@
 use Rattle.std.specs.Prelude.{◌≡◌, ℕ, drop}
+use Rattle.indexed_store.specs.Listed.{KeepLists}
 use Rattle.indexed_store.specs.Moving.{IndexesMove}
 use Rattle.indexed_store.specs.Standing.{InStep}
 use Rattle.indexed_store.specs.DefinitionsOf.{definitions_of}
@@ -12,5 +13,6 @@ invariant-loop-i l = record {
   rest : l.store ≡ record l.initial.store { space = l.store.space };
   kept : (next : ℕ) → InStep l.initial.store l.initial.indexes next → InStep l.store l.indexes next;
   definitions : definitions_of l.indexes ≡ definitions_of l.initial.indexes;
+  lists : KeepLists l.initial.indexes l.indexes;
   moves : (event : ℕ) → IndexesMove event l.initial.indexes l.indexes;
 }

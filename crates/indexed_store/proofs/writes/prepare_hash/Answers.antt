@@ -1,8 +1,10 @@
+use Rattle.std.specs.Prelude.{OnOk}
 use Rattle.std.proofs.Common.{◌<◌, length, refl, subst, sym}
 use Rattle.ft_base.specs.Docs.{Doc}
 use Rattle.ft_meaning.specs.Meaning.{ValuesFit}
 use Rattle.indexed_store.specs.Standing.{InStep}
 use Rattle.indexed_store.proofs.StepLaws.{in_step-later}
+use Rattle.indexed_store.specs.Listed.{EntersDoc}
 use Rattle.indexed_store.specs.Moving.{IndexesMove}
 use Rattle.indexed_store.proofs.writes.prepare_hash.Goals as goal
 
@@ -24,3 +26,6 @@ prepare_write-requires c =
 
 pub returns-clause-moves : goal.returns-clause-moves
 returns-clause-moves c = subst (λ (doc : Doc). IndexesMove doc.id c.args.indexes.now c.prepare_write.new.indexes) c.in_ok-doc.ensures c.prepare_write.ensures.moves
+
+pub returns-clause-enters : goal.returns-clause-enters
+returns-clause-enters c = subst (λ (doc : Doc). OnOk c.prepare_write.result (EntersDoc doc c.args.indexes.now c.prepare_write.new.indexes)) c.in_ok-doc.ensures c.prepare_write.ensures.enters

@@ -1,7 +1,9 @@
 use Rattle.std.proofs.Common.{◌∙◌, ap, subst, sym}
 use Rattle.std.specs.Prelude.{List}
 use Rattle.ft_index.specs.Index.{Index}
+use Rattle.indexed_store.specs.Listed.{KeepLists}
 use Rattle.indexed_store.specs.Moving.{IndexesMove}
+use Rattle.indexed_store.proofs.ListedLaws.{keep-settled}
 use Rattle.indexed_store.proofs.MovingLaws.{moves-settled}
 use Rattle.indexed_store.specs.DefinitionsOf.{definitions_of}
 use Rattle.indexed_store.proofs.StepLaws.{all-settled, settled-step}
@@ -21,3 +23,6 @@ returns-clause-moves c =
     subst (λ (xs : List Index). IndexesMove c.args.number c.args.indexes.now xs) (sym c.commit_all.ensures)
     (moves-settled c.args.put c.args.number c.args.store.now.space c.args.store.now.ready c.commit_put-replaced.result c.args.indexes.now c.requires.waits
     c.requires.kept.stand)
+
+pub returns-clause-lists : goal.returns-clause-lists
+returns-clause-lists c = subst (KeepLists c.args.indexes.now) (sym c.commit_all.ensures) (keep-settled c.commit_put-replaced.result c.args.indexes.now)

@@ -1,4 +1,6 @@
-use Rattle.std.proofs.Common.{List, ap, arith, refl, true, subst, sym, ◌∙◌}
+use Rattle.std.proofs.Common.{List, ap, arith, inl, inr, refl, true, subst, sym, ◌∙◌}
+use Rattle.indexed_store.specs.declared.change.Change.{Change}
+use Rattle.ft_engine.specs.Preparing.{EntersAsSaid}
 use Rattle.cmd_parse.specs.Reading.{command_of}
 use Rattle.ft_base.specs.Docs.{Doc}
 use Rattle.indexed_store.specs.Holding.{state_of}
@@ -38,3 +40,13 @@ pub returns-then-self-ge-LAST_NUMBER-clause-moves : goal.returns-then-self-ge-LA
 returns-then-self-ge-LAST_NUMBER-clause-moves c =
     let is = c.answer_last.ensures.pending in
     moves-still c.args.self.now c.answer_last.new.self (omega (arith, ap (λ (e : Stands). e.next) is)) (ap (λ (e : Stands). e.indexes) is)
+
+pub returns-then-self-ge-LAST_NUMBER-clause-still : goal.returns-then-self-ge-LAST_NUMBER-clause-still
+returns-then-self-ge-LAST_NUMBER-clause-still c =
+    subst (λ (change : Change). EntersAsSaid c.args.command change c.args.self.now c.answer_last.new.reply.bytes c.answer_last.new.self) (sym c.answer_last.ensures.nothing)
+    (inr (inl (ap (λ (e : Stands). e.indexes) c.answer_last.ensures.pending)))
+
+pub returns-clause-still : goal.returns-clause-still
+returns-clause-still c =
+    subst (λ (e : Stands). EntersAsSaid c.args.command c.begin_command.result e c.begin_command.new.reply.bytes (stands_of c.begin_command.new.held c.self.inside.next true)) c.self.view_is
+    c.begin_command.ensures.prepares.enters

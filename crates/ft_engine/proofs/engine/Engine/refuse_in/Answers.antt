@@ -41,3 +41,6 @@ returns-clause-moves c =
       next = c.end.ensures.later;
       indexes = moves-kept inside.next inside.held.indexes c.end.new.self.indexes same;
     })
+
+pub returns-clause-lists : goal.returns-clause-lists
+returns-clause-lists c = ap (λ (e : Stands). e.indexes) c.end.ensures.ended ∙ (ap (λ (h : Holding). h.indexes) c.begin.ensures ∙ ap (λ (e : Stands). e.indexes) c.self.view_is)

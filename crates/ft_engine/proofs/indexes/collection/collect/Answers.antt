@@ -27,7 +27,7 @@ pub returns-in-Ok-clause-prepares : goal.returns-in-Ok-clause-prepares
 returns-in-Ok-clause-prepares c =
     let held = c.args.held.now in
     let known = named-known held.indexes (definitions_of held.indexes) c.word-name.result.now c.index_named.result refl c.index_named.ensures ∙ (c.is_none.ensures ∙ ap not c.if-is_none.false) in
-    prepares-collected c.args.args.now held _ _ c.in-Ok.ensures.stays
+    prepares-collected c.args.args.now held _ _ c.word-name.result.now c.word-name.ensures c.in-Ok.ensures.clean c.collect.ensures.others c.in-Ok.ensures.stays
     (collect-done c.args.args.now held.next (state_of held) _ (ap (λ (w : List ℕ). is_some (index_of (definitions_of held.indexes) w)) (sym c.word-name.ensures) ∙ known) (done_written _ c.set_short.ensures.bytes))
 
 pub returns-in-Ok-clause-collects : goal.returns-in-Ok-clause-collects

@@ -1,4 +1,4 @@
-use Rattle.std.proofs.Common.{◌∙◌, ap, subst, sym, arith, length, List, ℕ, [], refl, rules}
+use Rattle.std.proofs.Common.{◌∙◌, ap, subst, sym, arith, length, List, ℕ, [], refl, inl, inr}
 use Rattle.std.specs.Prelude.{is_some}
 use Rattle.std.proofs.lemmas.List.{length-map}
 use Rattle.std.specs.List.{All}
@@ -41,7 +41,7 @@ returns-in-Ok-clause-prepares c =
         subst (All (AreApart c.in-Ok.index)) (sym c.in-Ok.ensures.indexes) made.apart,
         made.given,
       );
-      still = search rules;
+      enters = inr (inl c.in-Ok.ensures.indexes);
     }
 
 pub returns-in-Err-clause-prepares : goal.returns-in-Err-clause-prepares

@@ -1,4 +1,4 @@
-use Rattle.std.proofs.Common.{◌∙◌, ap, sym, arith, List, ℕ, [], refl, rules}
+use Rattle.std.proofs.Common.{◌∙◌, ap, sym, arith, List, ℕ, [], refl, inl, inr}
 use Rattle.std.specs.Prelude.{is_some, not}
 use Rattle.ft_machine.specs.Definitions.{index_of}
 use Rattle.ft_engine.proofs.IndexCommandLaws.{drop-one, drop-two, drop-unknown, named-known, prepares-stays, stays-same}
@@ -23,7 +23,7 @@ returns-then-len-eq1-clause-prepares c =
           (omega (arith, c.len.ensures, c.if-len-eq1.true)) c.word-name.ensures (ok_written [] _ refl c.set_short.ensures.bytes);
       stays = stays-same held;
       ready = known;
-      still = search rules;
+      enters = inr (inl refl);
     }
 
 pub returns-clause-prepares : goal.returns-clause-prepares
@@ -35,5 +35,5 @@ returns-clause-prepares c =
           (omega (arith, c.len.ensures, c.if-len-eq1.false, c.requires.words.0)) c.word-name.ensures (ok_written [] _ refl c.set_short.ensures.bytes);
       stays = stays-same held;
       ready = known;
-      still = search rules;
+      enters = inr (inl refl);
     }

@@ -14,6 +14,6 @@ returns c = record {
       (told-of c.args.index.now c.def.result.now c.lists.result.now c.info_reply.result c.docs.result c.in-Some.records c.failures.result c.args.cursors c.def.ensures.def c.lists.ensures c.docs.ensures c.failures.ensures.count c.in-Some.ensures.least
       c.info_reply.ensures.reply)
       (entries-of c.args.index.now c.def.result.now c.lists.result.now c.info_reply.result (record { docs = c.docs.result; records = c.in-Some.records; failures = c.failures.result; cursors = c.args.cursors }) c.def.ensures.def c.lists.ensures
-      c.in-Some.ensures.some c.info_reply.ensures.reply)
+      c.in-Some.ensures.some c.in-Some.ensures.exact c.info_reply.ensures.reply)
       c.info_reply.ensures.fits;
 }

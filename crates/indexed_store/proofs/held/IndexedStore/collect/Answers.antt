@@ -1,5 +1,7 @@
 use Rattle.std.specs.Prelude.{◌≡◌, ◌+◌, ◌++◌, drop, length, refl, take}
 use Rattle.std.proofs.Common.{◌∙◌, ap, arith, subst}
+use Rattle.indexed_store.proofs.RepairingLaws.{lent-back}
+use Rattle.indexed_store.specs.Listed.{OthersKeep}
 use Rattle.std.proofs.lemmas.List.{take_at}
 use Rattle.indexed_store.proofs.ChangingLaws.{lent-step, whole-step}
 use Rattle.indexed_store.proofs.CursorsLaws.{book-until}
@@ -39,3 +41,10 @@ returns-clause-stays c =
       next = omega arith;
       moves = moves-whole in_.next items c.as_mut_slice.result.now items now in_.indexes.len whole c.as_mut_slice.ensures.value c.collect_named.ensures.moves;
     })
+
+pub returns-clause-others : goal.returns-clause-others
+returns-clause-others c =
+    let now = c.collect_named.new.indexes in
+    let whole : length now ≡ c.self.inside.indexes.len = omega (arith, c.collect_named.auto.indexes, c.as_mut_slice.ensures.len) in
+    lent-back (OthersKeep c.args.name.now) c.args.self.now.indexes c.self.inside.indexes.items
+    c.as_mut_slice.result.now now c.self.inside.indexes.len whole c.as_mut_slice.ensures.value (ap (λ (h : Holding). h.indexes) c.self.view_is) c.collect_named.ensures.others

@@ -1,7 +1,7 @@
 use Rattle.std.proofs.Common.{arith, ◌<◌, ◌≤◌, ◌∙◌, length, take, drop, sym, ap, subst, cond, ◌++◌, ◌∷◌, []}
 use Rattle.posting_block.specs.Rising.{last_id}
 use Rattle.gc_splice.proofs.KeepLaws.{stands_before, at_entry, some_entry, above_kept, room_kept, before_next, place_next, alive_more}
-use Rattle.gc_splice.proofs.keep.keep_live.Goals as goal
+use Rattle.gc_splice.proofs.keep.keep_in.Goals as goal
 
 pub next-requires : goal.next-requires
 next-requires g c = (drop c.entries.index c.args.block.now, stands_before g.P.Payload.spelled c.args.block.now c.entries.index c.entries.at c.entries.before c.entries.invariant.1 c.entries.invariant.2)

@@ -2,7 +2,7 @@ use Rattle.std.proofs.Common.{◌≡◌, take, length}
 use Rattle.posting_block.specs.Rising.{last_id}
 use Rattle.posting_block.specs.Spelled.{spelling}
 use Rattle.gc_splice.specs.Alive.{alive}
-use Rattle.gc_splice.proofs.keep.keep_live.Given as goal
+use Rattle.gc_splice.proofs.keep.keep_in.Given as goal
 
 abbrev pub invariant-entries : goal.invariant-entries
 invariant-entries g l = (l.kept ≡ alive (g.L.Live.is l.live) (take l.index l.block))
