@@ -4,14 +4,19 @@
 Of each crate of crates.txt: it stands behind those that it names, and has a README, a `//!` head in its root file, and a
 row of docs/ARCHITECTURE.md with the same first sentence. Of each clause that a README or docs/PROMISES.md names: that the
 named source has it. Of docs/DEFINITIONS.md: that it says to believe just the definitions that the program's clause
-reaches. Of docs/DECISIONS.md: that its table of what calls itself has just what does. Of docs/WRONG_BODIES.md: that it is
-what tools/wrong_bodies.py writes. Of the gate: that it keeps within its budget of wrong bodies and proved tests, since
-each costs it 10 to 40 seconds. Of the sources: the lengths of files and functions. Prints the figures, then each fault.
+reaches. Of docs/DECISIONS.md: that its table of what calls itself has just what does. Of each wrong body: that it says
+what it does and what refuses it. Of the gate: that it keeps within its budget of wrong bodies and proved tests, since
+each costs it 10 to 40 seconds. Of the sources: the lengths of files and functions. Of the pages: that each path
+and link in them leads to something, that README, COMMANDS and CHANGELOG name each command, and that they stay short (check_pages.py).
+Prints the figures, then each fault.
 """
 import pathlib
 import re
 import subprocess
 import sys
+
+sys.dont_write_bytecode = True
+from check_pages import check_pages
 
 # What the gate may cost, in what it is made of.
 MOST_EDITS = 16
@@ -319,7 +324,8 @@ def main():
     check_named_clauses(pathlib.Path("docs/PROMISES.md"), lambda call: call.split("::", 1), faults)
     check_definitions(faults)
     check_calls(faults)
-    told = subprocess.run([sys.executable, "tools/wrong_bodies.py", "--check"], capture_output=True, text=True)
+    check_pages(faults)
+    told = subprocess.run([sys.executable, "tools/proof/wrong_bodies.py", "--check"], capture_output=True, text=True)
     faults += told.stdout.splitlines()
     sources = [path for path in tracked() if path.suffix in (".rt", ".antt", ".py", ".sh")]
     edits, tests = check_budget([path for path in sources if path.suffix == ".rt"], faults)

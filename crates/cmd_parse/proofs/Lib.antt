@@ -6,6 +6,7 @@ pub mod CursorExamples
 pub mod CursorLaws
 pub mod Examples
 pub mod ExpressionLaws
+pub mod FitLaws
 pub mod LoopLaws
 pub mod OptionLaws
 pub mod OptionsLaws

@@ -9,7 +9,8 @@ use Rattle.cmd_parse.specs.LawfulSearch.{IsLawfulSearch}
 use Rattle.cmd_parse.specs.declared.command.Verb.{Verb}
 use Rattle.cmd_parse.specs.declared.command.Verb.TheVariants.{Ping, Echo, Select, Quit, Hset, Hsetnx, Hget, Hmget, Hgetall, Hdel, Hlen, Hexists, Hincrby, Hkeys, Hvals, Del, Exists, TypeOf, Dbsize, Rename, Flushall, DropIndex, ListIndexes, Info, TagVals, Debug}
 use Rattle.cmd_parse.specs.declared.table.Form.{Form}
-use Rattle.cmd_parse.specs.declared.table.Form.TheVariants.{Between, AtLeast, InPairs}
+use Rattle.cmd_parse.specs.declared.table.Form.TheVariants.{Between, AtLeast, InPairs, Create, Alter}
+use Rattle.cmd_parse.specs.declared.table.Form.TheVariants as form
 
 -- how many arguments a verb has
 abbrev pub LawfulNumber : Verb → ℕ → Type 0
@@ -46,7 +47,11 @@ abbrev pub IsLawfulForm : Form → Type 0
 IsLawfulForm (Between verb least most) = (n : ℕ) → least ≤ n + 1 → n + 1 ≤ most → LawfulNumber verb n
 IsLawfulForm (AtLeast verb least) = (n : ℕ) → least ≤ n + 1 → LawfulNumber verb n
 IsLawfulForm (InPairs verb least) = (n : ℕ) → least ≤ n + 1 → (n + 1) % 2 ≡ 0 → LawfulNumber verb n
-IsLawfulForm _ = Unit {0}
+IsLawfulForm (Create least) = 5 ≤ least
+IsLawfulForm (Alter least) = 6 ≤ least
+IsLawfulForm (form.Search least) = 3 ≤ least
+IsLawfulForm (form.Aggregate least) = 3 ≤ least
+IsLawfulForm (form.Cursor least) = 4 ≤ least
 
 -- HINCRBY's increment is a number
 abbrev pub HasNumber : Verb → List (List ℕ) → Type 0

@@ -8,6 +8,7 @@ pub mod Asking
 pub mod Commands
 pub mod Cursor
 pub mod Filters
+pub mod Fits
 pub mod Given
 pub mod Gives
 pub mod Lawful

@@ -1,6 +1,6 @@
 -- What a command asks, in the order of refusals: an unknown name, a wrong number of words,
 -- and the first fault of the words from the left. An index that is created has a serial, which is not among the words.
-use Rattle.std.specs.Prelude.{ℕ, ℤ, pos, suc, List, [], ◌∷◌, length, Bool, Option, Some, None, Result, Ok, Err, codes, is_none, ◌&&◌, ◌||◌, ◌==◌, ◌%◌, nat_le, slice_index_or, false, if◌then◌else◌}
+use Rattle.std.specs.Prelude.{ℕ, ℤ, pos, suc, List, [], ◌∷◌, length, Bool, Option, Some, None, Result, Ok, Err, codes, is_none, ◌||◌, nat_le, slice_index_or, false, if◌then◌else◌}
 use Rattle.std.specs.Ordering.{int_eq}
 use Rattle.ft_base.specs.Names.{is_name}
 use Rattle.ft_base.specs.Number.{int_of}
@@ -10,7 +10,7 @@ use Rattle.ft_schema.specs.Schema.{alter, create}
 use Rattle.ft_schema.specs.declared.fault.SchemaFault.{SchemaFault}
 use Rattle.cmd_parse.specs.Aggregating.{Aggregating, aggregate}
 pub use Rattle.cmd_parse.specs.Asked.{Asked, Plain, CreateIndex, AlterIndex, Search, Aggregate, CursorRead, CursorDel}
-use Rattle.cmd_parse.specs.Commands.{form_of}
+use Rattle.cmd_parse.specs.Commands.{fits, form_of}
 use Rattle.cmd_parse.specs.Cursor.{cursor}
 use Rattle.cmd_parse.specs.Searching.{Searching, search}
 use Rattle.cmd_parse.specs.declared.command.Verb.{Verb}
@@ -75,20 +75,21 @@ abbrev pub aggregated : Result Aggregating CmdFault → Result Asked CmdFault
 aggregated (Ok what) = Ok (Aggregate what)
 aggregated (Err fault) = Err fault
 
+-- a command of this form and of a lawful number of words, which are its name and arguments
+abbrev pub asked_as : Form → ℕ → List ℕ → List (List ℕ) → Result Asked CmdFault
+asked_as (Between verb least most) serial name args = plain verb args
+asked_as (AtLeast verb least) serial name args = plain verb args
+asked_as (InPairs verb least) serial name args = plain verb args
+asked_as (Create least) serial name args = created (create (name ∷ args) serial)
+asked_as (Alter least) serial name args = altered (slice_index_or args 0 []) (alter (name ∷ args))
+asked_as (form.Search least) serial name args = searched (search (name ∷ args))
+asked_as (form.Aggregate least) serial name args = aggregated (aggregate (name ∷ args))
+asked_as (form.Cursor least) serial name args = cursor (name ∷ args)
+
 -- a command of this form, whose words are its name and arguments
 abbrev pub read_as : Option Form → ℕ → List ℕ → List (List ℕ) → Result Asked CmdFault
 read_as None serial name args = Err Unknown
-read_as (Some (Between verb least most)) serial name args =
-    if nat_le least (suc (length args)) && nat_le (suc (length args)) most then plain verb args else Err Arity
-read_as (Some (AtLeast verb least)) serial name args = if nat_le least (suc (length args)) then plain verb args else Err Arity
-read_as (Some (InPairs verb least)) serial name args =
-    if nat_le least (suc (length args)) && (suc (length args) % 2 == 0) then plain verb args else Err Arity
-read_as (Some Create) serial name args = if nat_le 5 (suc (length args)) then created (create (name ∷ args) serial) else Err Arity
-read_as (Some Alter) serial name args =
-    if nat_le 6 (suc (length args)) then altered (slice_index_or args 0 []) (alter (name ∷ args)) else Err Arity
-read_as (Some form.Search) serial name args = searched (search (name ∷ args))
-read_as (Some form.Aggregate) serial name args = aggregated (aggregate (name ∷ args))
-read_as (Some form.Cursor) serial name args = if nat_le 4 (suc (length args)) then cursor (name ∷ args) else Err Arity
+read_as (Some form) serial name args = if fits form (suc (length args)) then asked_as form serial name args else Err Arity
 
 -- What the words of a command ask, where an index that it creates has this serial.
 abbrev pub read : ℕ → List (List ℕ) → Result Asked CmdFault
@@ -97,10 +98,10 @@ read serial (name ∷ args) = read_as (form_of name) serial name args
 
 -- whether words behind the name may want memory: those of a schema do, the options of a search, and the parts of an aggregate
 abbrev pub wants_memory : Option Form → List (List ℕ) → Bool
-wants_memory (Some Create) args = nat_le 5 (suc (length args))
-wants_memory (Some Alter) args = nat_le 6 (suc (length args))
-wants_memory (Some form.Search) args = nat_le 4 (suc (length args))
-wants_memory (Some form.Aggregate) args = nat_le 4 (suc (length args))
+wants_memory (Some (Create least)) args = nat_le least (suc (length args))
+wants_memory (Some (Alter least)) args = nat_le least (suc (length args))
+wants_memory (Some (form.Search least)) args = nat_le 4 (suc (length args))
+wants_memory (Some (form.Aggregate least)) args = nat_le 4 (suc (length args))
 wants_memory _ args = false
 
 -- whether words are read with memory

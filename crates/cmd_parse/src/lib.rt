@@ -18,6 +18,7 @@ mod aggregate_words;
 mod command;
 mod copied;
 mod cursor;
+mod fit;
 mod laws;
 mod option_names;
 mod option_words;
@@ -37,6 +38,8 @@ pub use aggregate_words::{CursorSpec, MAX_COUNT, MAX_IDLE};
 pub use command::{CmdFault, Command, Verb};
 /// What is true of the definitions, whatever code there is.
 pub use laws::trees_of_grammar;
+/// Whether a command's name is known and its number of words lawful.
+pub use fit::name_fit;
 /// A field's interval and a field to sort by, as FT.SEARCH asks them, and the limit of its window.
 pub use option_words::{FilterSpec, MAX_ROWS, SortSpec};
 /// Reads a command.

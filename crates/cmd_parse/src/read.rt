@@ -12,7 +12,7 @@ ghost use Rattle.ft_base.specs.declared.limits.TheConstants.{MAX_WORDS};
 use crate::command::{CmdFault, Command, Verb};
 use crate::copied::{aggregate, alter, create, search};
 use crate::cursor::read_cursor;
-use crate::table::{Form, form_of};
+use crate::table::{Form, fits, form_of};
 use ft_base::{Words, is_name, read_int};
 use std::alloc::Global;
 
@@ -52,17 +52,18 @@ fn read_as<'a>(
     ensures serial { IfOk result (λ command. HasSerial serial (command_of command)) }
     ensures asked { AreWords words.now → IfOk result (λ command. IsAsked (command_of command)) }
 {
-    let count = words.len();
+    if !fits(form, words.len()) {
+        return Err(CmdFault::Arity);
+    }
     match form {
-        Form::Between(verb, least, most) if least <= count && count <= most => plain(verb, words),
-        Form::AtLeast(verb, least) if least <= count => plain(verb, words),
-        Form::InPairs(verb, least) if least <= count && count % 2 == 0 => plain(verb, words),
-        Form::Create if 5 <= count => create(alloc, words, serial),
-        Form::Alter if 6 <= count => alter(alloc, words),
-        Form::Search if 3 <= count => search(alloc, words),
-        Form::Aggregate if 3 <= count => aggregate(alloc, words),
-        Form::Cursor if 4 <= count => read_cursor(words),
-        _ => Err(CmdFault::Arity),
+        Form::Between(verb, _, _) => plain(verb, words),
+        Form::AtLeast(verb, _) => plain(verb, words),
+        Form::InPairs(verb, _) => plain(verb, words),
+        Form::Create(_) => create(alloc, words, serial),
+        Form::Alter(_) => alter(alloc, words),
+        Form::Search(_) => search(alloc, words),
+        Form::Aggregate(_) => aggregate(alloc, words),
+        Form::Cursor(_) => read_cursor(words),
     }
 }
 

@@ -1,6 +1,6 @@
 //! The table of commands: every name, and what stands for it.
 ghost use Rattle.std.specs.Prelude.{◌≡◌, IfSome, map};
-ghost use Rattle.cmd_parse.specs.Commands.{form_in, form_of};
+ghost use Rattle.cmd_parse.specs.Commands.{fits, form_in, form_of};
 ghost use Rattle.cmd_parse.specs.Lawful.{IsLawfulForm};
 
 use crate::command::Verb;
@@ -15,16 +15,16 @@ pub enum Form {
     AtLeast(Verb, usize),
     /// The same where only even numbers are lawful.
     InPairs(Verb, usize),
-    /// FT.CREATE.
-    Create,
+    /// FT.CREATE, and likewise the others, of so many words or more.
+    Create(usize),
     /// FT.ALTER.
-    Alter,
+    Alter(usize),
     /// FT.SEARCH.
-    Search,
+    Search(usize),
     /// FT.AGGREGATE.
-    Aggregate,
+    Aggregate(usize),
     /// FT.CURSOR.
-    Cursor,
+    Cursor(usize),
 }
 
 /// What stands for a name, in any case; `None` where it is none.
@@ -54,15 +54,15 @@ pub fn form_of(name: &[u8]) -> Option<Form>
         (b"DBSIZE", Form::Between(Verb::Dbsize, 1, 1)),
         (b"RENAME", Form::Between(Verb::Rename, 3, 3)),
         (b"FLUSHALL", Form::Between(Verb::Flushall, 1, 2)),
-        (b"FT.CREATE", Form::Create),
-        (b"FT.ALTER", Form::Alter),
+        (b"FT.CREATE", Form::Create(5)),
+        (b"FT.ALTER", Form::Alter(6)),
         (b"FT.DROPINDEX", Form::Between(Verb::DropIndex, 2, 3)),
         (b"FT._LIST", Form::Between(Verb::ListIndexes, 1, 1)),
         (b"FT.INFO", Form::Between(Verb::Info, 2, 2)),
         (b"FT.TAGVALS", Form::Between(Verb::TagVals, 3, 3)),
-        (b"FT.SEARCH", Form::Search),
-        (b"FT.AGGREGATE", Form::Aggregate),
-        (b"FT.CURSOR", Form::Cursor),
+        (b"FT.SEARCH", Form::Search(3)),
+        (b"FT.AGGREGATE", Form::Aggregate(3)),
+        (b"FT.CURSOR", Form::Cursor(4)),
         (b"FT.DEBUG", Form::Between(Verb::Debug, 3, 3)),
     ];
     find(name, rows)
@@ -78,4 +78,20 @@ fn find(word: &[u8], rows: &[(&[u8], Form)]) -> Option<Form>
         }
     }
     None
+}
+
+/// Whether a command of this form may have so many words.
+pub fn fits(form: Form, count: usize) -> bool
+    ensures { result ≡ fits form count }
+{
+    match form {
+        Form::Between(_, least, most) => least <= count && count <= most,
+        Form::InPairs(_, least) => least <= count && count % 2 == 0,
+        Form::AtLeast(_, least) => least <= count,
+        Form::Create(least) => least <= count,
+        Form::Alter(least) => least <= count,
+        Form::Search(least) => least <= count,
+        Form::Aggregate(least) => least <= count,
+        Form::Cursor(least) => least <= count,
+    }
 }

@@ -33,6 +33,15 @@ use Rattle.query_lex.specs.declared.fault.LexFault.{LexFault}
 use Rattle.query_lex.specs.declared.lexeme.LexKind.TheVariants as kinds
 use Rattle.query_lex.specs.declared.lexeme.Lexeme.{Lexeme}
 use Rattle.query_lex.specs.declared.lexeme.Sign.TheVariants as signs
+use Rattle.ft_machine.specs.History.{Gone, Readings}
+use Rattle.history_core.specs.Entries.{Entry}
+
+-- the entries of a history that has commands alone, of which nothing else is read
+abbrev pub Command : Type 0
+Command = Entry (Unit {0}) (Unit {0}) (Unit {0})
+
+abbrev pub commands_alone : Readings (Unit {0}) (Unit {0}) (Unit {0})
+commands_alone = record { serial = λ snapshot. 0; live = λ snapshot id. false; pictures = λ snapshot name marker. false; became = λ answer. Gone }
 
 -- an index of a TEXT field
 abbrev pub create_words : List (List ℕ)

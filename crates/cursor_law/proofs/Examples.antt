@@ -28,8 +28,7 @@ use Rattle.ft_machine.specs.Step.{Answers, given, last_number, read_gives}
 use Rattle.ft_meaning.specs.Holds.{found_of, has_of, holds}
 use Rattle.ft_meaning.specs.Member.{members}
 use Rattle.history_core.specs.Histories.{Leads, number}
-use Rattle.history_core.specs.declared.entry.Entry.{Entry}
-use Rattle.history_core.specs.declared.entry.Entry.TheVariants.{Exec}
+use Rattle.history_core.specs.Entries.{Exec}
 use Rattle.ft_base.proofs.SpellingLaws.{spelling-Fault}
 use Rattle.cursor_law.specs.Given.{asked_by, docs_if, docs_of, first_read, given as given_by, given_at, read_at, read_from}
 use Rattle.cursor_law.specs.Law.{IdsRise, StaysHit}
@@ -40,7 +39,7 @@ use Rattle.cursor_law.proofs.HistoryLaws.{all-given, all-rise, whole-of}
 use Rattle.cursor_law.proofs.OpeningLaws.{Laws}
 use Rattle.cursor_law.proofs.PartLaws.{first-given}
 use Rattle.cursor_law.proofs.StepLaws.{array-is, asks-none, done-asks, mark, none-read}
-use Rattle.cursor_law.proofs.ExampleWords.{all-hold, create_asks, create_words, delete_asks, delete_words, index, open_asks, open_words, read_asks, read_words, set_asks, set_words, spec, star_answers, what, wide_asks, wide_spec, wide_what, wide_words}
+use Rattle.cursor_law.proofs.ExampleWords.{Command, commands_alone, all-hold, create_asks, create_words, delete_asks, delete_words, index, open_asks, open_words, read_asks, read_words, set_asks, set_words, spec, star_answers, what, wide_asks, wide_spec, wide_what, wide_words}
 
 -- ---- what is found
 
@@ -259,7 +258,7 @@ moved_stays = (
 )
 
 -- the history, which begins as the next two do
-abbrev begun : List Entry
+abbrev begun : List Command
 begun =
     Exec 0 0 create_words (spelling (Line (codes "OK")))
     ∷ Exec 0 0 (set_words a) (spelling (Number (pos 1)))
@@ -267,7 +266,7 @@ begun =
     ∷ Exec 0 0 open_words (spelling (one_row 4))
     ∷ []
 
-after_begun : (later : List Entry) (after : State) → Leads (MayFollow 1) begun (state (doc 2 a ∷ doc 3 b ∷ []) (open_at 2 ∷ []) 0) later after → IsLegal 1 (begun ++ later) after
+after_begun : (later : List Command) (after : State) → Leads (MayFollow commands_alone 1) begun (state (doc 2 a ∷ doc 3 b ∷ []) (open_at 2 ∷ []) 0) later after → IsLegal commands_alone 1 (begun ++ later) after
 after_begun later after leads = (
   state [] [] 0,
   (lit< tt, create_keeps, created),
@@ -290,7 +289,7 @@ earlier =
     ∷ record { number = 3; moment = 0; old = state (doc 2 a ∷ []) [] 0; words = set_words b; reply = spelling (Number (pos 1)); new = state (doc 2 a ∷ doc 3 b ∷ []) [] 0 }
     ∷ []
 
-abbrev moved_entries : List Entry
+abbrev moved_entries : List Command
 moved_entries =
     Exec 0 0 (set_words a) (spelling (Number (pos 0)))
     ∷ Exec 0 0 read_words (spelling (one_row 4))
@@ -298,7 +297,7 @@ moved_entries =
     ∷ Exec 0 0 read_words (spelling no_row)
     ∷ []
 
-moved_legal : IsLegal 1 (begun ++ moved_entries) (state (doc 3 b ∷ doc 5 a ∷ []) [] 0)
+moved_legal : IsLegal commands_alone 1 (begun ++ moved_entries) (state (doc 3 b ∷ doc 5 a ∷ []) [] 0)
 moved_legal = after_begun moved_entries (state (doc 3 b ∷ doc 5 a ∷ []) [] 0) (
   again.new,
   (lit< tt, set_keeps a (lit≤ tt) (lit≤ tt), gives (set_words a) 5 0 again.old (Plain Hset (a ∷ codes "t" ∷ codes "red" ∷ [])) (record { reply = Number (pos 0); after = again.new }) (lit< tt) (set_asks 5 a) refl),
@@ -317,14 +316,14 @@ moved_legal = after_begun moved_entries (state (doc 3 b ∷ doc 5 a ∷ []) [] 0
   ),
 )
 
-moved_steps : steps 1 (begun ++ moved_entries) (state (doc 3 b ∷ doc 5 a ∷ []) [] 0) moved_legal ≡ earlier ++ opening ∷ moved
+moved_steps : steps commands_alone 1 (begun ++ moved_entries) (state (doc 3 b ∷ doc 5 a ∷ []) [] 0) moved_legal ≡ earlier ++ opening ∷ moved
 unfolding moved_legal after_begun
 moved_steps = refl
 
 -- what the law says of it
 moved_law : Laws → IdsRise (given_by cursor opening moved) × (has_id 3 (given_by cursor opening moved) ≡ true)
 moved_law laws =
-    let whole = whole-of laws 1 (begun ++ moved_entries) (state (doc 3 b ∷ doc 5 a ∷ []) [] 0) moved_legal earlier moved opening cursor (lit< tt) moved_steps opens in
+    let whole = whole-of laws commands_alone 1 (begun ++ moved_entries) (state (doc 3 b ∷ doc 5 a ∷ []) [] 0) moved_legal earlier moved opening cursor (lit< tt) moved_steps opens in
     (all-rise cursor opening moved whole, all-given cursor opening moved whole 3 moved_stays)
 
 -- ---- a document is deleted, and does not come
@@ -368,10 +367,10 @@ deleted_misses = ap (has_id 3) deleted_given
 deleted_gone : has_id 3 (hits cursor only.old) ≡ false
 deleted_gone = ap (has_id 3) (all-match (doc 2 a ∷ []))
 
-abbrev deleted_entries : List Entry
+abbrev deleted_entries : List Command
 deleted_entries = Exec 0 0 (delete_words b) (spelling (Number (pos 1))) ∷ Exec 0 0 read_words (spelling no_row) ∷ []
 
-deleted_legal : IsLegal 1 (begun ++ deleted_entries) (state (doc 2 a ∷ []) [] 0)
+deleted_legal : IsLegal commands_alone 1 (begun ++ deleted_entries) (state (doc 2 a ∷ []) [] 0)
 deleted_legal = after_begun deleted_entries (state (doc 2 a ∷ []) [] 0) (
   delete.new,
   (lit< tt, delete_keeps, gives (delete_words b) 5 0 delete.old (Plain Del (b ∷ [])) (record { reply = Number (pos 1); after = delete.new }) (lit< tt) (delete_asks 5 b) refl),
@@ -382,13 +381,13 @@ deleted_legal = after_begun deleted_entries (state (doc 2 a ∷ []) [] 0) (
   ),
 )
 
-deleted_steps : steps 1 (begun ++ deleted_entries) (state (doc 2 a ∷ []) [] 0) deleted_legal ≡ earlier ++ opening ∷ deleted
+deleted_steps : steps commands_alone 1 (begun ++ deleted_entries) (state (doc 2 a ∷ []) [] 0) deleted_legal ≡ earlier ++ opening ∷ deleted
 unfolding deleted_legal after_begun
 deleted_steps = refl
 
 deleted_law : Laws → has_id 2 (given_by cursor opening deleted) ≡ true
 deleted_law laws =
-    all-given cursor opening deleted (whole-of laws 1 (begun ++ deleted_entries) (state (doc 2 a ∷ []) [] 0) deleted_legal earlier deleted opening cursor (lit< tt) deleted_steps opens) 2 deleted_stays
+    all-given cursor opening deleted (whole-of laws commands_alone 1 (begun ++ deleted_entries) (state (doc 2 a ∷ []) [] 0) deleted_legal earlier deleted opening cursor (lit< tt) deleted_steps opens) 2 deleted_stays
 
 -- ---- the cursor is idle before its end
 
@@ -404,17 +403,17 @@ late_never_ends id (hit, inl none) = let bad : ⊥ = cc in bad
 late_never_ends id (hit, inr (still, inl last)) = let none : None ≡ Some last.0 = last.1 in let bad : ⊥ = cc in bad
 late_never_ends id (hit, inr (still, inr more)) = more
 
-abbrev late_entries : List Entry
+abbrev late_entries : List Command
 late_entries = Exec 0 300001 read_words (spelling (Fault unknown_cursor)) ∷ []
 
-late_legal : IsLegal 1 (begun ++ late_entries) (state (doc 2 a ∷ doc 3 b ∷ []) [] 300001)
+late_legal : IsLegal commands_alone 1 (begun ++ late_entries) (state (doc 2 a ∷ doc 3 b ∷ []) [] 300001)
 late_legal = after_begun late_entries (state (doc 2 a ∷ doc 3 b ∷ []) [] 300001) (
   late.new,
   (lit< tt, read_keeps, gives read_words 5 300001 late.old (CursorRead (codes "ix") 4 None) (record { reply = Fault unknown_cursor; after = late.new }) (lit< tt) (read_asks 5) refl),
   refl,
 )
 
-late_steps : steps 1 (begun ++ late_entries) (state (doc 2 a ∷ doc 3 b ∷ []) [] 300001) late_legal ≡ earlier ++ opening ∷ late ∷ []
+late_steps : steps commands_alone 1 (begun ++ late_entries) (state (doc 2 a ∷ doc 3 b ∷ []) [] 300001) late_legal ≡ earlier ++ opening ∷ late ∷ []
 unfolding late_legal after_begun
 late_steps = refl
 
@@ -454,7 +453,7 @@ whole_given = ap (λ l. l ++ []) (first-given wide (Some index) 0 5 (doc 2 a ∷
 whole_stays : StaysHit wide 3 whole_opening []
 whole_stays = (hit 3 (doc 2 a ∷ doc 3 b ∷ []) [] 0 refl, inl refl)
 
-abbrev whole_entries : List Entry
+abbrev whole_entries : List Command
 whole_entries =
     Exec 0 0 create_words (spelling (Line (codes "OK")))
     ∷ Exec 0 0 (set_words a) (spelling (Number (pos 1)))
@@ -471,7 +470,7 @@ whole_read = gives wide_words 4 0 whole_opening.old (Aggregate wide_what) (recor
       same = sym (ap (λ found. opened_by 1 wide_spec 4 (body.Stream tree.All (Nothing, []) 0) (stream_part index (Nothing, []) 0 5 (stream_taken index (Nothing, []) 0 5 found)) whole_opening.old) (all-found (doc 2 a ∷ doc 3 b ∷ [])));
     })
 
-whole_legal : IsLegal 1 whole_entries whole_opening.new
+whole_legal : IsLegal commands_alone 1 whole_entries whole_opening.new
 whole_legal = (
   state [] [] 0,
   (lit< tt, create_keeps, created),
@@ -486,10 +485,10 @@ whole_legal = (
   ),
 )
 
-whole_steps : steps 1 whole_entries whole_opening.new whole_legal ≡ earlier ++ whole_opening ∷ []
+whole_steps : steps commands_alone 1 whole_entries whole_opening.new whole_legal ≡ earlier ++ whole_opening ∷ []
 unfolding whole_legal
 whole_steps = refl
 
 whole_law : Laws → has_id 3 (given_by wide whole_opening []) ≡ true
 whole_law laws =
-    all-given wide whole_opening [] (whole-of laws 1 whole_entries whole_opening.new whole_legal earlier [] whole_opening wide (lit< tt) whole_steps whole_opens) 3 whole_stays
+    all-given wide whole_opening [] (whole-of laws commands_alone 1 whole_entries whole_opening.new whole_legal earlier [] whole_opening wide (lit< tt) whole_steps whole_opens) 3 whole_stays

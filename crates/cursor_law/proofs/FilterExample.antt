@@ -42,14 +42,13 @@ use Rattle.ft_machine.specs.Parts.{behind, docs_taken, last_id, part, still_to_c
 use Rattle.ft_machine.specs.Step.{Answers}
 use Rattle.ft_machine.specs.Parts.{Part}
 use Rattle.cursor_book.specs.declared.cursor.Taken.TheVariants as taken
-use Rattle.history_core.specs.declared.entry.Entry.{Entry}
-use Rattle.history_core.specs.declared.entry.Entry.TheVariants.{Exec}
+use Rattle.history_core.specs.Entries.{Exec}
 use Rattle.cursor_law.specs.Given.{given as given_by}
 use Rattle.cursor_law.specs.Opens.{Opens}
 use Rattle.cursor_law.specs.Steps.{Step, steps}
 use Rattle.cursor_law.specs.StreamCursor.{StreamCursor, after_in, found_in, gives_row, has_id, hits_in}
 use Rattle.cursor_law.proofs.PartLaws.{first-given}
-use Rattle.cursor_law.proofs.ExampleWords.{create_words, index, set_words, star_answers}
+use Rattle.cursor_law.proofs.ExampleWords.{Command, commands_alone, create_words, index, set_words, star_answers}
 use Rattle.cursor_law.proofs.Examples.{a, all-found, answer, b, create_keeps, created, doc, earlier, gives, keeps, no_fault, set_a, set_b, set_keeps, state}
 
 -- a cursor over all documents whose `p` is a number other than 0
@@ -158,7 +157,7 @@ read_is = gives filter_words 4 0 opening.old (Aggregate what) (record { reply = 
           ∙ ap (λ part. opened_by 1 spec 4 (body.Stream query.All stream 0) part opening.old) part_is);
     })
 
-abbrev entries : List Entry
+abbrev entries : List Command
 entries =
     Exec 0 0 create_words (spelling (Line (codes "OK")))
     ∷ Exec 0 0 (set_words a) (spelling (Number (pos 1)))
@@ -166,7 +165,7 @@ entries =
     ∷ Exec 0 0 filter_words (spelling (answer [] 0))
     ∷ []
 
-legal : IsLegal 1 entries opening.new
+legal : IsLegal commands_alone 1 entries opening.new
 legal = (
   state [] [] 0,
   (lit< tt, create_keeps, created),
@@ -181,6 +180,6 @@ legal = (
   ),
 )
 
-its_steps : steps 1 entries opening.new legal ≡ earlier ++ opening ∷ []
+its_steps : steps commands_alone 1 entries opening.new legal ≡ earlier ++ opening ∷ []
 unfolding legal
 its_steps = refl

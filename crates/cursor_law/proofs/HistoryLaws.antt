@@ -4,10 +4,9 @@ use Rattle.std.specs.List.{AllByRecursion}
 use Rattle.std.proofs.lemmas.Bool.{ltb-false, ltb-true}
 use Rattle.history_core.proofs.GrowingLaws.{number_more}
 use Rattle.history_core.specs.Histories.{Leads, number}
-use Rattle.history_core.specs.declared.entry.Entry.{Entry}
-use Rattle.history_core.specs.declared.entry.Entry.TheVariants.{Exec}
+use Rattle.history_core.specs.Entries.{Entry, Exec, Scan, Splice}
 use Rattle.ft_base.specs.Docs.{Doc}
-use Rattle.ft_machine.specs.History.{IsLegal, MayFollow}
+use Rattle.ft_machine.specs.History.{IsLegal, MayFollow, Readings}
 use Rattle.ft_machine.specs.Machine.{State, empty_state}
 use Rattle.ft_machine.specs.Parts.{behind, last_id}
 use Rattle.ft_machine.specs.Step.{Answers, last_number, next_number}
@@ -22,7 +21,8 @@ use Rattle.cursor_law.proofs.OpeningLaws.{Laws, Opened, opening}
 use Rattle.cursor_law.proofs.PartLaws.{first-given, hits-up}
 use Rattle.cursor_law.proofs.ReadLaws.{DocsUp, all-taken, behind-up, doc_id, has-behind, has-left, has-low, has-right, has-taken, ids-rise, then-up}
 use Rattle.cursor_law.proofs.ReadingLaws.{left_of}
-use Rattle.cursor_law.proofs.StateLaws.{Sound}
+use Rattle.cursor_law.proofs.StateLaws.{Below, Sound, serial_of}
+use Rattle.cursor_book.specs.declared.cursor.Cursor.{Cursor}
 use Rattle.cursor_law.proofs.StepLaws.{Goes, step-goes, step-sound}
 
 -- ---- the steps of a history, one after another
@@ -30,22 +30,65 @@ use Rattle.cursor_law.proofs.StepLaws.{Goes, step-goes, step-sound}
 abbrev pub IsStep : Step → Type 0
 IsStep step = Answers step.words step.number step.moment step.old step.reply step.new
 
+-- Each step is from the state that the one before it led to. Scans and splices between two of them have numbers too.
 abbrev pub Chain : ℕ → State → List Step → Type 0
 Chain number state [] = Unit {0}
-Chain number state (step ∷ steps) = (step.number ≡ number) × (step.old ≡ state) × IsStep step × Chain (next_number number) step.new steps
+Chain number state (step ∷ steps) = (number ≤ step.number) × (step.number ≤ last_number) × (step.old ≡ state) × IsStep step × Chain (next_number step.number) step.new steps
 
-chain-of : (first : ℕ) (before : List Entry) (old : State) (entries : List Entry) (new : State) (legal : Leads (MayFollow first) before old entries new) → Chain (number first before) old (steps_from first before old entries new legal)
-chain-of first before old [] new legal = tt
-chain-of first before old (Exec caller moment words reply ∷ entries) new legal = (
-  refl,
-  refl,
-  legal.1.2,
-  subst (λ (n : ℕ). Chain n legal.0 (steps_from first (before ++ Exec caller moment words reply ∷ []) legal.0 entries new legal.2)) (sym (number_more first before (Exec caller moment words reply)))
-      (chain-of first (before ++ Exec caller moment words reply ∷ []) legal.0 entries new legal.2),
-)
+-- the steps behind a number are behind a lower one
+chain-lower : (low number : ℕ) (state : State) (steps : List Step) → low ≤ number → Chain number state steps → Chain low state steps
+chain-lower low number state [] le chain = tt
+chain-lower low number state (step ∷ steps) le chain = (omega (arith, le, chain.0), chain.1, chain.2, chain.3, chain.4)
+
+cut-below : (n top : ℕ) → min n top ≤ top
+cut-below n top = omega arith
+
+cut-more : (n top : ℕ) → min n top ≤ min (min n top + 1) top
+cut-more n top = omega arith
+
+module _ {K N A : Type 0} (readings : Readings K N A) where
+  -- an entry that is no step
+  past : (first : ℕ) (before : List (Entry K N A)) (entry : Entry K N A) (old mid : State) (entries : List (Entry K N A)) (new : State) (legal : Leads (MayFollow readings first) (before ++ entry ∷ []) mid entries new)
+      → mid ≡ old → Chain (number first (before ++ entry ∷ [])) mid (steps_from readings first (before ++ entry ∷ []) mid entries new legal)
+      → Chain (number first before) old (steps_from readings first (before ++ entry ∷ []) mid entries new legal)
+  past first before entry old mid entries new legal same chain =
+      let on : Chain (number first (before ++ entry ∷ [])) old (steps_from readings first (before ++ entry ∷ []) mid entries new legal) =
+      subst (λ (m : State). Chain (number first (before ++ entry ∷ [])) m (steps_from readings first (before ++ entry ∷ []) mid entries new legal)) same chain in
+      let more : number first before ≤ number first (before ++ entry ∷ []) =
+      subst (λ (n : ℕ). number first before ≤ n) (number_more first before entry) (cut-more (first + length before) last_number) in
+      chain-lower (number first before) (number first (before ++ entry ∷ [])) old (steps_from readings first (before ++ entry ∷ []) mid entries new legal) more on
+
+  chain-of : (first : ℕ) (before : List (Entry K N A)) (old : State) (entries : List (Entry K N A)) (new : State) (legal : Leads (MayFollow readings first) before old entries new)
+      → Chain (number first before) old (steps_from readings first before old entries new legal)
+  chain-of first before old [] new legal = tt
+  chain-of first before old (Exec caller moment words reply ∷ entries) new legal = (
+    omega arith,
+    cut-below (first + length before) last_number,
+    refl,
+    legal.1.2,
+    subst (λ (n : ℕ). Chain n legal.0 (steps_from readings first (before ++ Exec caller moment words reply ∷ []) legal.0 entries new legal.2)) (sym (number_more first before (Exec caller moment words reply)))
+        (chain-of first (before ++ Exec caller moment words reply ∷ []) legal.0 entries new legal.2),
+  )
+  chain-of first before old (Scan caller index result ∷ entries) new legal =
+      past first before (Scan caller index result) old legal.0 entries new legal.2 legal.1.0 (chain-of first (before ++ Scan caller index result ∷ []) legal.0 entries new legal.2)
+  chain-of first before old (Splice caller scan name answer ∷ entries) new legal =
+      past first before (Splice caller scan name answer) old legal.0 entries new legal.2 legal.1.0 (chain-of first (before ++ Splice caller scan name answer ∷ []) legal.0 entries new legal.2)
 
 next-below : (number top : ℕ) → min (number + 1) top ≤ top
 next-below number top = omega arith
+
+-- what is of numbers before one is of numbers before a later one
+ids-later : (low high : ℕ) (cursors : List Cursor) → low ≤ high → AllByRecursion (Below low) cursors → AllByRecursion (Below high) cursors
+ids-later low high [] le all = tt
+ids-later low high (cursor ∷ cursors) le all = (omega (arith, le, all.0), ids-later low high cursors le all.1)
+
+sound-later : (low high : ℕ) (state : State) → low ≤ high → Sound low state → Sound high state
+sound-later low high state le sound = record {
+  first = omega (arith, le, sound.first);
+  docs = up-higher doc_id 1 low high state.space le sound.docs;
+  serials = up-higher serial_of 0 low high state.definitions le sound.serials;
+  ids = ids-later low high state.cursors le sound.ids;
+}
 
 -- the step at a place
 pub record Stage (step : Step) (later : List Step) : Type 0 where
@@ -54,17 +97,19 @@ pub record Stage (step : Step) (later : List Step) : Type 0 where
   pub is : IsStep step
   pub behind : Chain (next_number step.number) step.new later
 
-stage-of : (cursor : StreamCursor) (number : ℕ) (state : State) (earlier later : List Step) (step : Step) → number ≤ last_number → Sound number state → Chain number state (earlier ++ step ∷ later) → Stage step later
-stage-of cursor number state [] later step below sound chain = record {
-  below = subst (λ (n : ℕ). n ≤ last_number) (sym chain.0) below;
-  sound = subst (λ (n : ℕ). Sound n step.old) (sym chain.0) (subst (λ (m : State). Sound number m) (sym chain.1) sound);
-  is = chain.2;
-  behind = subst (λ (n : ℕ). Chain (next_number n) step.new later) (sym chain.0) chain.3;
+stage-here : (number : ℕ) (state : State) (step : Step) (later : List Step) → Sound number state → Chain number state (step ∷ later) → Stage step later
+stage-here number state step later sound chain = record {
+  below = chain.1;
+  sound = sound-later number step.number step.old chain.0 (subst (λ (m : State). Sound number m) (sym chain.2) sound);
+  is = chain.3;
+  behind = chain.4;
 }
-stage-of cursor number state (x ∷ earlier) later step below sound chain =
-    let its : Answers x.words number x.moment state x.reply x.new =
-    subst (λ (n : ℕ). Answers x.words n x.moment state x.reply x.new) chain.0 (subst (λ (m : State). Answers x.words x.number x.moment m x.reply x.new) chain.1 chain.2) in
-    stage-of cursor (next_number number) x.new earlier later step (next-below number last_number) (step-sound cursor x.words number x.moment state x.reply x.new below its sound) chain.3
+
+stage-of : (cursor : StreamCursor) (number : ℕ) (state : State) (earlier later : List Step) (step : Step) → Sound number state → Chain number state (earlier ++ step ∷ later) → Stage step later
+stage-of cursor number state [] later step sound chain = stage-here number state step later sound chain
+stage-of cursor number state (x ∷ earlier) later step sound chain =
+    let here : Stage x (earlier ++ step ∷ later) = stage-here number state x (earlier ++ step ∷ later) sound chain in
+    stage-of cursor (next_number x.number) x.new earlier later step (step-sound cursor x.words x.number x.moment x.old x.reply x.new here.below here.is here.sound) here.behind
 
 -- ---- what the steps do of the cursor
 
@@ -82,19 +127,22 @@ Course cursor at (step ∷ steps) =
 later-id : (id number top : ℕ) → id < number → number ≤ top → id < top → id < min (number + 1) top
 later-id id number top lt le below = omega (arith, lt, le, below)
 
-course-of : (cursor : StreamCursor) (number : ℕ) (state : State) (steps : List Step) (at : Option ℕ) → number ≤ last_number → Sound number state → cursor.id < number → Chain number state steps → IsAt cursor state.cursors at → Course cursor at steps
-course-of cursor number state [] at below sound later chain is = tt
-course-of cursor number state (step ∷ steps) at below sound later chain is =
-    (up-higher doc_id 1 step.number last_number step.old.space here.below here.sound.docs, by (step-goes cursor step at here.is here.sound (subst (λ (n : ℕ). cursor.id < n) (sym chain.0) later) (subst (λ (m : State). IsAt cursor m.cursors at) (sym chain.1) is)) (λ next there. course-of cursor (next_number number) step.new steps next (next-below number last_number) sounds (later-id cursor.id number last_number later below (below-top cursor.id number last_number later below)) chain.3 there))
+course-of : (cursor : StreamCursor) (number : ℕ) (state : State) (steps : List Step) (at : Option ℕ) → Sound number state → cursor.id < number → Chain number state steps → IsAt cursor state.cursors at → Course cursor at steps
+course-of cursor number state [] at sound later chain is = tt
+course-of cursor number state (step ∷ steps) at sound later chain is =
+    (up-higher doc_id 1 step.number last_number step.old.space here.below here.sound.docs, by (step-goes cursor step at here.is here.sound now (subst (λ (m : State). IsAt cursor m.cursors at) (sym chain.2) is)) (λ next there. course-of cursor (next_number step.number) step.new steps next sounds (later-id cursor.id step.number last_number now here.below (below-top cursor.id step.number last_number now here.below)) here.behind there))
   where
     here : Stage step steps
-    here = stage-of cursor number state [] steps step below sound chain
+    here = stage-here number state step steps sound chain
+
+    now : cursor.id < step.number
+    now = omega (arith, later, chain.0)
 
     below-top : (id number top : ℕ) → id < number → number ≤ top → id < top
     below-top id number top lt le = omega (arith, lt, le)
 
-    sounds : Sound (next_number number) step.new
-    sounds = subst (λ (n : ℕ). Sound (next_number n) step.new) chain.0 (step-sound cursor step.words step.number step.moment step.old step.reply step.new here.below here.is here.sound)
+    sounds : Sound (next_number step.number) step.new
+    sounds = step-sound cursor step.words step.number step.moment step.old step.reply step.new here.below here.is here.sound
 
     Then : Option ℕ → Type 0
     Then next = (after_in cursor step.new ≡ next) × Moves cursor step at next × Course cursor next steps
@@ -247,33 +295,30 @@ pub record Whole (cursor : StreamCursor) (opening : Step) (later : List Step) : 
   pub course : Course cursor next later
   pub shows : ShowsRead cursor opening (first_read cursor)
 
-first-sound : (first : ℕ) → 0 < first → Sound (number {E = Entry} first []) empty_state
-first-sound first some = record { first = at-least first last_number some (omega arith); docs = tt; serials = tt; ids = tt }
+first-sound : {K N A : Type 0} (none : List (Entry K N A)) (first : ℕ) → 0 < first → Sound (number first none) empty_state
+first-sound none first some = record { first = at-least first (length none) last_number some (omega arith); docs = tt; serials = tt; ids = tt }
   where
-    at-least : (first top : ℕ) → 0 < first → 1 ≤ top → 1 ≤ min (first + 0) top
-    at-least first top some one = omega (arith, some, one)
+    at-least : (first more top : ℕ) → 0 < first → 1 ≤ top → 1 ≤ min (first + more) top
+    at-least first more top some one = omega (arith, some, one)
 
-first-below : (first top : ℕ) → min (first + 0) top ≤ top
-first-below first top = omega arith
-
-pub whole-of : Laws → (first : ℕ) (entries : List Entry) (after : State) (legal : IsLegal first entries after) (earlier later : List Step) (opening : Step) (cursor : StreamCursor)
-    → 0 < first → steps first entries after legal ≡ earlier ++ opening ∷ later → Opens cursor opening → Whole cursor opening later
-whole-of laws first entries after legal earlier later step cursor some split opens = record {
+pub whole-of : Laws → {K N A : Type 0} (readings : Readings K N A) (first : ℕ) (entries : List (Entry K N A)) (after : State) (legal : IsLegal readings first entries after) (earlier later : List Step) (opening : Step) (cursor : StreamCursor)
+    → 0 < first → steps readings first entries after legal ≡ earlier ++ opening ∷ later → Opens cursor opening → Whole cursor opening later
+whole-of laws {K} {N} {A} readings first entries after legal earlier later step cursor some split opens = record {
   docs = up-higher doc_id 1 step.number last_number step.old.space stage.below stage.sound.docs;
   next = next;
   there = after-is cursor step.new next opened.left;
   left = refl;
-  course = course-of cursor (next_number step.number) step.new later next (next-below step.number last_number)
+  course = course-of cursor (next_number step.number) step.new later next
       (step-sound cursor step.words step.number step.moment step.old step.reply step.new stage.below stage.is stage.sound)
       (opened-later cursor.id step.number last_number opens.id opens.number) stage.behind opened.left;
   shows = opened.shows;
 }
   where
-    chain : Chain (number {E = Entry} first []) empty_state (earlier ++ step ∷ later)
-    chain = subst (λ (l : List Step). Chain (number {E = Entry} first []) empty_state l) split (chain-of first [] empty_state entries after legal)
+    chain : Chain (number {E = Entry K N A} first []) empty_state (earlier ++ step ∷ later)
+    chain = subst (λ (l : List Step). Chain (number {E = Entry K N A} first []) empty_state l) split (chain-of readings first [] empty_state entries after legal)
 
     stage : Stage step later
-    stage = stage-of cursor (number {E = Entry} first []) empty_state earlier later step (first-below first last_number) (first-sound first some) chain
+    stage = stage-of cursor (number {E = Entry K N A} first []) empty_state earlier later step (first-sound {K = K} {N = N} {A = A} [] first some) chain
 
     opened : Opened cursor step
     opened = opening cursor step opens stage.sound laws stage.is

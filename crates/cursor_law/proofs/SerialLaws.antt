@@ -1,12 +1,12 @@
 -- An index that words ask for has the serial that they are read with.
-use Rattle.std.specs.Prelude.{◌≡◌, ℕ, suc, List, [], ◌∷◌, length, drop, cond, Bool, true, false, ◌&&◌, ◌==◌, ◌%◌, nat_le, slice_index_or, Option, Some, None, Result, Ok, Err, IfOk, codes, refl}
+use Rattle.std.specs.Prelude.{◌≡◌, ℕ, suc, List, [], ◌∷◌, length, drop, cond, Bool, true, false, slice_index_or, Option, Some, None, Result, Ok, Err, IfOk, codes, refl}
 use Rattle.std.proofs.Common.{subst}
 use Rattle.cmd_parse.specs.Aggregating.{Aggregating, aggregate}
 use Rattle.cmd_parse.specs.Asked.{Asked, CursorRead, CursorDel}
-use Rattle.cmd_parse.specs.Commands.{form_of}
+use Rattle.cmd_parse.specs.Commands.{fits, form_of}
 use Rattle.cmd_parse.specs.Cursor.{asked_by, cursor, cursor_at, cursor_with, rows_at, subcommand_at}
 use Rattle.cmd_parse.specs.Lawful.{HasSerial}
-use Rattle.cmd_parse.specs.Read.{aggregated, altered, created, first_fault, plain_or, read, read_as, searched}
+use Rattle.cmd_parse.specs.Read.{aggregated, altered, asked_as, created, first_fault, plain_or, read, read_as, searched}
 use Rattle.cmd_parse.specs.Search.{is_at_end}
 use Rattle.cmd_parse.specs.Searching.{Searching, search}
 use Rattle.cmd_parse.specs.Words.{number_at, word_at}
@@ -90,20 +90,23 @@ module _ (serial : ℕ) where
   cursor-says words = with-says (length words) (cursor_at (drop 1 words))
       (goes-on (HasSerial serial) (subcommand_at (drop 1 words)) _ (λ name. goes-on (HasSerial serial) (word_at name.1) _ (λ index. goes-on (HasSerial serial) (number_at index.1) _ (λ id. asked-says name.0 index.0 id.0 id.1))))
 
-  form-says : (f : Option Form) (name : List ℕ) (args : List (List ℕ)) → Says (read_as f serial name args)
-  form-says None name args = tt
-  form-says (Some (Between verb least most)) name args = if-says (nat_le least (suc (length args)) && nat_le (suc (length args)) most) _ (plain-says (first_fault verb args) verb args)
-  form-says (Some (AtLeast verb least)) name args = if-says (nat_le least (suc (length args))) _ (plain-says (first_fault verb args) verb args)
-  form-says (Some (InPairs verb least)) name args = if-says (nat_le least (suc (length args)) && (suc (length args) % 2 == 0)) _ (plain-says (first_fault verb args) verb args)
-  form-says (Some Create) name args = if-says (nat_le 5 (suc (length args))) _ (created-says (name ∷ args))
-  form-says (Some Alter) name args = if-says (nat_le 6 (suc (length args))) _ (altered-says (slice_index_or args 0 []) (alter (name ∷ args)))
-  form-says (Some form.Search) name args = searched-says (search (name ∷ args))
-  form-says (Some form.Aggregate) name args = aggregated-says (aggregate (name ∷ args))
-  form-says (Some form.Cursor) name args = if-says (nat_le 4 (suc (length args))) _ (cursor-says (name ∷ args))
+  form-says : (f : Form) (name : List ℕ) (args : List (List ℕ)) → Says (asked_as f serial name args)
+  form-says (Between verb least most) name args = plain-says (first_fault verb args) verb args
+  form-says (AtLeast verb least) name args = plain-says (first_fault verb args) verb args
+  form-says (InPairs verb least) name args = plain-says (first_fault verb args) verb args
+  form-says (Create least) name args = created-says (name ∷ args)
+  form-says (Alter least) name args = altered-says (slice_index_or args 0 []) (alter (name ∷ args))
+  form-says (form.Search least) name args = searched-says (search (name ∷ args))
+  form-says (form.Aggregate least) name args = aggregated-says (aggregate (name ∷ args))
+  form-says (form.Cursor least) name args = cursor-says (name ∷ args)
+
+  found-says : (f : Option Form) (name : List ℕ) (args : List (List ℕ)) → Says (read_as f serial name args)
+  found-says None name args = tt
+  found-says (Some f) name args = if-says (fits f (suc (length args))) _ (form-says f name args)
 
   words-says : (words : List (List ℕ)) → Says (read serial words)
   words-says [] = tt
-  words-says (name ∷ args) = form-says (form_of name) name args
+  words-says (name ∷ args) = found-says (form_of name) name args
 
 pub read-serial : (serial : ℕ) (words : List (List ℕ)) (asks : Asked) → read serial words ≡ Ok asks → HasSerial serial asks
 read-serial serial words asks is = subst (λ (r : Result Asked CmdFault). IfOk r (HasSerial serial)) is (words-says serial words)

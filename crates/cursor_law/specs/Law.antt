@@ -11,16 +11,16 @@ use Rattle.ft_base.specs.declared.reply.Reply.{Reply}
 use Rattle.ft_base.specs.declared.reply.Reply.TheVariants.{Array, Number}
 use Rattle.ft_base.specs.declared.row.Row.{Row}
 use Rattle.ft_machine.specs.Aggregating.{rows_reply}
-use Rattle.ft_machine.specs.History.{IsLegal}
+use Rattle.ft_machine.specs.History.{IsLegal, Readings}
 use Rattle.ft_machine.specs.Machine.{State}
-use Rattle.history_core.specs.declared.entry.Entry.{Entry}
+use Rattle.history_core.specs.Entries.{Entry}
 
--- Something holds of each stream cursor of each legal history that begins with a number above 0: of the step that opens
--- it, and all steps behind that.
-abbrev pub Always : (StreamCursor → Step → List Step → Type 0) → Type 0
-Always Law = (first : ℕ) (entries : List Entry) (after : State) (legal : IsLegal first entries after)
+-- Something holds of each stream cursor of each legal history that begins with a number above 0, of whatever types its snapshots,
+-- names and answers are: of the step that opens it, and all steps behind that.
+abbrev pub Always : (K N A : Type 0) → (StreamCursor → Step → List Step → Type 0) → Type 0
+Always K N A Law = (readings : Readings K N A) (first : ℕ) (entries : List (Entry K N A)) (after : State) (legal : IsLegal readings first entries after)
     (earlier later : List Step) (opening : Step) (cursor : StreamCursor)
-    → 0 < first → steps first entries after legal ≡ earlier ++ opening ∷ later → Opens cursor opening → Law cursor opening later
+    → 0 < first → steps readings first entries after legal ≡ earlier ++ opening ∷ later → Opens cursor opening → Law cursor opening later
 
 -- ---- no document comes twice
 

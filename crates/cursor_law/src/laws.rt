@@ -5,11 +5,12 @@ use query_grammar::{one_tree, tree_or_fault};
 
 /// A stream cursor gives each document once at most, with rising ids, and only those that match when they are given;
 /// once it is read to its end, each that matched with one id throughout; and the rows shown are theirs, in that order.
-pub fn cursor_law()
-    ensures rises { Always Rises }
-    ensures hits { Always GivesHits }
-    ensures complete { Always GivesAll }
-    ensures rows { Always ShowsRows }
+/// This holds in histories with scans and splices whose snapshots, names of lists and answers are of any types.
+pub fn cursor_law<K, N, A>()
+    ensures rises { Always K N A Rises }
+    ensures hits { Always K N A GivesHits }
+    ensures complete { Always K N A GivesAll }
+    ensures rows { Always K N A ShowsRows }
 {
     one_tree();
     tree_or_fault();

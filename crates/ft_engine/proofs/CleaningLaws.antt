@@ -1,17 +1,15 @@
 -- What a command leaves of the indexes that are clean.
-use Rattle.std.specs.Prelude.{◌≡◌, ◌≢◌, ◌<◌, ◌≤◌, ◌⊎◌, ◌++◌, ◌&&◌, ◌||◌, ℕ, ℤ, List, [], ◌∷◌, find, filter, length, map, nat_eq, nat_lt, slice_index_or, Bool, true, false, cond, Option, Some, None, IfSome, IsTrue, Result, Ok, Err, is_some, codes, refl}
+use Rattle.std.specs.Prelude.{◌≡◌, ◌≢◌, ◌<◌, ◌≤◌, ◌⊎◌, ◌&&◌, ◌||◌, ℕ, List, [], ◌∷◌, find, filter, map, nat_eq, nat_lt, slice_index_or, Bool, true, false, cond, Option, Some, None, IfSome, Result, Ok, Err, is_some, refl}
 use Rattle.std.specs.List.{All, list_any}
 use Rattle.std.specs.Map.{lookup}
 use Rattle.std.specs.Option.{option_map}
 use Rattle.std.specs.Str.{bytes_eq}
-use Rattle.std.proofs.Common.{sym, ap, ◌∙◌, subst, inl, inr, arith}
-use Rattle.std.proofs.lemmas.Bool.{cases_Bool}
+use Rattle.std.proofs.Common.{sym, ap, ◌∙◌, subst, inl, inr}
 use Rattle.std.proofs.lemmas.Slice.Eq.{bytes_eq-Decides}
-use Rattle.cmd_parse.specs.Asked.{Asked, Plain, CreateIndex, AlterIndex, Search, Aggregate, CursorRead, CursorDel}
+use Rattle.cmd_parse.specs.Asked.{Asked, Plain}
 use Rattle.cmd_parse.specs.Read.{read}
 use Rattle.cmd_parse.specs.Refusals.{refusal}
 use Rattle.cmd_parse.specs.declared.command.CmdFault.{CmdFault}
-use Rattle.cmd_parse.specs.declared.command.Verb.{Verb}
 use Rattle.cmd_parse.specs.declared.command.Verb.TheVariants.{Debug, Info}
 use Rattle.ft_base.proofs.SpellingLaws.{spelling-Fault}
 use Rattle.ft_base.specs.Docs.{Doc}
@@ -20,8 +18,6 @@ use Rattle.ft_base.specs.Space.{erase}
 use Rattle.ft_base.specs.Reply.{spelling}
 use Rattle.ft_base.specs.Words.{first, second}
 use Rattle.ft_base.specs.declared.definition.IndexDef.{IndexDef}
-use Rattle.ft_base.specs.declared.reply.Reply.{Reply}
-use Rattle.ft_base.specs.declared.reply.Reply.TheVariants.{Fault}
 use Rattle.gc_splice.specs.Alive.{all_alive}
 use Rattle.inverted_list.proofs.ReachLaws.{le_or_lt}
 use Rattle.inverted_list.specs.Listing.{Listing}
@@ -29,31 +25,30 @@ use Rattle.ft_index.specs.Index.{Index, Indexes, is_live}
 use Rattle.ft_index.specs.Lists.{AllLists, Vector, has_id, list_from, rows_of}
 use Rattle.ft_index.specs.Thinned.{ListsLive}
 use Rattle.ft_machine.proofs.CleanLaws.{info-refused, same-marks}
-use Rattle.ft_machine.specs.Clean.{IsToldJust, Marked, TellsClean, TellsJust, all_named, clean_after, is_as_it_was, is_clean, marks_of, with_collected}
+use Rattle.ft_machine.specs.Clean.{IsToldJust, TellsClean, all_named, clean_after, is_as_it_was, marks_of, with_collected}
 use Rattle.ft_machine.specs.Definitions.{Defined, all_tried, index_of}
 use Rattle.ft_machine.specs.Indexes.{done}
 use Rattle.ft_machine.specs.Machine.{State, at_moment}
 use Rattle.ft_machine.specs.Step.{Answers, last_event, last_number}
 use Rattle.ft_meaning.specs.Member.{member, members}
 use Rattle.ft_meaning.specs.Sortable.{sorting_vector}
-use Rattle.indexed_store.proofs.ListedLaws.{entered-at, found-passes}
+use Rattle.indexed_store.proofs.ListedLaws.{entered-at}
 use Rattle.indexed_store.proofs.NamedLaws.{index_of-named, named-has}
 use Rattle.indexed_store.specs.Changing.{HasMore, IsReady, changed}
 use Rattle.indexed_store.specs.Collecting.{IsClean, IsCleanAt}
 use Rattle.indexed_store.specs.DefinitionsOf.{defined, definitions_of}
 use Rattle.indexed_store.specs.Listed.{Enters, EntersDoc, EntersWaiting, Gathers, KeepsLists, lists_at, touches}
 use Rattle.indexed_store.specs.Named.{is_named}
-use Rattle.indexed_store.specs.Standing.{AreWritten, IndexStands, markers_at}
-use Rattle.indexed_store.specs.Writing.{Waits, written as with_written}
+use Rattle.indexed_store.specs.Standing.{AreWritten}
+use Rattle.indexed_store.specs.Writing.{Waits}
 use Rattle.indexed_store.specs.declared.change.Change.{Change}
 use Rattle.indexed_store.specs.declared.change.Change.TheVariants.{Nothing, Write, Move, EraseKey, EraseKeys, Create, Alter, Drop, DropMembers, OpenCursor, ReadCursor, CloseCursor, CloseCursors, Flush}
 use Rattle.ft_engine.specs.Cleaning.{AreClean, KeepsClean, marked}
 use Rattle.ft_engine.specs.Collecting.{Collects}
-use Rattle.ft_engine.specs.Commands.{IsLastText, TellsFault, TellsLast, WordsCollect, WordsTell}
-use Rattle.ft_engine.specs.Exactness.{IsRefusal, TellsEntries, TellsExactly, TellsOf}
+use Rattle.ft_engine.specs.Commands.{TellsFault, TellsLast, WordsCollect, WordsTell}
+use Rattle.ft_engine.specs.Exactness.{IsRefusal, TellsExactly, TellsOf}
 use Rattle.ft_engine.specs.Quiet.{IsQuietFor}
-use Rattle.ft_engine.specs.Stands.{IsIndexed, Stands, begun, unused}
-use Rattle.ft_engine.proofs.CollectionLaws.{refusal-other}
+use Rattle.ft_engine.specs.Stands.{IsIndexed, Stands, begun}
 use Rattle.ft_engine.proofs.ExactLaws.{tells-refused}
 use Rattle.ft_engine.proofs.CollectionLaws.{collects-refused}
 use Rattle.ft_engine.proofs.MarkLaws.{come-differ, erased-has, fewer-differ, fields-differ, last-has, member_ids, more-differ, none-has, same-ids}

@@ -1,5 +1,5 @@
 -- What an engine keeps, and what its callers are told.
-use Rattle.std.specs.Prelude.{◌≡◌, ◌≤◌, ℕ, Bool, true, false, map, refl}
+use Rattle.std.specs.Prelude.{◌≡◌, ◌≤◌, ℕ, Bool, true, false, map, refl, Option}
 use Rattle.std.proofs.Common.{arith}
 use Rattle.std.specs.List.{IsDistinct}
 use Rattle.std.specs.Str.{bytes_eq}
@@ -7,11 +7,12 @@ use Rattle.ft_base.specs.Docs.{Doc}
 use Rattle.ft_machine.specs.Step.{last_number, next_number}
 use Rattle.indexed_store.specs.Holding.{AllStand, Holding}
 use Rattle.ft_engine.specs.Stands.{IsIndexed, stands_of, unused}
+use Rattle.ft_engine.specs.declared.last_splice.LastSplice.{LastSplice}
 
 -- what is held is what an engine's callers are told
-pub indexed : (held : Holding) (next : ℕ) (pending : Bool) → IsDistinct bytes_eq (map (λ (doc : Doc). doc.key) held.space) → ((number : ℕ) → held.next ≤ number → AllStand number held)
-    → held.next ≤ unused pending next → IsIndexed (stands_of held next pending)
-indexed held next pending differ stand earlier =
+pub indexed : (held : Holding) (next : ℕ) (pending : Bool) (last : Option LastSplice) → IsDistinct bytes_eq (map (λ (doc : Doc). doc.key) held.space) → ((number : ℕ) → held.next ≤ number → AllStand number held)
+    → held.next ≤ unused pending next → IsIndexed (stands_of held next pending last)
+indexed held next pending last differ stand earlier =
     let all = stand (unused pending next) earlier in
     record { definitions = refl; keys = differ; documents = all.documents; indexes = all.indexes; apart = all.apart }
 

@@ -13,6 +13,7 @@ pub mod InfoLaws
 pub mod MarkLaws
 pub mod MovesLaws
 pub mod OpeningLaws
+pub mod PictureLaws
 mod PlainLaws
 mod PreparedLaws
 mod ReadLaws
@@ -20,4 +21,8 @@ mod RemovalLaws
 pub mod SearchLaws
 mod SteppingLaws
 pub mod TagLaws
+pub mod ThinningLaws
 mod WritingLaws
+pub mod KeptLaws
+pub mod PartLaws
+pub mod SplicedLaws

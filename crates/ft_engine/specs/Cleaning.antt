@@ -1,11 +1,11 @@
 -- Which indexes of an engine are clean, what each event keeps of that, and that a history of such events tells so.
-use Rattle.std.specs.Prelude.{◌<◌, ◌≤◌, ℕ, List, [], ◌∷◌}
+use Rattle.std.specs.Prelude.{◌<◌, ℕ, List, [], ◌∷◌}
 use Rattle.cmd_parse.specs.Read.{read}
 use Rattle.ft_index.specs.Index.{Index}
-use Rattle.history_core.specs.declared.entry.Entry.{Entry}
-use Rattle.ft_machine.specs.Clean.{IsHistory, Marked, TellsClean, clean_after}
+use Rattle.ft_machine.specs.Clean.{Marked, TellsClean, clean_after}
 use Rattle.ft_machine.specs.Step.{last_number}
 use Rattle.indexed_store.specs.Collecting.{IsCleanAt}
+use Rattle.ft_engine.specs.Entries.{Entry, IsHistory}
 use Rattle.ft_engine.specs.Stands.{Stands}
 
 -- The lists of the indexes of these names have no dead entry.

@@ -9,6 +9,7 @@ use Rattle.indexed_store.specs.DefinitionsOf.{definitions_of}
 use Rattle.indexed_store.specs.Holding.{Holding, state_of}
 use Rattle.indexed_store.specs.Standing.{AreApart, AreWritten, IndexStands, markers_at}
 use Rattle.ft_machine.specs.Machine.{State, at_moment, empty_state}
+use Rattle.ft_engine.specs.declared.last_splice.LastSplice.{LastSplice}
 use Rattle.ft_machine.specs.Step.{last_number, next_number}
 
 pub record Stands : Type 0 where
@@ -25,10 +26,12 @@ pub record Stands : Type 0 where
   pub pending : Bool
   -- how many documents were read
   pub reads : ℕ
+  -- the splice that was last, if there was one
+  pub last : Option LastSplice
 
 -- what the documents, indexes and cursors that are held stand for, before an event of this number
-abbrev pub stands_of : Holding → ℕ → Bool → Stands
-stands_of held next pending = record {
+abbrev pub stands_of : Holding → ℕ → Bool → Option LastSplice → Stands
+stands_of held next pending last = record {
   state = state_of held;
   next = next;
   indexes = held.indexes;
@@ -36,11 +39,12 @@ stands_of held next pending = record {
   opens = held.opens;
   pending = pending;
   reads = held.reads;
+  last = last;
 }
 
 -- an engine without documents, indexes and cursors, whose first event has this number
 abbrev pub opened : ℕ → Stands
-opened first = record { state = empty_state; next = first; indexes = []; waits = None; opens = None; pending = false; reads = 0 }
+opened first = record { state = empty_state; next = first; indexes = []; waits = None; opens = None; pending = false; reads = 0; last = None }
 
 -- The state once an event of this number has begun at a moment: the moment counts, and cursors that are idle are gone. At the
 -- last number none begins.

@@ -1,20 +1,18 @@
 -- One event of an engine, and that a history of such events is legal.
-use Rattle.std.specs.Prelude.{◌≡◌, ◌≤◌, ◌<◌, ℕ, List, [], Option, false}
+use Rattle.std.specs.Prelude.{◌≡◌, ◌≤◌, ◌<◌, ℕ, List, Option, Some, false}
 use Rattle.ft_index.specs.declared.repairs.AnyRepair.{AnyRepair}
+use Rattle.ft_index.specs.declared.repairs.AnyRepair.TheVariants as repairs
 use Rattle.ft_index.specs.declared.snapshots.Snapshot.{Snapshot}
 use Rattle.gc_splice.specs.declared.splice.Spliced.{Spliced}
 use Rattle.gc_splice.specs.declared.splice.Spliced.TheVariants.{LastEvent}
-use Rattle.history_core.specs.Histories.{Leads}
-use Rattle.history_core.specs.Running.{IsStep}
-use Rattle.history_core.specs.declared.entry.Entry.{Entry}
 use Rattle.id_iters.specs.declared.list_name.ListName.{ListName}
-use Rattle.ft_machine.specs.History.{IsLegal}
 use Rattle.ft_machine.specs.Step.{Answers, last_number, next_number}
+use Rattle.inverted_list.specs.declared.marker.Marker.{Marker}
 use Rattle.indexed_store.specs.Moving.{IndexesMove}
 use Rattle.indexed_store.specs.Parting.{ScansPart}
 use Rattle.indexed_store.specs.Repairing.{ScansNamed, SplicesSerial, splice_marker}
-use Rattle.ft_engine.specs.Cleaning.{KeepsClean, StandsFor}
-use Rattle.ft_engine.specs.Stands.{Stands, opened}
+use Rattle.ft_engine.specs.Cleaning.{KeepsClean}
+use Rattle.ft_engine.specs.Stands.{Stands}
 
 -- words are answered at a moment by a step of the machine, at the engine's number
 abbrev pub AnswersAt : ℕ → List (List ℕ) → Stands → List ℕ → Stands → Type 0
@@ -47,10 +45,20 @@ ScansPartAt name number engine taken = ScansPart name engine.indexes number take
 abbrev pub counted : Stands → Stands
 counted engine = record engine { next = next_number engine.next }
 
+-- the marker of the list that was pictured for a repair
+abbrev pub seen_marker : AnyRepair → Marker
+seen_marker (repairs.Word repair) = repair.seen
+seen_marker (repairs.Tag repair) = repair.seen
+seen_marker (repairs.Range repair) = repair.seen
+
+-- the engine keeps the pictured marker of a repair that was spliced, and what became of it
+abbrev pub KeepsLast : AnyRepair → Spliced → Stands → Type 0
+KeepsLast repair outcome engine = engine.last ≡ Some (record { seen = seen_marker repair; answer = outcome })
+
 -- A repair is laid over the list of a name in the index of a serial, under the marker of this event. At the last number there is
--- no event, and nothing changes.
+-- no event, and the lists stay as they are.
 pub record SplicesAt (serial : ℕ) (name : ListName) (repair : AnyRepair) (old new : Stands) (outcome : Spliced) : Type 0 where
-  pub last : last_number ≤ old.next → (outcome ≡ LastEvent) × (new ≡ old)
+  pub last : last_number ≤ old.next → (outcome ≡ LastEvent) × (new.indexes ≡ old.indexes)
   pub splices : old.next < last_number → SplicesSerial serial name repair (splice_marker old.next) old.indexes new.indexes outcome
 
 -- One event: a step of the machine of plain hashes, at the engine's number, and the next number.
@@ -58,14 +66,3 @@ pub record Steps (old : Stands) (moment : ℕ) (words : List (List ℕ)) (reply 
   pub answer : Answers words old.next moment old.state reply new.state
   pub next : new.next ≡ next_number old.next
   pub clean : KeepsClean old.next words old reply new
-
--- Entries that lead from an engine that was opened at a number to another are a legal history from this number, and it leads to
--- the other's state.
-abbrev pub StepsAreLegal : Type 0
-StepsAreLegal = (first : ℕ) (entries : List Entry) (engine : Stands)
-    → first ≤ last_number → Leads (IsStep Steps) [] (opened first) entries engine → IsLegal first entries engine.state
-
--- It is one that tells of clean indexes just their live records.
-abbrev pub StepsAreHistory : Type 0
-StepsAreHistory = (first : ℕ) (entries : List Entry) (engine : Stands)
-    → first ≤ last_number → Leads (IsStep Steps) [] (opened first) entries engine → StandsFor first entries engine

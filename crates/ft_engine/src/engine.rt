@@ -4,10 +4,11 @@ ghost use Rattle.ft_engine.specs.Cleaning.{KeepsClean};
 ghost use Rattle.ft_engine.specs.Commands.{AreRefused, CollectsAsAsked, IsLastText, IsLawful, IsQuietAsAsked, IsReadFor, KeepsLimits, ReadsAsAsked, TellsAsAsked, TellsFault, TellsLast, WordsCollect, WordsRead, WordsTell};
 ghost use Rattle.ft_engine.specs.Preparing.{CommitKeeps, CommitKeepsLists, CommitReads, EntersAsSaid, IsLast, StepsBy, WritesAsSaid, committed};
 ghost use Rattle.ft_engine.specs.Stands.{IsIndexed, begun, opened};
-ghost use Rattle.ft_engine.specs.Stepping.{AnswersAt, Counts, Moves, ScansAt, ScansPartAt, SplicesAt, counted, ended};
+ghost use Rattle.ft_engine.specs.Stepping.{AnswersAt, Counts, KeepsLast, Moves, ScansAt, ScansPartAt, SplicesAt, counted, ended, seen_marker};
 ghost use Rattle.ft_machine.specs.Step.{last_number};
 ghost use Rattle.indexed_store.specs.Repairing.{FitsSerial, IndexesThin};
 
+use crate::last_splice::LastSplice;
 use crate::prepared::Prepared;
 use crate::step::begin_command;
 use cmd_parse::{CmdFault, Command, read_command};
@@ -16,6 +17,7 @@ use ft_index::{AnyRepair, Snapshot};
 use gc_splice::Spliced;
 use id_iters::ListName;
 use indexed_store::{Change, IndexedStore};
+use inverted_list::Marker;
 use reply_buffer::ReplyBuffer;
 use std::alloc::Global;
 use std::hash::RandomState;
@@ -25,7 +27,7 @@ use std::marker::Model;
 const LAST_NUMBER: u64 = 4_611_686_018_427_387_904;
 
 /// The state of the server. A contract sees the state of the machine that it stands for, the number
-/// of the next event, the indexes, and what is prepared.
+/// of the next event, the indexes, what is prepared, and the splice that was last.
 ///
 /// A command is one event: it is prepared, and then committed or abandoned; or it is refused for its
 /// words. A scan is one too, and a splice. While an event is prepared, no other can begin.
@@ -35,6 +37,8 @@ pub struct Engine {
     next: u64,
     // Whether an event is prepared, and neither committed nor abandoned.
     pending: bool,
+    // The splice that was last. Only contracts ask for it.
+    last: Option<LastSplice>,
 }
 
 // Written out, the drops of all that it holds are proved here alone, and not in each crate above.
@@ -45,6 +49,7 @@ impl Drop for Engine {
             held,
             next: _,
             pending: _,
+            last: _,
         } = self;
         drop(held);
     }
@@ -54,12 +59,14 @@ impl Model for Engine {
     ghost use Rattle.std.specs.Coded.{codes};
     ghost use Rattle.cursor_book.specs.contracts.cursor.Cursor as cursor;
     ghost use Rattle.ft_engine.specs.Stands.{IsEngine, Stands, stands_of};
+    ghost use Rattle.gc_splice.specs.contracts.splice.Spliced as spliced;
+    ghost use Rattle.inverted_list.specs.contracts.marker.Marker as marker;
 
     ghost Value = { Stands };
 
-    ghost coded = { Prim.hlevel (codes, cursor.the_row.coded) };
+    ghost coded = { Prim.hlevel (codes, cursor.the_row.coded, spliced.the_row.coded, marker.the_row.coded) };
 
-    ghost view = { λ e. stands_of e.held e.next e.pending };
+    ghost view = { λ e. stands_of e.held e.next e.pending e.last };
 
     ghost invariant = { λ e. IsEngine e.held e.pending e.next };
 }
@@ -84,7 +91,13 @@ impl Engine {
             held: IndexedStore::new(alloc, hashing)?,
             next: first,
             pending: false,
+            last: None,
         })
+    }
+
+    // Where memory comes from.
+    pub(crate) fn alloc(&self) -> Global {
+        self.alloc
     }
 
     /// The number of the next event. From 2^62 on it stays.
@@ -347,12 +360,31 @@ impl Engine {
     }
 
     /// Splices a repair into the list of a name in the index of a serial, in an event of its own. It takes no memory: what it takes
-    /// out it leaves in the repair.
+    /// out it leaves in the repair. The engine keeps the pictured marker and the answer.
     pub fn splice(&mut self, serial: u64, name: &ListName, repair: &mut AnyRepair) -> Spliced
         requires fits { FitsSerial serial self.old.indexes name.now repair.old }
         requires free { self.old.pending ≡ false }
         ensures splices { SplicesAt serial name.now repair.old self.old self.new result }
+        ensures last { KeepsLast repair.old result self.new }
         // Nothing of it is seen, and every live entry stays.
+        ensures still { self.new ≡ record (counted self.old) { indexes = self.new.indexes; last = self.new.last } }
+        ensures thin { IndexesThin self.old.indexes self.new.indexes }
+        ensures indexed { IsIndexed self.new }
+        // What there was has only grown, or is gone.
+        ensures moves { Moves self.old self.new }
+    {
+        let seen = seen_by(repair);
+        let answer = self.splice_list(serial, name, repair);
+        self.held.stand();
+        self.last = Some(LastSplice { seen, answer });
+        answer
+    }
+
+    // The same, where nothing is kept of it.
+    fn splice_list(&mut self, serial: u64, name: &ListName, repair: &mut AnyRepair) -> Spliced
+        requires fits { FitsSerial serial self.old.indexes name.now repair.old }
+        requires free { self.old.pending ≡ false }
+        ensures splices { SplicesAt serial name.now repair.old self.old self.new result }
         ensures still { self.new ≡ record (counted self.old) { indexes = self.new.indexes } }
         ensures thin { IndexesThin self.old.indexes self.new.indexes }
         ensures indexed { IsIndexed self.new }
@@ -381,5 +413,16 @@ impl Engine {
         if self.next < LAST_NUMBER {
             self.next += 1;
         }
+    }
+}
+
+// The marker of the list that was pictured for a repair.
+fn seen_by(repair: &AnyRepair) -> Marker
+    ensures { result ≡ seen_marker repair.now }
+{
+    match repair {
+        AnyRepair::Word(repair) => repair.seen,
+        AnyRepair::Tag(repair) => repair.seen,
+        AnyRepair::Range(repair) => repair.seen,
     }
 }

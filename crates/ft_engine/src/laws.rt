@@ -1,5 +1,5 @@
 //! A law of the engine, which is the contract of a function that does nothing.
-ghost use Rattle.ft_engine.specs.Stepping.{StepsAreHistory, StepsAreLegal};
+ghost use Rattle.ft_engine.specs.Steps.{StepsAreHistory, StepsAreLegal};
 
 /// What an engine executed, from one that was opened at a number on, is a legal history from that number, which leads to the
 /// engine's state: so the entries of a run over it are.

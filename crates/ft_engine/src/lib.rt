@@ -11,6 +11,7 @@ mod connection;
 mod engine;
 mod hashes;
 mod indexes;
+mod last_splice;
 mod laws;
 mod machine;
 mod plain;
@@ -20,7 +21,11 @@ mod step;
 
 /// The state of the server, and its events.
 pub use engine::Engine;
+/// What an engine keeps of a splice.
+pub use last_splice::LastSplice;
 /// That what an engine executes is a legal history.
 pub use laws::steps_are_legal;
+/// A list that a scan pictured.
+pub use machine::ListPicture;
 /// A command that is prepared.
 pub use prepared::Prepared;

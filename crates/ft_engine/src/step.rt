@@ -1,7 +1,8 @@
 //! What a command asks is prepared: the reply is written, and what it needs is made ready.
-ghost use Rattle.std.specs.Prelude.{◌≡◌, ◌<◌, ◌≤◌, None, true};
+ghost use Rattle.std.specs.Prelude.{◌≡◌, ◌<◌, ◌≤◌, None, Option, true};
 ghost use Rattle.ft_engine.specs.Commands.{CollectsAsAsked, IsLawful, IsPreparedAs, IsQuietAsAsked, ReadsAsAsked, TellsAsAsked};
 ghost use Rattle.ft_engine.specs.Stands.{IsIndexed, stands_of};
+ghost use Rattle.ft_engine.specs.declared.last_splice.LastSplice.{LastSplice};
 ghost use Rattle.ft_machine.specs.Step.{last_number};
 ghost use Rattle.indexed_store.specs.Holding.{begun};
 ghost use Rattle.indexed_store.specs.Standing.{AreWritten};
@@ -27,7 +28,7 @@ pub fn begin_command<'a>(
     requires number { number < last_number }
     requires asked { IsLawful command }
     ensures documents { AreWritten held.old.space number }
-    ensures indexed { IsIndexed (stands_of held.new number true) }
+    ensures indexed { (last : Option LastSplice) → IsIndexed (stands_of held.new number true last) }
 
     // What is asked is prepared in the event that has begun.
     ensures prepares { IsPreparedAs command.entry (begun number moment held.old) held.new reply.new.bytes result }

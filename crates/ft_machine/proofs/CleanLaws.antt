@@ -3,9 +3,8 @@ use Rattle.std.specs.Prelude.{◌≡◌, ◌<◌, ◌⊎◌, ℕ, List, [], ◌�
 use Rattle.std.proofs.Common.{sym, ap, ◌∙◌, subst, inl, inr, arith}
 use Rattle.std.proofs.lemmas.Slice.Eq.{bytes_eq-Decides, slice_eq-Decides}
 use Rattle.std.specs.Str.{bytes_eq}
+use Rattle.history_core.specs.Entries.{Entry}
 use Rattle.history_core.specs.Histories.{Leads}
-use Rattle.history_core.specs.declared.entry.Entry.{Entry}
-use Rattle.history_core.specs.declared.entry.Entry.TheVariants.{Exec}
 use Rattle.cmd_parse.specs.Asked.{Asked, Plain}
 use Rattle.cmd_parse.specs.Read.{read}
 use Rattle.cmd_parse.specs.declared.command.CmdFault.{CmdFault}
@@ -15,22 +14,21 @@ use Rattle.ft_base.specs.Reply.{spelling}
 use Rattle.ft_base.specs.Words.{first}
 use Rattle.ft_machine.specs.Clean.{Follows, Marked, is_as_it_was, marks_of}
 use Rattle.ft_machine.specs.Definitions.{Defined, index_of}
-use Rattle.ft_machine.specs.History.{MayFollow}
+use Rattle.ft_machine.specs.History.{MayFollow, Readings}
 use Rattle.ft_machine.specs.Info.{informed}
 use Rattle.ft_machine.specs.Machine.{Outcome, State, at_moment, wanting}
 use Rattle.ft_machine.specs.Step.{Answers, last_number, outcomes, read_gives, words_give}
 use Rattle.ft_machine.proofs.DeterminedLaws.{array-is}
 
-legal : (first : ℕ) (before : List Entry) (old : Marked) (entries : List Entry) (new : Marked) → Leads (Follows first) before old entries new → Leads (MayFollow first) before old.state entries new.state
-legal first before old [] new leads = ap (λ (m : Marked). m.state) leads
-legal first before old (Exec caller moment words reply ∷ entries) new leads = (
-  leads.0.state,
-  leads.1.0,
-  legal first (before ++ Exec caller moment words reply ∷ []) leads.0 entries new leads.2,
-)
-
-pub history-legal : (first : ℕ) (before : List Entry) (old : Marked) (entries : List Entry) (new : Marked) → Leads (Follows first) before old entries new → Leads (MayFollow first) before old.state entries new.state
-history-legal = legal
+module _ {K N A : Type 0} (readings : Readings K N A) where
+  pub history-legal : (first : ℕ) (before : List (Entry K N A)) (old : Marked) (entries : List (Entry K N A)) (new : Marked)
+      → Leads (Follows readings first) before old entries new → Leads (MayFollow readings first) before old.state entries new.state
+  history-legal first before old [] new leads = ap (λ (m : Marked). m.state) leads
+  history-legal first before old (entry ∷ entries) new leads = (
+    leads.0.state,
+    leads.1.0,
+    history-legal first (before ++ entry ∷ []) leads.0 entries new leads.2,
+  )
 
 -- an index that is as it was has the marks that it had
 pub same-marks : (old new : State) (name : List ℕ) → is_as_it_was old new name ≡ true → marks_of old name ≡ marks_of new name

@@ -14,11 +14,10 @@ use Rattle.ft_base.specs.Reply.{spelling}
 use Rattle.ft_base.specs.Words.{first, second}
 use Rattle.ft_meaning.specs.Member.{members}
 use Rattle.ft_meaning.specs.Records.{live_records}
+use Rattle.history_core.specs.Entries.{Entry, Exec, Scan, Scanned, Splice}
 use Rattle.history_core.specs.Histories.{Leads, number}
-use Rattle.history_core.specs.declared.entry.Entry.{Entry}
-use Rattle.history_core.specs.declared.entry.Entry.TheVariants.{Exec}
 use Rattle.ft_machine.specs.Definitions.{Defined, index_of}
-use Rattle.ft_machine.specs.History.{IsLegal, MayFollow}
+use Rattle.ft_machine.specs.History.{IsLegal, MayFollow, Readings}
 use Rattle.ft_machine.specs.Indexes.{done}
 use Rattle.ft_machine.specs.Info.{info_reply}
 use Rattle.ft_machine.specs.Machine.{State, empty_state}
@@ -96,18 +95,24 @@ pub record KeepsMarks (number : ℕ) (words : List (List ℕ)) (old : Marked) (w
   pub clean : new.clean ≡ clean_after (read number words) old.state written new.state old.clean
   pub tells : number < last_number → TellsClean (read number words) old written
 
--- An entry may follow those before it, the first of which has this number, and leads from a state and its clean indexes to the
--- next.
-abbrev pub Follows : ℕ → List Entry → Marked → Entry → Marked → Type 0
-Follows first before old (Exec caller moment words reply) new =
-    MayFollow first before old.state (Exec caller moment words reply) new.state
-    × KeepsMarks (number first before) words old reply new
+module _ {K N A : Type 0} (readings : Readings K N A) where
+  -- What an entry keeps of the names of clean indexes: a scan and a splice keep them all.
+  abbrev pub Keeps : ℕ → List (Entry K N A) → Marked → Entry K N A → Marked → Type 0
+  Keeps first before old (Exec caller moment words reply) new = KeepsMarks (number first before) words old reply new
+  Keeps first before old (Scan caller index result) new = new.clean ≡ old.clean
+  Keeps first before old (Splice caller scan name answer) new = new.clean ≡ old.clean
 
--- A history from its first number, and the state and the clean indexes after it: it is legal, and FT.INFO tells of a clean
--- index just the live records.
-abbrev pub IsHistory : ℕ → List Entry → Marked → Type 0
-IsHistory first entries after = Leads (Follows first) [] empty_marked entries after
+  -- An entry may follow those before it, the first of which has this number, and leads from a state and its clean indexes to
+  -- the next.
+  abbrev pub Follows : ℕ → List (Entry K N A) → Marked → Entry K N A → Marked → Type 0
+  Follows first before old entry new = MayFollow readings first before old.state entry new.state × Keeps first before old entry new
 
--- Each of them is legal.
-abbrev pub HistoriesAreLegal : Type 0
-HistoriesAreLegal = (first : ℕ) (entries : List Entry) (after : Marked) → IsHistory first entries after → IsLegal first entries after.state
+  -- A history from its first number, and the state and the clean indexes after it: it is legal, and FT.INFO tells of a clean
+  -- index just the live records.
+  abbrev pub IsHistory : ℕ → List (Entry K N A) → Marked → Type 0
+  IsHistory first entries after = Leads (Follows first) [] empty_marked entries after
+
+-- Each of them is legal, of whatever types its snapshots, names and answers are.
+abbrev pub HistoriesAreLegal : (K N A : Type 0) → Type 0
+HistoriesAreLegal K N A = (readings : Readings K N A) (first : ℕ) (entries : List (Entry K N A)) (after : Marked)
+    → IsHistory readings first entries after → IsLegal readings first entries after.state

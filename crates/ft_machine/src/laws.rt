@@ -25,6 +25,6 @@ pub fn one_state()
 
 /// A history in which FT.INFO tells just the live records of clean indexes is legal: so what holds of each legal history holds of
 /// it.
-pub fn histories_are_legal()
-    ensures { HistoriesAreLegal }
+pub fn histories_are_legal<K, N, A>()
+    ensures { HistoriesAreLegal K N A }
 {}

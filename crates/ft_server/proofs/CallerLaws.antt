@@ -1,5 +1,5 @@
 -- A caller's commands among those of others: one command more, and a caller that is alone.
-use Rattle.std.proofs.Common.{◌≡◌, ◌≢◌, ℕ, true, false, cond, List, [], ◌∷◌, ◌++◌, refl, sym, ap, subst, ◌∙◌, arith, append_assoc}
+use Rattle.std.proofs.Common.{◌≡◌, ◌≢◌, ℕ, true, false, List, [], ◌∷◌, ◌++◌, refl, sym, ap, subst, ◌∙◌, arith, append_assoc}
 use Rattle.std.specs.Prelude.{nat_eq}
 use Rattle.std.specs.List.{All}
 use Rattle.std.specs.declared.option.Option.{Option}
@@ -8,10 +8,10 @@ use Rattle.std.proofs.lemmas.List.{append-nil, map_push}
 use Rattle.std.proofs.lemmas.List.Elements.{All-push, All-nil}
 use Rattle.fs_ports.specs.Moments.{Gives}
 use Rattle.fs_ports.proofs.MomentLaws.{Gives-nil, Gives-trans}
-use Rattle.history_core.specs.Commands.{Said, caller_of, own}
-use Rattle.history_core.specs.declared.entry.Entry.{Entry}
-use Rattle.history_core.specs.declared.entry.Entry.TheVariants.{Exec}
-use Rattle.history_core.proofs.CommandLaws.{own-push}
+use Rattle.history_core.specs.Commands.{Said, caller_of, commands_of, own}
+use Rattle.ft_engine.specs.Entries.{Entry}
+use Rattle.history_core.specs.Entries.{Exec}
+use Rattle.history_core.proofs.CommandLaws.{own-append, own-push}
 use Rattle.turn_gate.specs.Known.{Known}
 use Rattle.turn_gate.specs.Log.{NoneBy}
 use Rattle.ft_machine.specs.Clean.{empty_marked}
@@ -25,12 +25,11 @@ another caller other differ = grind (arith, nat_tests, differ)
 -- entries of others have no command of this caller
 own-none : (caller : ℕ) (others : List Entry) → NoneBy caller_of caller others → own caller others ≡ []
 own-none caller [] none = refl
-own-none caller (Exec other moment words reply ∷ others) none = rw (another caller other none.0) (own-none caller others none.1)
+own-none caller (entry ∷ others) none = rw (another caller (caller_of entry) none.0) (own-none caller others none.1)
 
 own-before : (caller : ℕ) (entries others : List Entry) → NoneBy caller_of caller others → own caller (entries ++ others) ≡ own caller entries
-own-before caller [] others none = own-none caller others none
-own-before caller (Exec other moment words reply ∷ entries) others none =
-    ap (λ (said : List Said). cond (nat_eq caller other) (record { moment = moment; words = words; reply = reply } ∷ said) said) (own-before caller entries others none)
+own-before caller entries others none =
+    own-append caller entries others ∙ (ap (λ (l : List Entry). own caller entries ++ l) (own-none caller others none) ∙ append-nil (own caller entries))
 
 -- no command yet
 pub called_none : (pass : Known Entry) (given : Option (List ℕ)) → Called pass pass [] given given
@@ -62,12 +61,13 @@ module _ (pass later next : Known Entry) (said : List Said) (given given' given'
       ∙ (ap (λ (log : List Entry). log ++ its later.caller ∷ []) (append_assoc pass.seen called.added others)
       ∙ append_assoc pass.seen (called.added ++ others) (its later.caller ∷ [])))
 
-  own_more : own pass.caller ((called.added ++ others) ++ its later.caller ∷ []) ≡ said ++ one ∷ []
+  own_more : own pass.caller ((called.added ++ others) ++ its later.caller ∷ []) ≡ commands_of pass.caller (said ++ one ∷ [])
   own_more =
-      ap (λ (caller : ℕ). own pass.caller ((called.added ++ others) ++ its caller ∷ [])) same
-      ∙ (own-push pass.caller answer.moment words reply (called.added ++ others)
-      ∙ ap (λ (s : List Said). s ++ one ∷ [])
-      (own-before pass.caller called.added others (subst (λ (caller : ℕ). NoneBy caller_of caller others) same answer.adds.none_own) ∙ called.own_are))
+      own-push pass.caller (its later.caller) (called.added ++ others) same
+      ∙ (ap (λ (l : List Entry). l ++ its later.caller ∷ [])
+      (own-before pass.caller called.added others (subst (λ (caller : ℕ). NoneBy caller_of caller others) same answer.adds.none_own) ∙ called.own_are)
+      ∙ (ap (λ (caller : ℕ). commands_of pass.caller said ++ its caller ∷ []) same
+      ∙ sym (map_push (λ (s : Said). Exec pass.caller s.moment s.words s.reply) said one)))
 
   alone_more : pass.alone ≡ true → All (λ (entry : Entry). caller_of entry ≡ pass.caller) ((called.added ++ others) ++ its later.caller ∷ [])
   alone_more is =
@@ -94,7 +94,7 @@ called_alone pass later said given given' none alone first legal called =
       entries = called.added;
       after = legal.0;
       legal = rw (sym all) legal.1;
-      own_are = subst (λ (caller : ℕ). own caller called.added ≡ said) first called.own_are;
+      own_are = subst (λ (caller : ℕ). own caller called.added ≡ commands_of caller said) first called.own_are;
       alone = subst (λ (caller : ℕ). All (λ (entry : Entry). caller_of entry ≡ caller) called.added) first (called.alone alone);
       moments = called.moments;
     }

@@ -7,7 +7,7 @@ use Rattle.std.proofs.KnownBytes.{Appends-trans, Appends-nil, Consumes-nil, Cons
 use Rattle.ft_base.specs.Words.{is_quit}
 use Rattle.fs_ports.specs.Causes.{Rose, WritesFront}
 use Rattle.history_core.specs.Commands.{Said, replies_of, words_of}
-use Rattle.history_core.specs.declared.entry.Entry.{Entry}
+use Rattle.ft_engine.specs.Entries.{Entry}
 use Rattle.turn_gate.specs.Known.{Known}
 use Rattle.resp_wire.specs.Decoding.{Decoding, fed, StopsAt}
 use Rattle.resp_wire.specs.Stream.{NextIsLong, Command, Stream, FaultAt, with_command, ended, stream_of, fault_from, fault_of, until_quit, due}

@@ -1,8 +1,8 @@
+mod BlockingLaws
 mod CallerLaws
 pub mod Crossing
 mod EndingLaws
 mod FormLaws
-mod NumberLaws
 mod PlayingLaws
 mod QuitLaws
 mod ServingLaws

@@ -1,25 +1,23 @@
 -- Playing a load: the counts of one reply more, the commands that are left, and what is promised when none is.
-use Rattle.std.proofs.Common.{◌≡◌, ℕ, ◌+◌, ◌*◌, ◌^◌, ◌<◌, ◌≤◌, Bool, true, false, cond, List, [], ◌∷◌, ◌++◌, length, map, Some, None, Ok, refl, sym, ap, subst, ◌∙◌, arith, append_assoc}
-use Rattle.std.specs.Prelude.{codes, sum_by}
+use Rattle.std.proofs.Common.{◌≡◌, ℕ, ◌+◌, ◌^◌, ◌<◌, ◌≤◌, Bool, true, false, cond, List, [], ◌∷◌, ◌++◌, length, Some, None, refl, sym, ap, subst, ◌∙◌, arith, append_assoc}
+use Rattle.std.specs.Prelude.{codes}
 use Rattle.std.specs.Fmt.{decimal}
 use mir.Val.{bool_byte}
-use Rattle.std.specs.List.{All, AllByRecursion, count_by}
+use Rattle.std.specs.List.{AllByRecursion}
 use Rattle.std.proofs.lemmas.List.{append-nil, length-append, map_push}
 use Rattle.std.proofs.lemmas.List.Sums.{sum_by_push, count_by-le-length}
 use Rattle.std.proofs.lemmas.List.Elements.{All-push, All-nil}
 use Rattle.history_core.specs.Commands.{Said, words_of}
-use Rattle.history_core.specs.declared.entry.Entry.{Entry}
+use Rattle.ft_engine.specs.Entries.{Entry}
 use Rattle.turn_gate.specs.Known.{Known}
 use Rattle.load_maker.specs.Load.{load}
 use Rattle.load_maker.proofs.CommandLaws.{load_are}
-use Rattle.resp_wire.specs.Decoding.{StopsAt}
-use Rattle.resp_wire.specs.Request.{IsCommand, requests, request}
+use Rattle.resp_wire.specs.Request.{IsCommand, requests}
 use Rattle.resp_wire.specs.Stream.{Command, FaultAt, Stream, ended, fault_from, stream_of, with_command}
 use Rattle.resp_wire.specs.declared.fault.Stop.{Stop}
 use Rattle.resp_wire.specs.declared.fault.Stop.TheVariants.{More}
 use Rattle.resp_wire.proofs.ReadingLaws.{command_again}
 use Rattle.ft_server.specs.Answer.{Answer}
-use Rattle.ft_server.specs.Callers.{Called}
 use Rattle.ft_server.specs.Load.{EndsLoad, Loaded, Wrote, counted, each_reply, is_error, last_of, number_of, summary}
 use Rattle.ft_server.specs.Passes.{Adds, LegalFrom}
 use Rattle.ft_server.specs.Playing.{Counts, EndsLines, Played, Playing}

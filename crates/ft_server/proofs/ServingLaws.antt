@@ -5,7 +5,7 @@ use Rattle.std.specs.Io.KnownBytes.{Appends, Keeps}
 use Rattle.std.proofs.KnownBytes.{Appends-trans, Appends-nil, Appends-kept, Consumes-nil, Consumes-trans, Consumes-kept}
 use Rattle.ft_base.specs.Words.{is_quit}
 use Rattle.history_core.specs.Commands.{Said, replies_of, words_of}
-use Rattle.history_core.specs.declared.entry.Entry.{Entry}
+use Rattle.ft_engine.specs.Entries.{Entry}
 use Rattle.turn_gate.specs.Known.{Known}
 use Rattle.resp_wire.specs.Decoding.{Decoding, fed}
 use Rattle.resp_wire.specs.declared.fault.Stop.TheVariants.{More}

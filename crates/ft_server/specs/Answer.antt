@@ -2,7 +2,7 @@
 use Rattle.std.specs.Prelude.{ℕ, List, [], ◌∷◌}
 use Rattle.std.specs.declared.option.Option.{Option}
 use Rattle.fs_ports.specs.Moments.{Gives}
-use Rattle.history_core.specs.declared.entry.Entry.{Entry}
+use Rattle.ft_engine.specs.Entries.{Entry}
 use Rattle.turn_gate.specs.Known.{Known}
 use Rattle.ft_server.specs.Passes.{Adds}
 

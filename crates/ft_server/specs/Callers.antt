@@ -3,17 +3,17 @@ use Rattle.std.specs.Prelude.{◌≡◌, ℕ, List, ◌++◌, true}
 use Rattle.std.specs.declared.option.Option.{Option}
 use Rattle.std.specs.List.{All}
 use Rattle.fs_ports.specs.Moments.{Gives}
-use Rattle.history_core.specs.Commands.{Said, caller_of, moments_of, own}
-use Rattle.history_core.specs.declared.entry.Entry.{Entry}
+use Rattle.history_core.specs.Commands.{Said, caller_of, commands_of, moments_of, own}
+use Rattle.ft_engine.specs.Entries.{Entry, IsHistory}
 use Rattle.turn_gate.specs.Known.{Known}
-use Rattle.ft_machine.specs.Clean.{IsHistory, Marked}
+use Rattle.ft_machine.specs.Clean.{Marked}
 
--- They are its own among the entries that its pass has seen since, at the moments that the clock gave, in order. Where the
+-- They, and nothing else, are its own among the entries that its pass has seen since, at the moments that the clock gave, in order. Where the
 -- pass is alone, these entries are all its own.
 pub record Called (pass pass' : Known Entry) (said : List Said) (given given' : Option (List ℕ)) : Type 0 where
   pub added : List Entry
   pub seen : pass'.seen ≡ pass.seen ++ added
-  pub own_are : own pass.caller added ≡ said
+  pub own_are : own pass.caller added ≡ commands_of pass.caller said
   pub alone : pass.alone ≡ true → All (λ (entry : Entry). caller_of entry ≡ pass.caller) added
   pub moments : Gives given given' (moments_of said)
 
@@ -24,6 +24,6 @@ pub record Answered (said : List Said) (given given' : Option (List ℕ)) : Type
   pub entries : List Entry
   pub after : Marked
   pub legal : IsHistory 1 entries after
-  pub own_are : own 0 entries ≡ said
+  pub own_are : own 0 entries ≡ commands_of 0 said
   pub alone : All (λ (entry : Entry). caller_of entry ≡ 0) entries
   pub moments : Gives given given' (moments_of said)

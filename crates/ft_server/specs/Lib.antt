@@ -1,8 +1,9 @@
 pub mod Answer
+pub mod BlockLaws
+pub mod Blocks
 pub mod Callers
 pub mod Ends
 pub mod FaultText
-pub mod Forms
 pub mod Limits
 pub mod Load
 pub mod Passes

@@ -1,5 +1,5 @@
 -- What is promised of a run of the load: four lines that sum up the replies to its commands.
-use Rattle.std.specs.Prelude.{◌≡◌, ℕ, zero, suc, ◌-◌, ℤ, pos, List, [], ◌∷◌, ◌++◌, length, map, drop, take, sum_by, codes, Bool, false, ◌==◌, Some, None, if◌then◌else◌}
+use Rattle.std.specs.Prelude.{◌≡◌, ℕ, ◌-◌, ℤ, pos, List, [], ◌∷◌, ◌++◌, length, map, take, sum_by, codes, Bool, false, ◌==◌, Some, if◌then◌else◌}
 use Rattle.std.specs.Fmt.{decimal}
 use Rattle.std.specs.Io.KnownBytes.{Appends, Keeps}
 use Rattle.std.specs.List.{All, count_by}
@@ -7,9 +7,9 @@ use Rattle.std.specs.declared.option.Option.{Option}
 use Rattle.ft_base.specs.Number.{int_of}
 use Rattle.fs_ports.specs.Causes.{Rose}
 use Rattle.fs_ports.specs.declared.link.Link as Link
-use Rattle.history_core.specs.Commands.{Said, caller_of, own, words_of}
-use Rattle.history_core.specs.declared.entry.Entry.{Entry}
-use Rattle.ft_machine.specs.Clean.{IsHistory, Marked}
+use Rattle.history_core.specs.Commands.{Said, caller_of, commands_of, own, words_of}
+use Rattle.ft_engine.specs.Entries.{Entry, IsHistory}
+use Rattle.ft_machine.specs.Clean.{Marked}
 use Rattle.load_maker.specs.Load.{load}
 use Rattle.resp_wire.specs.Stream.{Command}
 use Rattle.ft_server.specs.Session.{IsCut, Outside}
@@ -58,7 +58,7 @@ pub record Loaded (commands : List Command) (said : List Said) : Type 0 where
   pub entries : List Entry
   pub after : Marked
   pub legal : IsHistory 1 entries after
-  pub own_are : own 0 entries ≡ said
+  pub own_are : own 0 entries ≡ commands_of 0 said
   pub alone : All (λ (entry : Entry). caller_of entry ≡ 0) entries
   pub words : words_of said ≡ commands
   pub moments : All (λ (one : Said). one.moment ≡ 0) said

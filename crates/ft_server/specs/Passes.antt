@@ -1,11 +1,13 @@
 -- The passes of a server: what a pass has seen, and what a turn adds to it.
-use Rattle.std.specs.Prelude.{◌≡◌, ℕ, List, [], ◌∷◌, ◌++◌, true}
+use Rattle.std.specs.Prelude.{◌≡◌, ℕ, suc, List, [], ◌∷◌, ◌++◌, Bool, true, false, nat_eq, if◌then◌else◌}
 use Rattle.history_core.specs.Commands.{caller_of}
-use Rattle.history_core.specs.declared.entry.Entry.{Entry}
-use Rattle.history_core.specs.declared.entry.Entry.TheVariants.{Exec}
+use Rattle.ft_engine.specs.Entries.{Entry, IsHistory}
+use Rattle.history_core.specs.Entries.{Exec, Scan, Splice}
+use Rattle.history_core.specs.Pictures.{Pictured}
+use Rattle.ft_index.specs.declared.snapshots.Snapshot.{Snapshot}
 use Rattle.turn_gate.specs.Known.{GateName, Known}
 use Rattle.turn_gate.specs.Log.{NoneBy}
-use Rattle.ft_machine.specs.Clean.{IsHistory, Marked}
+use Rattle.ft_machine.specs.Clean.{Marked}
 
 -- the entries are a legal history from this number on, and FT.INFO tells in it just the live records of clean indexes
 abbrev pub LegalFrom : ℕ → List Entry → Type 0
@@ -15,10 +17,33 @@ LegalFrom first entries = (after : Marked) × IsHistory first entries after
 abbrev pub IsOf : GateName → Known Entry → Type 0
 IsOf server pass = (pass.gate ≡ server) × LegalFrom server.first pass.seen
 
--- A turn of one command: behind what the pass had seen come entries of others, of which there are none where it is alone,
--- and then the command as its own.
-pub record Adds (pass pass' : Known Entry) (moment : ℕ) (words : List (List ℕ)) (reply : List ℕ) : Type 0 where
+-- A turn of one entry: behind what the pass had seen come entries of others, of which there are none where it is alone, and
+-- then this one.
+pub record AddsEntry (pass pass' : Known Entry) (entry : Entry) : Type 0 where
   pub others : List Entry
   pub none_own : NoneBy caller_of pass.caller others
   pub none : pass.alone ≡ true → others ≡ []
-  pub seen : pass'.seen ≡ (pass.seen ++ others) ++ Exec pass.caller moment words reply ∷ []
+  pub seen : pass'.seen ≡ (pass.seen ++ others) ++ entry ∷ []
+
+-- The same of a command, as the pass's own.
+abbrev pub Adds : Known Entry → Known Entry → ℕ → List (List ℕ) → List ℕ → Type 0
+Adds pass pass' moment words reply = AddsEntry pass pass' (Exec pass.caller moment words reply)
+
+-- whether an entry is a scan of this caller
+abbrev pub is_scan : ℕ → Entry → Bool
+is_scan caller (Exec other moment words reply) = false
+is_scan caller (Scan other index result) = nat_eq caller other
+is_scan caller (Splice other scan name answer) = false
+
+-- the place of this caller's last scan among entries that begin at a place, and another place where there is none
+abbrev pub last_scan_from : ℕ → ℕ → ℕ → List Entry → ℕ
+last_scan_from caller best place [] = best
+last_scan_from caller best place (entry ∷ entries) = last_scan_from caller (if is_scan caller entry then place else best) (suc place) entries
+
+-- the place of this caller's last scan
+abbrev pub last_scan : ℕ → List Entry → ℕ
+last_scan caller entries = last_scan_from caller 0 0 entries
+
+-- the last scan that a pass has an entry of took this snapshot
+abbrev pub TookLast : Known Entry → Snapshot → Type 0
+TookLast pass snapshot = Pictured pass.seen (last_scan pass.caller pass.seen) snapshot

@@ -1,10 +1,10 @@
 -- The load under way: the commands that were answered so far, those that are left, and the text that is written at last. No
 -- public clause cites this file.
-use Rattle.std.specs.Prelude.{◌≡◌, ◌≤◌, ◌*◌, ◌^◌, ℕ, List, ◌++◌, length, sum_by, None, [], ◌∷◌}
+use Rattle.std.specs.Prelude.{◌≡◌, ◌≤◌, ◌*◌, ◌^◌, ℕ, List, ◌++◌, length, sum_by, None, []}
 use Rattle.std.specs.List.{All, count_by}
 use Rattle.fs_ports.specs.Causes.{Rose}
 use Rattle.history_core.specs.Commands.{Said, words_of}
-use Rattle.history_core.specs.declared.entry.Entry.{Entry}
+use Rattle.ft_engine.specs.Entries.{Entry}
 use Rattle.turn_gate.specs.Known.{Known}
 use Rattle.resp_wire.specs.Stream.{Command, stream_of}
 use Rattle.resp_wire.specs.declared.fault.Stop.TheVariants.{More}

@@ -20,7 +20,7 @@ struct Note<'a> {
 impl<'a> Told<LogEntry> for Note<'a> {
     ghost use Rattle.std.specs.Prelude.{◌∷◌, [], refl};
     ghost use Rattle.std.proofs.Common.{arith};
-    ghost use Rattle.history_core.specs.declared.entry.Entry.TheVariants.{Exec};
+    ghost use Rattle.history_core.specs.Entries.{Exec};
 
     ghost size = { λ _. 1 };
 

@@ -1,20 +1,20 @@
 //! The engine under the turn lock, and the entries of its log.
 use ft_engine::Engine;
-use history_core::Entry;
+use std::convert::Infallible;
 use std::marker::Model;
 use turn_gate::{Chronicle, Logged};
 
 /// An entry of a server's log. A contract sees an entry of a history; no value of it is made.
 pub struct LogEntry {
-    entry: Entry,
+    never: Infallible,
 }
 
 impl Model for LogEntry {
-    ghost use Rattle.history_core.specs.declared.entry.Entry.{Entry as Made};
+    ghost use Rattle.ft_engine.specs.Entries.{Entry as Made};
 
     ghost Value = { Made };
 
-    ghost view = { λ e. e.entry };
+    ghost view = { λ e. elim e.never [ ] };
 }
 
 impl Logged for LogEntry {

@@ -1,8 +1,8 @@
 //! All that the program does over a link and a clock of any kind.
-ghost use Rattle.std.specs.Prelude.{◌≡◌, ◌↔◌, ℕ, [], true, IfOk};
+ghost use Rattle.std.specs.Prelude.{◌≡◌, ◌⊎◌, ℕ, [], true, IfOk};
+ghost use Rattle.command_line.specs.Forms.{IsLoad, IsScript};
 ghost use Rattle.ft_server.specs.Callers.{Answered};
 ghost use Rattle.ft_server.specs.Ends.{Ended, Ends};
-ghost use Rattle.ft_server.specs.Forms.{IsLoad, IsScript};
 ghost use Rattle.ft_server.specs.Load.{EndsLoad};
 ghost use Rattle.ft_server.specs.Limits.{HaveNumbers};
 ghost use Rattle.ft_server.specs.Passes.{IsOf};
@@ -10,9 +10,9 @@ ghost use Rattle.ft_server.specs.Session.{AllAnswered, told};
 
 use crate::connection::{End, serve_connection};
 use crate::exit::Exit;
-use crate::form::{Form, WordFault, read_words};
 use crate::load::run_load;
 use crate::server::{Pass, Server};
+use command_line::{Form, WordFault, read_words};
 use fs_ports::{Clock, Link};
 use ft_base::NoMemory;
 use ft_engine::Engine;
@@ -40,9 +40,12 @@ pub fn run<L: Link, C: Clock, R: Wait>(
     // What the load wrote, by how the run ended.
     ensures load { (seed docs : ℕ) → IsLoad words.now seed docs → EndsLoad seed docs result
         (told L.Link C.Clock link.old clock.old) (told L.Link C.Clock link.new clock.new) }
-    ensures usage { (result ≡ Exit.Usage)
-        ↔ ((IsScript words.now → ⊥) × ((seed docs : ℕ) → IsLoad words.now seed docs → ⊥)) }
-    ensures nothing { result ≡ Exit.Usage
+    // Words that are neither are refused, or memory runs out for reading them; then nothing is done.
+    ensures usage { result ≡ Exit.Usage
+        → (IsScript words.now → ⊥) × ((seed docs : ℕ) → IsLoad words.now seed docs → ⊥) }
+    ensures others { (IsScript words.now → ⊥) → ((seed docs : ℕ) → IsLoad words.now seed docs → ⊥)
+        → (result ≡ Exit.Usage) ⊎ (result ≡ Exit.NoMemory) }
+    ensures nothing { (IsScript words.now → ⊥) → ((seed docs : ℕ) → IsLoad words.now seed docs → ⊥)
         → told L.Link C.Clock link.new clock.new ≡ told L.Link C.Clock link.old clock.old }
     // What the limits of a command are, by which its definition goes.
     ensures limits { HaveNumbers }
@@ -50,7 +53,8 @@ pub fn run<L: Link, C: Clock, R: Wait>(
     match read_words(alloc, words) {
         Ok(Form::Script) => Exit::at(serve_alone(rt, alloc, hashing, link, clock)),
         Ok(Form::Load { seed, docs }) => run_load(rt, alloc, hashing, seed, docs, link),
-        Ok(Form::Serve { .. }) | Err(WordFault::Usage) => Exit::Usage,
+        Ok(Form::Serve { .. }) => Exit::Usage,
+        Err(WordFault::Usage) => Exit::Usage,
         Err(WordFault::NoMemory) => Exit::NoMemory,
     }
 }

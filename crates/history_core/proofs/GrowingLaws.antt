@@ -38,6 +38,14 @@ module _ {E : Type 0} where
   leads_more {M} legal before (x ∷ entries) entry old mid new leads may =
       (leads.0, leads.1, leads_more legal (before ++ x ∷ []) entries entry leads.0 mid new leads.2 (subst (λ (l : List E). legal l mid entry new) (sym (append_assoc before (x ∷ []) entries)) may))
 
+  -- entries that lead to a state lead on by others
+  pub leads_append : {M : Type 0} (legal : List E → M → E → M → Type 0) (before entries others : List E) (old mid new : M)
+      → Leads legal before old entries mid → Leads legal (before ++ entries) mid others new → Leads legal before old (entries ++ others) new
+  leads_append {M} legal before [] others old mid new is leads =
+      subst (λ (m : M). Leads legal before m others new) (sym is) (subst (λ (l : List E). Leads legal l mid others new) (append-nil before) leads)
+  leads_append {M} legal before (x ∷ entries) others old mid new leads on =
+      (leads.0, leads.1, leads_append legal (before ++ x ∷ []) entries others leads.0 mid new leads.2 (subst (λ (l : List E). Leads legal l mid others new) (sym (append_assoc before (x ∷ []) entries)) on))
+
   -- an entry stays at its place
   pub at_more : (entries more : List E) (place : ℕ) (entry : E) → at entries place ≡ Some entry → at (entries ++ more) place ≡ Some entry
   at_more [] more place entry is = absurd (let no : ⊥ = cc in no)

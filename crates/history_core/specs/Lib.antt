@@ -1,3 +1,6 @@
 pub mod Commands
+pub mod Entries
+pub mod Events
 pub mod Histories
+pub mod Pictures
 pub mod Running

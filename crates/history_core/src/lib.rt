@@ -2,16 +2,14 @@
 //!
 //! A history is a list of entries, each judged with all that stand before it (`specs/Histories.antt`). `run` gives
 //! events to any machine, one after another, and its outcomes are those of such a history. Read
-//! `specs/Histories.antt` and `specs/Commands.antt` first, then `entry.rt`, `event.rt`, `machine.rt` and `runner.rt`.
+//! `specs/Histories.antt`, `specs/Entries.antt` and `specs/Commands.antt` first, then `event.rt`, `machine.rt` and
+//! `runner.rt`.
 #![tactic(auto)]
 
-mod entry;
 mod event;
 mod machine;
 mod runner;
 
-/// What one event left in a history.
-pub use entry::Entry;
 /// What a machine is asked, and what that came to.
 pub use event::{Event, Outcome};
 /// A state that events change.

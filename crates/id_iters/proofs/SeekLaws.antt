@@ -1,11 +1,11 @@
 -- When an iterator may be asked, layer by layer.
-use Rattle.std.proofs.Common.{◌≡◌, ℕ, ◌≤◌, ◌+◌, Bool, true, false, not, List, Option, Some, None, IfSome, Result, Ok, Err, IfOk, OnOk, map, max, get_or, refl, sym, ap, ◌∙◌, subst, Box, Global, arith, cond}
+use Rattle.std.proofs.Common.{◌≡◌, ℕ, ◌<◌, ◌≤◌, ◌+◌, Bool, true, false, not, List, Option, Some, None, IfSome, Result, Ok, Err, IfOk, OnOk, map, max, get_or, refl, sym, ap, ◌∙◌, subst, Box, Global, arith, cond}
 use Rattle.std.specs.List.{All}
 use Rattle.std.proofs.lemmas.List.Elements.{recursion_from_All, All-from_recursion}
 use Rattle.std.proofs.lemmas.Bool.{leb-true, leb-false}
 use lib.Dec.{leb}
 use Rattle.id_iters.specs.Held.{Held}
-use Rattle.id_iters.specs.Least.{IsLeast}
+use Rattle.id_iters.specs.Least.{IsLeast, NoneBetween}
 use Rattle.id_iters.specs.Places.{LeafReady, LeavesReady}
 use Rattle.id_iters.specs.Ready.{ReadyAt, AheadAt, Ready, AheadReady, UnionReady, Keeps, kept_answer}
 use Rattle.id_iters.specs.Sets.{About, about, about_ahead, in_set, living, deepest}
@@ -63,6 +63,16 @@ not_kept p ready true (Some n) from f h k e = pick (leb from n) refl e
 pub keeps_new : (p : ℕ → Bool) (ready : ℕ → Type 0) (answer : Option ℕ) (from f : ℕ) → IsLeast p from answer → IfSome answer (λ n. (k : ℕ) → n + 1 ≤ k → ready k) → from ≤ f → Keeps p ready true answer f
 keeps_new p ready None from f least r h = record { fails = λ id low. least.fails id (omega (arith, h, low)) }
 keeps_new p ready (Some n) from f least r h = (least.passes, record { fails = λ id low high. least.below.fails id (omega (arith, h, low)) high }, λ k g. r k (omega (arith, g)))
+
+-- a kept id stays one for another reader that may be asked wherever the first one may
+pub keeps_rested : (p q : ℕ → Bool) (ready rested : ℕ → Type 0) (asked : Bool) (next : Option ℕ) (id f : ℕ) → asked ≡ true → next ≡ Some id → q ≡ p
+    → (((k : ℕ) → id < k → ready k) → (k : ℕ) → id < k → rested k) → Keeps p ready asked next f → Keeps q rested asked next f
+keeps_rested p q ready rested asked next id f is some same rest k =
+    subst (λ (b : Bool). Keeps q rested b next f) (sym is) (subst (λ (o : Option ℕ). Keeps q rested true o f) (sym some)
+    (inner (subst (λ (o : Option ℕ). Keeps p ready true o f) some (subst (λ (b : Bool). Keeps p ready b next f) is k))))
+  where
+    inner : Keeps p ready true (Some id) f → Keeps q rested true (Some id) f
+    inner h = subst (λ (s : ℕ → Bool). (s id ≡ true) × NoneBetween s f id × ((k : ℕ) → id < k → rested k)) (sym same) (h.0, h.1, rest h.2)
 
 module _ (held : Held) where
   pub ready_later : (i : Iter) (from f : ℕ) → Ready held i from → from ≤ f → Ready held i f
@@ -148,6 +158,15 @@ module _ (held : Held) where
       later : (o : Option ℕ) → IfSome o (λ n. Ready held i (n + 1)) → IfSome o (λ n. (k : ℕ) → n + 1 ≤ k → ReadyAt held i k)
       later None x = tt
       later (Some n) x = λ k h. x.later k h
+
+  -- a part that keeps an id may give up what its iterator has read ahead
+  pub ahead_rested : (a : Ahead) (i : Iter) (id from : ℕ) → a.asked ≡ true → a.next ≡ Some id → about held i ≡ about held a.iter
+      → ((k : ℕ) → id < k → Ready held a.iter k → Ready held i k) → AheadReady held a from
+      → AheadReady held (views.roll-Ahead (record { iter = i; asked = a.asked; next = a.next })) from
+  ahead_rested a i id from is some same rest r =
+      ahead_ready (record { iter = i; asked = a.asked; next = a.next }) from (λ f h.
+      keeps_rested (in_set held a.iter) (in_set held i) (ReadyAt held a.iter) (ReadyAt held i) a.asked a.next id f is some (ap (λ (x : About). living held.live x) same)
+      (λ all k g. (rest k g (record { later = λ n more. all n (omega (arith, g, more)) })).later k (omega arith)) (ahead_keeps a from f r h))
 
   -- what is known of a value that was matched
   pub and_parts_at : (self : Iter) (parts v : List Iter) (from : ℕ) → self ≡ variant.And parts → v ≡ parts → Ready held self from → All (λ p. Ready held p from) v

@@ -11,11 +11,13 @@ use std::marker::Model;
 /// So many words are read ahead: 4,096 ids.
 const WORDS: usize = 64;
 
-/// The ids of a stretch that are in, a bit for each. The first word has those from 64 times `start` on.
+/// The ids of a stretch that are in, a bit for each. The first word has those from 64 times `start` on. Where `frugal` is set, the
+/// lists that they are read from keep no memory for what they have read ahead; no clause speaks of it.
 #[derive(Drop)]
 pub struct Bits {
     start: u64,
     words: Vec<u64>,
+    frugal: bool,
 }
 
 impl Model for Bits {
@@ -31,14 +33,20 @@ impl Model for Bits {
 
 impl Bits {
     /// An empty stretch, and no memory taken.
-    pub(crate) fn new(alloc: Global) -> Bits
+    pub(crate) fn new(alloc: Global, frugal: bool) -> Bits
         ensures base { base_of result ≡ 0 }
         ensures limit { limit_of result ≡ 0 }
     {
         Bits {
             start: 0,
             words: Vec::new(alloc),
+            frugal,
         }
+    }
+
+    /// Whether lists are to keep no memory for what they have read ahead.
+    pub(crate) fn is_frugal(&self) -> bool {
+        self.frugal
     }
 
     /// Where the stretch ends.

@@ -17,7 +17,7 @@ use posting_block::Payload;
 use std::sync::ledger::Ledger;
 
 /// The least live id from `from` on whose hit is wanted in the list, where there is one. Nothing is left between `from` and
-/// the place. Behind an id the ids ahead are those up to the place.
+/// the place. Behind an id the ids ahead are those up to the place; at the list's end their memory is given back.
 pub(crate) fn read_in<P: Payload, H: HitTest<P>, T: Lists, L: Ledger>(
     list: Option<&List<P>>,
     test: &H,
@@ -71,7 +71,10 @@ fn read_list<P: Payload, H: HitTest<P>, T: Lists, L: Ledger>(
         let start = later(from, place.last + 1);
         match read_block(list, test, place, ahead, start, steps) {
             Ok(true) => {}
-            Ok(false) => return Ok(None),
+            Ok(false) => {
+                ahead.forget();
+                return Ok(None);
+            }
             Err(fault) => return Err(fault),
         }
         if let Some(id) = ahead.next_live(lists, start) {

@@ -118,6 +118,21 @@ impl Ahead {
         self.asked = true;
         Ok(self.next)
     }
+
+    // Where it keeps an id and is to be frugal, a part that is a leaf gives the memory of what it has read ahead back.
+    fn rest<T: Lists, L: Ledger>(&mut self, frugal: bool, lists: &T, steps: &mut Steps<L>)
+        ensures same { about_ahead (T.held lists.now) self.new ≡ about_ahead (T.held lists.now) self.old }
+        ensures ready { (from : ℕ)
+            → AheadReady (T.held lists.now) self.old from → AheadReady (T.held lists.now) self.new from }
+        ensures counts { steps.old ≤ steps.new }
+    {
+        if !frugal || !self.asked {
+            return;
+        }
+        if let Some(id) = self.next {
+            self.iter.rest(lists, id, steps);
+        }
+    }
 }
 
 impl Iter {
@@ -148,6 +163,19 @@ impl Iter {
             Iter::All => Ok(lists.next_live(from)),
             Iter::Phrase(phrase) => phrase.seek(lists, from, steps),
             Iter::Empty => Ok(None),
+        }
+    }
+
+    // A leaf gives the memory of what it has read ahead back, behind an id.
+    fn rest<T: Lists, L: Ledger>(&mut self, lists: &T, id: u64, steps: &mut Steps<L>)
+        ensures same { about (T.held lists.now) self.new ≡ about (T.held lists.now) self.old }
+        ensures ready { (from : ℕ) → id < from
+            → Ready (T.held lists.now) self.old from → Ready (T.held lists.now) self.new from }
+        ensures counts { steps.old ≤ steps.new }
+    {
+        match self {
+            Iter::Leaf(leaf) => leaf.rest(lists, id, steps),
+            _ => {}
         }
     }
 }
@@ -264,6 +292,7 @@ fn mark<T: Lists, L: Ledger>(
     let mut next = from;
     'ids: while let Some(id) = part.seek(lists, next, steps)? {
         if limit <= id {
+            part.rest(stretch.is_frugal(), lists, steps);
             return Ok(());
         }
         stretch.set(id);

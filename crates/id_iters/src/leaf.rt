@@ -102,7 +102,17 @@ impl Leaf {
         self.read_on(lists, from, steps)
     }
 
-    // The same, where no id is left up to the place. The list is looked up by its name.
+    /// Gives the memory of the ids ahead back. The leaf then stands behind an id, and reads on from there.
+    pub(crate) fn rest<T: Lists, L: Ledger>(&mut self, lists: &T, id: u64, steps: &mut Steps<L>)
+        ensures same { self.new ≡ record self.old { place = self.new.place; ahead = self.new.ahead } }
+        ensures ready { LeafReady (T.held lists.now) self.new (id + 1) }
+        ensures counts { steps.old ≤ steps.new }
+    {
+        self.place = self.list.open_near(lists, self.place, id, steps);
+        self.ahead.forget();
+    }
+
+    // The least live id from `from` on, where none is left up to the place. The list is looked up by its name.
     #[inline(never)]
     fn read_on<T: Lists, L: Ledger>(
         &mut self,

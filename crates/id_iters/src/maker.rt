@@ -46,15 +46,16 @@ impl Iter {
         Iter::And(parts)
     }
 
-    /// The ids that some part has.
-    pub fn of_some(alloc: Global, parts: ListOf<Ahead>) -> Iter
+    /// The ids that some part has. Where it is to be frugal, a part that is a leaf gives its memory back each time that its ids were
+    /// read into the bits of a stretch, and reads the last block again for the next one.
+    pub fn of_some(alloc: Global, parts: ListOf<Ahead>, frugal: bool) -> Iter
         ensures set { (held : Held)
             → (about held result).has ≡ any_has (map (about_ahead held) parts) }
         ensures ready { (held : Held) (from : ℕ)
             → All (λ part. AheadReady held part from) parts → Ready held result from }
         ensures leaves { leaves_of result ≡ flat_map leaves_of_ahead parts }
     {
-        let stretch = Bits::new(alloc);
+        let stretch = Bits::new(alloc, frugal);
         Iter::Or { parts, stretch }
     }
 

@@ -38,6 +38,15 @@ impl ReadAhead {
         }
     }
 
+    /// Gives the ids up, and their memory back.
+    pub(crate) fn forget(&mut self)
+        ensures { self.new ≡ [] }
+    {
+        let alloc = *self.ids.allocator();
+        self.ids = Vec::new(alloc);
+        self.at = 0;
+    }
+
     /// The first id from `from` on that lives. It stays, and those before it go.
     #[inline(always)]
     pub(crate) fn next_live<T: Lists>(&mut self, lists: &T, from: u64) -> Option<u64>

@@ -33,8 +33,17 @@ fn read_all<P: Payload>(block: &Block<P>, ids: &mut Vec<u64>) -> Result<(), NoMe
     ensures rises { RisesAbove 0 block.now }
     ensures fits { OnOk result (AllFit P.valid block.now) }
 {
+    widen(ids, block.len())?;
     ids.resize(block.len(), 0)?;
     let _ = block.ids_into(ids.as_mut_slice());
+    Ok(())
+}
+
+// Room for so many ids and no more, where there is less. The ids there may go.
+fn widen(ids: &mut Vec<u64>, count: usize) -> Result<(), NoMemory> {
+    if ids.capacity() < count {
+        make_room(ids, count)?;
+    }
     Ok(())
 }
 
@@ -59,12 +68,12 @@ fn read_wanted<P: Payload, H: HitTest<P>>(
     Ok(())
 }
 
-// No ids, and room for some.
+// No ids, and room for some, which is no more than they need or than there was.
 fn make_room(ids: &mut Vec<u64>, count: usize) -> Result<(), NoMemory>
     ensures { OnOk result (ids.new.items ≡ []) }
 {
     ids.clear();
-    ids.reserve(count)?;
+    ids.reserve_exact(count)?;
     Ok(())
 }
 

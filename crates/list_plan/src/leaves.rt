@@ -15,8 +15,8 @@ use ft_base::{NoMemory, Steps};
 use id_iters::{Iter, Leaf, ListName, Lists};
 use std::sync::ledger::Ledger;
 
-/// The leaf of a list of so many entries, behind the ids up to the one that the sources name. Where the room for leaves is used up the
-/// list is not opened.
+/// The leaf of a list, behind the ids up to the one that the sources name. Where the room for leaves is used up the list is not
+/// opened. Room for so many entries that it reads ahead is taken too; whoever has a leaf that keeps more takes room for them.
 pub fn leaf_of<T: Lists, L: Ledger>(
     sources: &Sources<T>,
     list: ListName,
@@ -43,7 +43,7 @@ pub fn leaf_of<T: Lists, L: Ledger>(
         IsSome (place_of sources.now.known.now leaf.list) → steps.new ≡ steps.old) }
     ensures counts { steps.old ≤ steps.new }
 {
-    sources.room.take_leaf(entries)?;
+    sources.room.take_leaf(entries, wanted.fields)?;
     let fields = wanted.fields.copy(sources.alloc)?;
     let hint = place_of(sources.known, &list);
     let place = list.open_at(sources.lists, hint, sources.after, steps);
@@ -69,7 +69,7 @@ pub fn plan_list<T: Lists, L: Ledger>(
     ensures counts { steps.old ≤ steps.new }
 {
     let size = list_size(sources.lists, &list);
-    let leaf = leaf_of(sources, list, size, wanted, steps)?;
+    let leaf = leaf_of(sources, list, 0, wanted, steps)?;
     Ok(Planned {
         iter: Iter::of_leaf(leaf),
         size,
@@ -94,9 +94,13 @@ pub fn plan_lists<T: Lists, L: Ledger>(
         AllKnown (place_of sources.now.known.now) (leaves_of planned.iter) → steps.new ≡ steps.old) }
     ensures counts { steps.old ≤ steps.new }
 {
+    let count = lists.len() as u64;
     let mut plans = Vec::new(sources.alloc);
     plan_each_list(sources, lists, wanted, &mut plans, steps)?;
-    Ok(some_of(sources.alloc, plans)?)
+    sources.room.give_names(count);
+    let made = some_of(sources.alloc, &sources.room, plans)?;
+    sources.room.give_leaves(count);
+    Ok(made)
 }
 
 // The ids of each list go into a vector that has none.

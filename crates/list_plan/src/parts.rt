@@ -8,6 +8,7 @@ ghost use Rattle.id_iters.specs.declared.iter.Iter.TheVariants as variant;
 ghost use Rattle.list_plan.specs.Parts.{Combines, Denies, IsAny, IsEvery, JoinsSides, Sorts, Splits, part_has};
 ghost use Rattle.list_plan.specs.Plans.{Gains, ids_of};
 
+use crate::room::Room;
 use crate::size::Planned;
 use crate::union::{every_of, other_of, some_of};
 use ft_base::NoMemory;
@@ -53,7 +54,7 @@ impl Part {
     }
 
     /// The part as one set.
-    pub fn whole(self, alloc: Global) -> Result<Planned, NoMemory>
+    pub fn whole(self, alloc: Global, room: &Room) -> Result<Planned, NoMemory>
         ensures set { IfOk result (λ made. (held : Held) (id : ℕ)
             → ids_of held made id ≡ part_has held self id) }
         ensures ready { IfOk result (λ made. (held : Held) (from : ℕ)
@@ -66,7 +67,7 @@ impl Part {
         if is_none(&self.planned.iter) {
             return Ok(Planned::all());
         }
-        Ok(other_of(alloc, self.planned)?)
+        Ok(other_of(alloc, room, self.planned)?)
     }
 }
 
@@ -100,21 +101,21 @@ pub fn add_part(parts: &mut Vec<Part>, made: Result<Part, NoMemory>) -> Result<(
 }
 
 /// The ids that every part has. Those that are negated are one negation of a union, and those that have all ids are not asked.
-pub fn every_part(alloc: Global, parts: Vec<Part>) -> Result<Part, NoMemory>
+pub fn every_part(alloc: Global, room: &Room, parts: Vec<Part>) -> Result<Part, NoMemory>
     ensures { IfOk result (λ made. IsEvery parts.items made) }
 {
     let mut found = Vec::new(alloc);
     let mut denied = Vec::new(alloc);
     split(parts, &mut found, &mut denied)?;
-    Ok(put_together(alloc, found, denied)?)
+    Ok(put_together(alloc, room, found, denied)?)
 }
 
 /// The ids that some part has: those that the others of every part have not.
-pub fn some_part(alloc: Global, parts: Vec<Part>) -> Result<Part, NoMemory>
+pub fn some_part(alloc: Global, room: &Room, parts: Vec<Part>) -> Result<Part, NoMemory>
     ensures { IfOk result (λ made. IsAny parts.items made) }
 {
     let others = others_of(alloc, parts)?;
-    let made = every_part(alloc, others)?;
+    let made = every_part(alloc, room, others)?;
     Ok(made.other())
 }
 
@@ -166,18 +167,23 @@ fn sort(part: Part, found: &mut Vec<Planned>, denied: &mut Vec<Planned>) -> Resu
 }
 
 // The ids that every found set has, and no denied one. Without a found set they are those that no denied one has.
-fn put_together(alloc: Global, found: Vec<Planned>, denied: Vec<Planned>) -> Result<Part, NoMemory>
+fn put_together(
+    alloc: Global,
+    room: &Room,
+    found: Vec<Planned>,
+    denied: Vec<Planned>,
+) -> Result<Part, NoMemory>
     ensures { IfOk result (λ made. JoinsSides found.items denied.items made) }
 {
     if found.len() == 0 {
         return Ok(Part {
-            planned: some_of(alloc, denied)?,
+            planned: some_of(alloc, room, denied)?,
             negated: true,
         });
     }
-    let all = with_denied(alloc, found, denied)?;
+    let all = with_denied(alloc, room, found, denied)?;
     Ok(Part {
-        planned: every_of(alloc, all)?,
+        planned: every_of(alloc, room, all)?,
         negated: false,
     })
 }
@@ -185,6 +191,7 @@ fn put_together(alloc: Global, found: Vec<Planned>, denied: Vec<Planned>) -> Res
 // The found sets and, where there are denied ones, what none of these has.
 fn with_denied(
     alloc: Global,
+    room: &Room,
     found: Vec<Planned>,
     denied: Vec<Planned>,
 ) -> Result<Vec<Planned>, NoMemory>
@@ -193,16 +200,16 @@ fn with_denied(
     if denied.len() == 0 {
         return Ok(found);
     }
-    let none = none_of(alloc, denied)?;
+    let none = none_of(alloc, room, denied)?;
     let mut all = found;
     all.push(none)?;
     Ok(all)
 }
 
 // The ids that no set has.
-fn none_of(alloc: Global, plans: Vec<Planned>) -> Result<Planned, NoMemory>
+fn none_of(alloc: Global, room: &Room, plans: Vec<Planned>) -> Result<Planned, NoMemory>
     ensures { IfOk result (λ made. Denies plans.items made) }
 {
-    let some = some_of(alloc, plans)?;
-    Ok(other_of(alloc, some)?)
+    let some = some_of(alloc, room, plans)?;
+    Ok(other_of(alloc, room, some)?)
 }

@@ -52,6 +52,6 @@ pub fn plan<T: Lists, L: Ledger>(
         room: Room::new(),
     };
     let part = plan_part(&sources, query, steps)?;
-    let planned = part.whole(alloc)?;
+    let planned = part.whole(alloc, &sources.room)?;
     Ok(planned.iter)
 }

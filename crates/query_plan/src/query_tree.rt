@@ -48,27 +48,13 @@ pub fn plan_part<T: Lists, L: Ledger>(
     }
 }
 
-// Takes room for what a part needs beside its leaves.
+// Takes room for what a part needs beside its leaves and unions.
 fn take_room<T>(sources: &Sources<T>, query: &Query) -> Result<(), NoMemory> {
     match query {
-        Query::And(parts) => take_negation(sources, parts.as_slice()),
-        Query::Or(_) => sources.room.take_union(),
         Query::Not(_) => sources.room.take_part(),
         Query::Phrase { .. } => sources.room.take_part(),
         _ => Ok(()),
     }
-}
-
-// Takes room for the union of the parts that must not be met, where there are several.
-fn take_negation<T>(sources: &Sources<T>, queries: &[Query]) -> Result<(), NoMemory> {
-    let negated = queries
-        .iter()
-        .filter(|query| matches!(query, Query::Not(_)))
-        .count();
-    if negated < 2 {
-        return Ok(());
-    }
-    sources.room.take_union()
 }
 
 // The plan of a part that asks nothing of others.
@@ -160,7 +146,7 @@ fn plan_every<T: Lists, L: Ledger>(
     ensures counts { steps.old ≤ steps.new }
 {
     let parts = plan_parts(sources, queries, steps)?;
-    Ok(every_part(sources.alloc, parts)?)
+    Ok(every_part(sources.alloc, &sources.room, parts)?)
 }
 
 // The plan of parts one of which has to be met.
@@ -184,7 +170,7 @@ fn plan_some<T: Lists, L: Ledger>(
     ensures counts { steps.old ≤ steps.new }
 {
     let parts = plan_parts(sources, queries, steps)?;
-    Ok(some_part(sources.alloc, parts)?)
+    Ok(some_part(sources.alloc, &sources.room, parts)?)
 }
 
 // The plan of a part that must not be met.

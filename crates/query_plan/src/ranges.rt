@@ -39,7 +39,10 @@ pub fn plan_range<T: Lists, L: Ledger>(
     let span = sources.lists.ranges_between(field, low, high);
     let mut plans = Vec::new(sources.alloc);
     plan_each_range(sources, field, span, low, high, &mut plans, steps)?;
-    Ok(some_of(sources.alloc, plans)?)
+    let count = plans.len() as u64;
+    let made = some_of(sources.alloc, &sources.room, plans)?;
+    sources.room.give_leaves(count);
+    Ok(made)
 }
 
 // The ids of each range from one place on and before another one go into a vector that has none.

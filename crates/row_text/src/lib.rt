@@ -8,11 +8,14 @@
 
 mod comparison;
 mod reply;
+mod spans;
 mod words;
 
 /// Whether a reply is as wanted.
 pub use comparison::fits;
 /// The lines of a reply, those that a row wants, and how they are shown.
 pub use reply::{put_lines, read_reply, wanted_lines};
+/// Where the words of a line lie, and whether a server takes them as a command.
+pub use spans::{is_small, part};
 /// A row, and the words of a text.
 pub use words::{Row, read_row, split_words};

@@ -5,9 +5,10 @@
 //! is none. The link takes so many bytes a write, and has nothing to read.
 use crate::links::{calls_of, lines_of, name_of, number};
 use crate::{Tally, clock_of, compare_row};
+use command_line::{Form, WordFault, read_words};
 use fs_ports::{ListOfPieces, MemLink};
 use ft_base::{ListOf, NoMemory, put_int};
-use ft_server::{Exit, Form, WordFault, read_words, run};
+use ft_server::{Exit, run};
 use row_text::{Row, read_row};
 use std::alloc::Global;
 use std::hash::RandomState;

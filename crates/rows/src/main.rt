@@ -1,4 +1,4 @@
-//! Sessions of commands with the reply that each wants, run through the server and compared.
+//! Sessions of commands with the reply that each expects, run through the server and compared.
 //!
 //! Standard input has the sessions. `== NAME` begins one, which runs in a fresh server; each further line is
 //! a row of `row_text`, a command and its reply. A row that begins with `N..M` stands for one row for each of

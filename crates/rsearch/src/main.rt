@@ -11,8 +11,9 @@ ghost use Rattle.std.specs.List.{All};
 ghost use Rattle.std.specs.Process.{exit_status};
 ghost use Rattle.ft_server.specs.Status.{status_of};
 
+use command_line::{Form, WordFault, read_words};
 use fs_ports::{Door, Failed, HeldDoor, HeldLink, Spawner};
-use ft_server::{Exit, Form, read_words, run};
+use ft_server::{Exit, run};
 use std::alloc::Global;
 use std::env;
 use std::hash::RandomState;
@@ -23,8 +24,8 @@ use std::process::ExitCode;
 use std::sync::Wait;
 use std::thread::Threads;
 use system_ports::{
-    NoDoors, StdLink, SystemClock, TcpDoor, TcpLink, ThreadSpawner, make_clocks, make_doors,
-    make_pace, start_thread,
+    NoDoors, SleepPace, StdLink, SystemClock, TcpDoor, TcpLink, ThreadSpawner, make_clocks,
+    make_doors, make_pace, start_thread,
 };
 use worker_pool::{Work, serve};
 
@@ -73,9 +74,24 @@ fn open_doors<R: Net<Listener = TcpListener, Stream = TcpStream>>(
     ensures some { IfOk result (λ asked. IfSome asked (λ doors. 0 < length doors.items)) }
     ensures idle { IfOk result (λ asked. IfSome asked (λ doors. All (λ door. door.out ≡ false) doors.items)) }
 {
-    let Some((port, workers)) = place_of(system.alloc(), line) else {
-        return Ok(None);
-    };
+    match place_of(system.alloc(), line) {
+        Ok(Some((port, workers))) => open_at(rt, system, port, workers),
+        Ok(None) => Ok(None),
+        Err(exit) => Err(end(system, exit)),
+    }
+}
+
+/// Doors at a port for so many workers, behind a line that says so, or how the process ends where they cannot be had.
+fn open_at<R: Net<Listener = TcpListener, Stream = TcpStream>>(
+    rt: &R,
+    system: &HostRuntime,
+    port: u16,
+    workers: u16,
+) -> Result<Option<Vec<HeldDoor<TcpDoor>>>, ExitCode>
+    requires some { 0 < workers }
+    ensures some { IfOk result (λ asked. IfSome asked (λ doors. 0 < length doors.items)) }
+    ensures idle { IfOk result (λ asked. IfSome asked (λ doors. All (λ door. door.out ≡ false) doors.items)) }
+{
     match make_doors(rt, system.alloc(), port, workers) {
         Ok(doors) => {
             let _ = eprintln!(system; "rsearch: listening on 127.0.0.1:{port}, {workers} workers");
@@ -109,7 +125,7 @@ fn answer_input<R: Wait + std::rt::Clock + Copy + Drop>(
 fn serve_doors<
     R: Threads + Wait + std::rt::Clock + Sync + Copy + Send + Drop + 'static,
     D: Door + Send + Drop + 'static,
-    S: Spawner<Work<D, SystemClock<R>>>,
+    S: Spawner<Work<D, SystemClock<R>, SleepPace<R>>>,
 >(
     rt: R,
     system: &HostRuntime,
@@ -138,7 +154,7 @@ fn serve_doors<
 fn serve_by<
     R: Threads + Wait + std::rt::Clock + Sync + Copy + Send + Drop + 'static,
     D: Door + Send + Drop + 'static,
-    S: Spawner<Work<D, SystemClock<R>>>,
+    S: Spawner<Work<D, SystemClock<R>, SleepPace<R>>>,
 >(
     rt: R,
     alloc: Global,
@@ -183,13 +199,15 @@ fn without_words(fault: ErrorKind) -> Exit {
     }
 }
 
-/// The port and the number of workers, where the words ask for a server at a port.
-fn place_of(alloc: Global, words: &[String]) -> Option<(u16, u16)>
-    ensures { IfSome result (λ place. 0 < place.1) }
+/// The port and the number of workers, where the words ask for a server at a port; an end where they cannot be read for want
+/// of memory.
+fn place_of(alloc: Global, words: &[String]) -> Result<Option<(u16, u16)>, Exit>
+    ensures { IfOk result (λ asked. IfSome asked (λ place. 0 < place.1)) }
 {
     match read_words(alloc, words) {
-        Ok(Form::Serve { port, workers }) => Some((port, workers)),
-        _ => None,
+        Ok(Form::Serve { port, workers }) => Ok(Some((port, workers))),
+        Ok(_) | Err(WordFault::Usage) => Ok(None),
+        Err(WordFault::NoMemory) => Err(Exit::NoMemory),
     }
 }
 

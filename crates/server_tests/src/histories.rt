@@ -3,10 +3,11 @@ ghost use Rattle.std.specs.Prelude.{IfSome};
 ghost use Rattle.std.specs.List.{All};
 ghost use Rattle.history_core.specs.Running.{IsLawful};
 
-use crate::session::{is_small, part};
 use ft_base::{Bytes, Frame, ListOf};
 use ft_engine::Engine;
+use gc_splice::Spliced;
 use history_core::{Event, Outcome, run};
+use row_text::{is_small, part};
 use std::alloc::Global;
 use std::hash::RandomState;
 use std::random::RandomSource;
@@ -58,11 +59,12 @@ fn come_to<R: RandomSource>(rt: &R, alloc: Global, events: &[Event], want: &[u8]
 }
 
 /// Whether the replies of outcomes, one behind another, are this.
-fn are_replies(alloc: Global, outcomes: &[Outcome], want: &[u8]) -> bool {
+fn are_replies(alloc: Global, outcomes: &[Outcome<Spliced>], want: &[u8]) -> bool {
     let mut all = Vec::new(alloc);
     for outcome in outcomes {
-        let Outcome::Replied(reply) = outcome;
-        let _ = all.extend_from_slice(reply.as_slice());
+        if let Outcome::Replied(reply) = outcome {
+            let _ = all.extend_from_slice(reply.as_slice());
+        }
     }
     all.as_slice() == want
 }

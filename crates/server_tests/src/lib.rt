@@ -22,6 +22,8 @@ mod passes;
 #[cfg(test)]
 mod ports;
 #[cfg(test)]
+mod rounds;
+#[cfg(test)]
 mod rows;
 #[cfg(test)]
 mod session;

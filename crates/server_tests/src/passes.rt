@@ -4,10 +4,10 @@ ghost use Rattle.std.specs.Prelude.{◌≤◌, vec_capacity};
 ghost use Rattle.ft_server.specs.Passes.{IsOf};
 
 use crate::links::{Faults, NONE, link_of, serve_as, server_of};
-use crate::session::{is_small, part};
 use fs_ports::MemLink;
 use ft_base::{Span, Words};
 use ft_server::{End, Pass, Server, call};
+use row_text::{is_small, part};
 use std::alloc::Global;
 use std::random::RandomSource;
 use std::sync::Wait;

@@ -1,4 +1,5 @@
-//! Workers over fakes: links are served where memory is ample, all workers share one server, and each way to end.
+//! Workers and their collector over fakes: links are served where memory is ample, all workers share one server, and each way to
+//! end. The pace says no at once, so the collector does one round.
 ghost use Rattle.std.specs.Prelude.{◌≡◌, false, length, IfSome};
 ghost use Rattle.std.specs.List.{All};
 
@@ -13,7 +14,7 @@ use std::sync::Wait;
 use std::thread::Threads;
 use worker_pool::{Worked, serve};
 
-type Back = Worked<MemDoor<MemLink>, ScriptedClock>;
+type Back = Worked<MemDoor<MemLink>, ScriptedClock, CountedPace>;
 
 const SET: &[u8] = b"*4\r\n$4\r\nHSET\r\n$1\r\na\r\n$1\r\nf\r\n$1\r\nx\r\n";
 
@@ -70,8 +71,9 @@ fn served<R: Threads + Wait + Sync + Copy + Drop>(
 fn are_written(alloc: Global, works: &[Back], want: &[u8]) -> bool {
     let mut all = Vec::new(alloc);
     for work in works {
-        let Worked::Worker { door, .. } = work;
-        write_links(&mut all, door.back());
+        if let Worked::Worker { door, .. } = work {
+            write_links(&mut all, door.back());
+        }
     }
     all.as_slice() == want
 }
@@ -136,11 +138,13 @@ const SERVE: [&str; 3] = ["serve", "7777", "2"];
 
 const WAYS: &[Way] = &[
     // Nothing fails; then the second link of the second door cannot be accepted.
-    (&SERVE, (0, 0), (Exit::Done, 2, BOTH)),
-    (&SERVE, (0, 2), (Exit::DoorFault, 2, CUT)),
-    // The first and the second worker cannot be started.
+    (&SERVE, (0, 0), (Exit::Done, 3, BOTH)),
+    (&SERVE, (0, 2), (Exit::DoorFault, 3, CUT)),
+    // The first worker, the second and the collector cannot be started.
     (&SERVE, (1, 2), (Exit::NoThread, 0, b"")),
     (&SERVE, (2, 2), (Exit::NoThread, 1, FIRST)),
+    (&SERVE, (3, 0), (Exit::NoThread, 2, BOTH)),
+    (&SERVE, (3, 2), (Exit::NoThread, 2, CUT)),
     // The words are not those of `serve`.
     (&["script"], (0, 0), (Exit::Usage, 0, b"")),
 ];

@@ -85,6 +85,8 @@ pub fn make_clocks<R: std::rt::Clock + Copy + Drop>(
 pub fn make_pace<R: std::rt::Clock + Copy + Drop>(
     rt: &R,
     alloc: Global,
-) -> Result<SleepPace<R>, AllocError> {
+) -> Result<SleepPace<R>, AllocError>
+    ensures { IfOk result (λ pace. pace ≡ false) }
+{
     Ok(SleepPace::new(*rt, Arc::new(alloc, AtomicBool::new(false))?))
 }

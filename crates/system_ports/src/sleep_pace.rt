@@ -1,5 +1,9 @@
 //! A pace that sleeps, behind the trait of the outside.
-ghost use Rattle.std.specs.Prelude.{◌≡◌, Bool, None, false};
+//!
+//! Whoever asks it works between two of its answers. It rests three times as long as that work took, so the work takes at
+//! most a quarter of one processor; after hardly any work it rests a while. While it rests it looks at its flag again and
+//! again, and answers at once where that is set.
+ghost use Rattle.std.specs.Prelude.{◌≡◌, ◌<◌, ◌≤◌, ◌*◌, ◌-◌, ◌^◌, min, Bool, None, false};
 
 use fs_ports::Pace;
 use std::alloc::Global;
@@ -7,17 +11,26 @@ use std::marker::Model;
 use std::sync::Arc;
 use std::sync::atomic::{AtomicBool, Ordering};
 use std::thread;
-use std::time::Duration;
+use std::time::{Duration, Instant};
 
-/// How long it sleeps before an answer, in milliseconds.
-const REST: u64 = 10;
+/// The microseconds of work below which nothing was due.
+const HARDLY_ANY: u64 = 1_000;
 
-/// A pace that sleeps 10 ms, and answers false once its flag is set.
+/// How long it rests where nothing was due, and how long it sleeps at the most before it looks at its flag again, in
+/// microseconds.
+const PAUSE: u64 = 10_000;
+
+/// How often its rest is as long as the work before it.
+const REST_TIMES: u64 = 3;
+
+/// A pace that rests by the time that the work before took, and answers false once its flag is set.
 #[derive(Drop)]
 pub struct SleepPace<R: std::rt::Clock + Drop> {
     rt: R,
     stop: Arc<AtomicBool, Global>,
     stopped: bool,
+    // When it answered last. None before its first answer, and where the clock told nothing.
+    answered: Option<Instant>,
 }
 
 impl<R: std::rt::Clock + Drop> Model for SleepPace<R> {
@@ -35,7 +48,46 @@ impl<R: std::rt::Clock + Drop> SleepPace<R> {
             rt,
             stop,
             stopped: false,
+            answered: None,
         }
+    }
+
+    // Whether its flag is set.
+    fn is_told_to_stop(&self) -> bool {
+        self.stop.load(Ordering::SeqCst)
+    }
+
+    // The microseconds since it answered last, and 0 where that is not known.
+    fn worked(&self) -> u64 {
+        let Some(answered) = self.answered else {
+            return 0;
+        };
+        match answered.elapsed(&self.rt) {
+            Ok(time) => u64::try_from(time.as_micros()).unwrap_or(u64::MAX),
+            Err(_) => 0,
+        }
+    }
+
+    // Sleeps so many microseconds, and less where its flag is set.
+    fn rest(&self, micros: u64) {
+        let mut left = micros;
+        while left > 0 && !self.is_told_to_stop() {
+            let slice = left.min(PAUSE);
+            thread::sleep(&self.rt, Duration::from_micros(slice));
+            left -= slice;
+        }
+    }
+}
+
+/// How many microseconds of rest are due behind so many of work.
+fn rest_for(worked: u64) -> u64
+    ensures hardly { worked < 1_000 → result ≡ 10_000 }
+    ensures more { 1_000 ≤ worked → result ≡ min (worked * 3) (2 ^ 64 - 1) }
+{
+    if worked < HARDLY_ANY {
+        PAUSE
+    } else {
+        worked.saturating_mul(REST_TIMES)
     }
 }
 
@@ -45,8 +97,9 @@ impl<R: std::rt::Clock + Drop> Pace for SleepPace<R> {
     ghost asked = { λ _. None };
 
     fn between(&mut self) -> bool {
-        thread::sleep(&self.rt, Duration::from_millis(REST));
-        self.stopped = self.stop.load(Ordering::SeqCst);
+        self.rest(rest_for(self.worked()));
+        self.stopped = self.is_told_to_stop();
+        self.answered = Instant::now(&self.rt).ok();
         !self.stopped
     }
 }

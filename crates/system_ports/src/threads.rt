@@ -1,5 +1,6 @@
 //! Jobs in threads of their own, behind the trait of the outside.
 ghost use Rattle.std.specs.Prelude.{◌≡◌, IfOk, ⊤};
+ghost use Rattle.std.specs.Thread.{IsSync};
 
 use fs_ports::{Failed, Job, Spawner};
 use std::marker::PhantomData;
@@ -30,7 +31,7 @@ pub fn start_thread<J: Job, R: Threads + Wait + Sync + Copy + Send + 'static>(
         rt,
         told,
         move || -> J::Out
-            requires { J.ready job }
+            requires { IsSync R.row × J.ready job }
             ensures { J.done job result }
         { job.work(&own) },
     );

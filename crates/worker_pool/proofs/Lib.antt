@@ -1,5 +1,6 @@
 mod EndingLaws
 mod FillingLaws
+mod RoundLaws
 mod RunLaws
 mod VisitLaws
 mod WordLaws

@@ -15,7 +15,7 @@ pub map-length : {A B : Type 0} (f : A → B) (xs : List A) → length (map f xs
 map-length f [] = refl
 map-length f (x ∷ xs) = ap suc (map-length f xs)
 
-handed-append : {J O : Type 0} (done : J → O → Type 0) (js ks : List J) (ws vs : List O) → Handed done js ws → length ws ≡ length js → Handed done ks vs → Handed done (js ++ ks) (ws ++ vs)
+pub handed-append : {J O : Type 0} (done : J → O → Type 0) (js ks : List J) (ws vs : List O) → Handed done js ws → length ws ≡ length js → Handed done ks vs → Handed done (js ++ ks) (ws ++ vs)
 handed-append done [] ks [] vs p e q = q
 handed-append done [] ks (w ∷ ws) vs p e q = absurd p
 handed-append done (j ∷ js) ks [] vs p e q = absurd (omega arith)

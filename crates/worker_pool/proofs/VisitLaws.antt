@@ -3,7 +3,7 @@ use Rattle.std.specs.Prelude.{Bool, ⊤}
 use Rattle.std.proofs.Common.{◌≡◌, ◌≤◌, true, false, List, [], ◌∷◌, ◌++◌, None, Some, Ok, Err, refl, sym, ap, ◌∙◌, subst, append_assoc, append-nil, arith}
 use Rattle.std.proofs.lemmas.Bool.{true≢false, false≢true}
 use Rattle.std.specs.declared.option.Option.{Option}
-use Rattle.history_core.specs.declared.entry.Entry.{Entry}
+use Rattle.ft_engine.specs.Entries.{Entry}
 use Rattle.turn_gate.specs.Known.{GateName, Known}
 use Rattle.fs_ports.specs.Causes.{Rose}
 use Rattle.fs_ports.specs.Doors.{AtDoor, Accepts, Comes, NoneComes, handed_back, with_back}

@@ -1,12 +1,10 @@
 -- Words of the command line that don't ask for a server at a port.
-use Rattle.std.proofs.Common.{◌≡◌, ◌↔◌, ℕ, List, ◌∷◌, length, Result, Ok, Err, sym, ap, ◌∙◌, arith}
+use Rattle.std.proofs.Common.{◌≡◌, ℕ, List, ◌∷◌, length, sym, ap, ◌∙◌, arith}
 use Rattle.std.specs.declared.alloc.Global.{Global}
 use Rattle.std.specs.declared.string.String.{String}
-use Rattle.ft_server.specs.Forms.{AreForm, IsLoad, IsScript, IsServe}
-use Rattle.ft_server.specs.declared.form.Form.{Form}
-use Rattle.ft_server.specs.declared.form.Form.TheVariants as form
-use Rattle.ft_server.specs.declared.form.WordFault.{WordFault}
-use Rattle.ft_server.specs.declared.form.WordFault.TheVariants as fault
+use Rattle.command_line.specs.Forms.{AreForm, IsLoad, IsScript, IsServe}
+use Rattle.command_line.specs.declared.form.Form.{Form}
+use Rattle.command_line.specs.declared.form.Form.TheVariants as form
 use Rattle.worker_pool.specs.Jobs.{NoServe}
 
 pub script_is_none : (words : List (String Global)) → AreForm words form.Script → NoServe words
@@ -29,11 +27,3 @@ serve_is_one words port workers serve none = none port workers serve
 
 pub no_form_is_none : (words : List (String Global)) → ((asked : Form) → AreForm words asked → ⊥) → NoServe words
 no_form_is_none words none port workers serve = none (form.Serve port workers) serve
-
--- There is no third way beside a form and none.
-pub no_third : (words : List (String Global)) (why : WordFault) → why ≡ fault.NoMemory → ((asked : Form) → (◌≡◌ {A = Result Form WordFault} (Err why) (Ok asked)) ↔ AreForm words asked)
-    → ((◌≡◌ {A = Result Form WordFault} (Err why) (Err fault.Usage)) ↔ ((asked : Form) → AreForm words asked → ⊥)) → ⊥
-no_third words why is forms usage =
-    let none : (asked : Form) → AreForm words asked → ⊥ = λ asked made. let same = (forms asked).1 made in absurd (cc) in
-    let same : ◌≡◌ {A = Result Form WordFault} (Err fault.NoMemory) (Err fault.Usage) = rw is at usage.1 none in
-    absurd (cc)

@@ -5,7 +5,7 @@ use Rattle.fs_ports.specs.Causes.{Rose}
 use Rattle.fs_ports.specs.Doors.{AtDoor, NoneComes}
 use Rattle.fs_ports.specs.declared.clock.Clock as Clock
 use Rattle.fs_ports.specs.declared.link.Link as Link
-use Rattle.history_core.specs.declared.entry.Entry.{Entry}
+use Rattle.ft_engine.specs.Entries.{Entry}
 use Rattle.turn_gate.specs.Known.{GateName, Known}
 use Rattle.ft_server.specs.Callers.{Called}
 use Rattle.ft_server.specs.Ends.{Ends}

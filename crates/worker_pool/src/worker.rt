@@ -12,14 +12,14 @@ use std::alloc::Global;
 use std::sync::Wait;
 
 /// Serves the links of a door until it gives none or fails. Each goes back to the door.
-pub(crate) fn serve_door<D: Door, C: Clock, R: Wait>(
+pub(crate) fn serve_door<D: Door, C: Clock, P, R: Wait>(
     rt: &R,
     alloc: Global,
     server: &Server,
     pass: Pass,
     door: D,
     clock: C,
-) -> Worked<D, C>
+) -> Worked<D, C, P>
     requires of { IsOf server.now pass }
     requires idle { (D.at door).out ≡ false }
     requires prompt { AllMayBeRead D.Link.Link C.Clock }

@@ -4,4 +4,4 @@ use Rattle.ft_machine.specs.Clean.{empty_marked}
 use Rattle.ft_machine.proofs.laws.histories_are_legal.Goals as goal
 
 pub returns : goal.returns
-returns c = λ first entries after history. history-legal first [] empty_marked entries after history
+returns g c = λ readings first entries after history. history-legal readings first [] empty_marked entries after history

@@ -1,4 +1,4 @@
-use Rattle.std.proofs.Common.{◌≡◌, ℕ, ◌+◌, ◌<◌, length, arith, refl, sym, ap, subst, ◌∙◌}
+use Rattle.std.proofs.Common.{arith, refl}
 use Rattle.resp_wire.specs.Decoding.{fed}
 use Rattle.resp_wire.specs.Stream.{stream_of}
 use Rattle.ft_server.proofs.PlayingLaws.{no_fault, playing_begins, playing_ends, playing_errors, playing_few, playing_more}

@@ -1,6 +1,5 @@
-use Rattle.std.proofs.Common.{◌<◌, ◌^◌, length, arith, ap, subst}
+use Rattle.std.proofs.Common.{length, arith, ap, subst}
 use Rattle.std.proofs.lemmas.Result.{IfOk-weaker}
-use Rattle.resp_wire.specs.Stream.{Command}
 use Rattle.load_maker.proofs.NumberLaws.{load_number}
 use Rattle.ft_server.specs.Load.{Loaded, each_reply}
 use Rattle.ft_server.proofs.load.summary_of.Goals as goal

@@ -13,12 +13,12 @@ returns-clause-set g c =
     let named = g.T.Lists.named c.args.sources.now.lists.now in
     range_tells_as c.args.sources.now.def.now held named c.args.field c.args.low c.args.high (to_z w64 (of_z w64 c.args.low)) (to_z w64 (of_z w64 c.args.high))
     c.ranges_between-span.result.from c.ranges_between-span.result.to _ (to_z-of_z w64 c.args.low c.ranges.low) (to_z-of_z w64 c.args.high c.ranges.high)
-    (sets_joined held _ c.plan_each_range.new.plans.items c.in_ok-some_of.field-0 c.in_ok-some_of.ensures c.in_ok-plan_each_range.ensures.set)
+    (sets_joined held _ c.plan_each_range.new.plans.items c.in_ok-made.made c.in_ok-made.ensures c.in_ok-plan_each_range.ensures.set)
     (above_least c.args.low c.ranges.low) (below_greatest c.args.high c.ranges.high) c.ranges_between-span.ensures.met
 
 pub returns-clause-placed : goal.returns-clause-placed
 returns-clause-placed g c =
-    (c.in_ok-some_of.ensures.placed (g.T.Lists.held c.args.sources.now.lists.now) c.args.sources.now.after c.in_ok-plan_each_range.ensures.placed).0
+    (c.in_ok-made.ensures.placed (g.T.Lists.held c.args.sources.now.lists.now) c.args.sources.now.after c.in_ok-plan_each_range.ensures.placed).0
 
 pub returns-clause-free : goal.returns-clause-free
-returns-clause-free g c = λ known. c.in_ok-plan_each_range.ensures.free (c.in_ok-some_of.ensures.known (place_of c.args.sources.now.known.now) (known, tt))
+returns-clause-free g c = λ known. c.in_ok-plan_each_range.ensures.free (c.in_ok-made.ensures.known (place_of c.args.sources.now.known.now) (known, tt))

@@ -28,7 +28,7 @@ begin_command-requires-clause-earlier c =
 pub returns-clause-moves : goal.returns-clause-moves
 returns-clause-moves c =
     let inside = c.self.inside in
-    subst (λ (e : Stands). Moves e (stands_of c.begin_command.new.held inside.next true)) c.self.view_is (record {
+    subst (λ (e : Stands). Moves e (stands_of c.begin_command.new.held inside.next true inside.last)) c.self.view_is (record {
       next = omega arith;
       indexes = c.begin_command.ensures.prepares.stays.moves;
     })
@@ -48,5 +48,8 @@ returns-then-self-ge-LAST_NUMBER-clause-still c =
 
 pub returns-clause-still : goal.returns-clause-still
 returns-clause-still c =
-    subst (λ (e : Stands). EntersAsSaid c.args.command c.begin_command.result e c.begin_command.new.reply.bytes (stands_of c.begin_command.new.held c.self.inside.next true)) c.self.view_is
+    subst (λ (e : Stands). EntersAsSaid c.args.command c.begin_command.result e c.begin_command.new.reply.bytes (stands_of c.begin_command.new.held c.self.inside.next true c.self.inside.last)) c.self.view_is
     c.begin_command.ensures.prepares.enters
+
+pub returns-clause-indexed : goal.returns-clause-indexed
+returns-clause-indexed c = c.begin_command.ensures.indexed c.self.inside.last

@@ -50,7 +50,7 @@ returns-in-Ok-clause-clean c =
     let here : read inside.next c.args.words ≡ Ok command = subst (λ (words : List (List ℕ)). read inside.next words ≡ Ok command) c.rest.ensures c.in-Ok.ensures.exact in
     let is : read old.next c.args.words ≡ Ok command = subst (λ (n : ℕ). read n c.args.words ≡ Ok command) (ap (λ (e : Stands). e.next) c.self.view_is) here in
     let tells : WordsTell old.next c.args.words old.indexes written = λ asks reads. let same : command ≡ asks = cc (is, reads) in subst (λ (a : Asked). TellsExactly a old.indexes written) same ready.records in
-    let stood : IsIndexed old = subst IsIndexed c.self.view_is (indexed inside.held inside.next inside.pending c.stand.ensures.keys c.stand.ensures.stand c.self.invariant.earlier) in
+    let stood : IsIndexed old = subst IsIndexed c.self.view_is (indexed inside.held inside.next inside.pending inside.last c.stand.ensures.keys c.stand.ensures.stand c.self.invariant.earlier) in
     keeps-clean c.args.words old.next c.args.now old new written stood tells (returns-in-Ok-clause-collects c) (returns-in-Ok-clause-answer c)
     (λ name known same was. command-keeps command _ c.args.now old mid new written name stood ready.indexed c.commit.ensures.indexed ready.state ready.last.documents ready.last.ready ready.still ready.quiet
     c.commit.ensures.state c.commit.ensures.lists c.commit.ensures.kept known same was)
@@ -62,6 +62,6 @@ returns-in-Err-clause-clean c =
     let new = c.refuse.new.self in
     let written = c.refuse.new.out.items in
     let refused : IsRefusal written = refused-text old.next c.args.words _ written c.refuse.ensures.text c.refuse.ensures.last in
-    let stood : IsIndexed old = subst IsIndexed c.self.view_is (indexed inside.held inside.next inside.pending c.stand.ensures.keys c.stand.ensures.stand c.self.invariant.earlier) in
+    let stood : IsIndexed old = subst IsIndexed c.self.view_is (indexed inside.held inside.next inside.pending inside.last c.stand.ensures.keys c.stand.ensures.stand c.self.invariant.earlier) in
     keeps-clean c.args.words old.next c.args.now old new written stood (refused-tells old.next c.args.words old.indexes written refused) (refused-collects old.next c.args.words new.indexes written refused)
     c.refuse.ensures.answer (λ name known same was. subst (IsCleanAt name) (sym c.refuse.ensures.lists) was)

@@ -18,7 +18,7 @@ returns-then-self-ge-LAST_NUMBER-clause-answer c = inr (omega (arith, ap (λ (e 
 
 pub returns-then-self-ge-LAST_NUMBER-clause-indexed : goal.returns-then-self-ge-LAST_NUMBER-clause-indexed
 returns-then-self-ge-LAST_NUMBER-clause-indexed c =
-    subst IsIndexed c.self.view_is (indexed c.self.inside.held c.self.inside.next c.self.inside.pending c.stand.ensures.keys c.stand.ensures.stand c.self.invariant.earlier)
+    subst IsIndexed c.self.view_is (indexed c.self.inside.held c.self.inside.next c.self.inside.pending c.self.inside.last c.stand.ensures.keys c.stand.ensures.stand c.self.invariant.earlier)
 
 pub returns-clause-answer : goal.returns-clause-answer
 returns-clause-answer c =

@@ -12,9 +12,9 @@ returns-clause-taken c = IfOk-weaker c.scan-taken.result _ _ (λ taken scans. su
 pub returns-clause-still : goal.returns-clause-still
 returns-clause-still c =
     c.end.ensures.ended
-    ∙ counted-still c.self.inside.held c.self.inside.next c.self.inside.pending c.args.self.now (ap (λ (e : Stands). e.pending) c.self.view_is ∙ c.requires.free) c.self.view_is
+    ∙ counted-still c.self.inside.held c.self.inside.next c.self.inside.pending c.self.inside.last c.args.self.now (ap (λ (e : Stands). e.pending) c.self.view_is ∙ c.requires.free) c.self.view_is
 
 pub returns-clause-moves : goal.returns-clause-moves
 returns-clause-moves c =
     subst (λ (e : Stands). Moves e c.end.new.self) c.self.view_is
-    (moves-still (stands_of c.self.inside.held c.self.inside.next c.self.inside.pending) c.end.new.self c.end.ensures.later (ap (λ (e : Stands). e.indexes) c.end.ensures.ended))
+    (moves-still (stands_of c.self.inside.held c.self.inside.next c.self.inside.pending c.self.inside.last) c.end.new.self c.end.ensures.later (ap (λ (e : Stands). e.indexes) c.end.ensures.ended))

@@ -29,7 +29,7 @@ returns-clause-still c =
     let now = c.scan_next-taken.new.self in
     let ended = c.end.ensures.ended in
     ended
-    ∙ (counted-lists inside.held now now.indexes inside.next (next_number inside.next) inside.pending c.args.self.now (ap (λ (e : Stands). e.pending) c.self.view_is ∙ c.requires.free) c.self.view_is
+    ∙ (counted-lists inside.held now now.indexes inside.next (next_number inside.next) inside.pending inside.last c.args.self.now (ap (λ (e : Stands). e.pending) c.self.view_is ∙ c.requires.free) c.self.view_is
     c.scan_next-taken.ensures.still c.scan_next-taken.ensures.definitions
     ∙ ap (λ (xs : List Index). record (counted c.args.self.now) { indexes = xs }) (sym (ap (λ (e : Stands). e.indexes) ended)))
 
@@ -44,7 +44,7 @@ returns-clause-last c late =
     let most : c.args.self.now.next ≤ last_number = omega (arith, next, c.self.invariant.number) in
     last-still c.args.self.now c.end.new.self most
     (ended
-    ∙ (counted-lists inside.held now now.indexes inside.next (next_number inside.next) inside.pending c.args.self.now (ap (λ (e : Stands). e.pending) c.self.view_is ∙ c.requires.free) c.self.view_is
+    ∙ (counted-lists inside.held now now.indexes inside.next (next_number inside.next) inside.pending inside.last c.args.self.now (ap (λ (e : Stands). e.pending) c.self.view_is ∙ c.requires.free) c.self.view_is
     c.scan_next-taken.ensures.still c.scan_next-taken.ensures.definitions
     ∙ ap (λ (xs : List Index). record (counted c.args.self.now) { indexes = xs }) (sym lists)))
     (lists ∙ (c.scan_next-taken.ensures.last whole ∙ ap (λ (e : Stands). e.indexes) c.self.view_is)) late

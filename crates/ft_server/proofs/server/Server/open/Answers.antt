@@ -1,6 +1,6 @@
 use Rattle.std.proofs.Common.{List, refl, sym, subst}
-use Rattle.history_core.specs.declared.entry.Entry.{Entry}
-use Rattle.ft_machine.specs.Clean.{IsHistory, empty_marked}
+use Rattle.ft_engine.specs.Entries.{Entry, IsHistory}
+use Rattle.ft_machine.specs.Clean.{empty_marked}
 use Rattle.ft_server.proofs.server.Server.open.Goals as goal
 
 pub returns-clause-of : goal.returns-clause-of

@@ -1,4 +1,4 @@
-use Rattle.std.proofs.Common.{refl, ap, rules}
+use Rattle.std.proofs.Common.{refl, rules}
 use Rattle.ft_server.proofs.PlayingLaws.{counts_more}
 use Rattle.ft_server.proofs.tally.Tally.with.Goals as goal
 

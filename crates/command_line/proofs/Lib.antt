@@ -1,0 +1,4 @@
+pub mod LineLaws
+pub mod NumberLaws
+pub mod TextLaws
+pub mod WordLaws
