@@ -4,7 +4,7 @@
 #     tools/clients/clients.sh PORT [CONNECTIONS]
 #
 # The session makes the index `clientcheck` and three hashes, searches with a filter and a sort, aggregates, reads a cursor, asks
-# FT.INFO, is refused twice, and takes all of it out again. tools/clients/ has it once for each client, written as that
+# FT.INFO, has a transaction executed and one discarded, is refused twice, and takes all of it out again. tools/clients/ has it once for each client, written as that
 # client is usually used; each has to print what tools/clients/expected.txt says. Then redis-benchmark runs its loads to their end,
 # with so many CONNECTIONS at once (1 without it, and no more than the server has workers).
 #

@@ -74,6 +74,16 @@ int main(int count, char **words) {
   }
   puts("");
   show_info(ASK("FT.INFO clientcheck"));
+  ASK("MULTI");
+  ASK("HSET clientcheck:4 name %s", "Green shoe");
+  ASK("HGET clientcheck:4 name");
+  ASK("DEL clientcheck:4");
+  redisReply *block = ASK("EXEC");
+  printf("transaction %lld %s %lld\n", part(block, 0)->integer, part(block, 1)->str, part(block, 2)->integer);
+  ASK("MULTI");
+  ASK("NOPE");
+  ASK("DEL clientcheck:1");
+  printf("spoilt %s\n", ASK("EXEC")->str);
   printf("refused %s\n", ASK("FT.SEARCH missing shoe")->str);
   printf("unknown %s\n", ASK("CLIENT SETNAME x")->str);
   printf("drop %s\n", ASK("FT.DROPINDEX clientcheck DD")->str);

@@ -93,6 +93,13 @@ MANY_ROWS = [
     ("intervals that all differ, all wanted", searched(numbered(b"@n:[# 99999]", b" ")), (b"*", REFUSED)),
 ]
 
+# Transactions: the name of each, its commands, and how the reply to EXEC begins. Short of memory, it executes none.
+BLOCKS = [
+    ("a transaction of 1,000 searches", [searched(b"common")] * 1000, b"*1000\r\n*2\r\n:3000\r\n"),
+    ("a transaction of 65,536 short commands", [[b"HSET", b"block", b"f", b"x"]] * 65536, (b"*65536\r\n:1\r\n", b"-EXECABORT")),
+    ("a transaction of 100 MiB", [[b"HSET", b"block", b"f", b"x" * MOST]] * 100, (b"*100\r\n:1\r\n", b"-EXECABORT")),
+]
+
 
 def drawn_part(draw, levels):
     """A part of a query, drawn at random."""
@@ -196,6 +203,20 @@ def answered(client, words, wanted):
     return reply.startswith(wanted), ": refused" if reply.startswith(REFUSED) else ""
 
 
+def executed(client, commands, wanted):
+    """Whether EXEC is answered as wanted behind MULTI and these commands, and what to say of it where it executes none."""
+    client.ask([b"MULTI"])
+    for first in range(0, len(commands), 1000):
+        client.link.sendall(b"".join(map(request, commands[first:first + 1000])))
+        for _ in commands[first:first + 1000]:
+            client.pass_reply()
+        client.data.clear()
+        client.at = 0
+    reply = client.ask([b"EXEC"])
+    client.ask([b"DEL", b"block"])
+    return reply.startswith(wanted), ": refused" if reply.startswith(b"-") else ""
+
+
 class Watch:
     """Measures what is done beside the other client, and says how it went."""
 
@@ -266,6 +287,9 @@ def main():
         if word in name:
             text = drawn_query(seed)
             watch.row(name, lambda: answered(client, searched(text), (b"*", b"-")))
+    for name, commands, wanted in BLOCKS:
+        if word in name:
+            watch.row(name, lambda: executed(client, commands, wanted), 2, 150)
     if word in "400,000 reads written before a reply is read":
         watch.row("400,000 reads written before a reply is read", lambda: (pipelined(port), ""), 60)
     if any(word in name for name, _, _ in MANY_ROWS):

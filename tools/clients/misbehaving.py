@@ -5,7 +5,8 @@
 
 Clients that say nothing, send a byte now and then, never read their replies, or send half a command and stay: while they
 hold their workers, the clients of the workers that are left are answered at once. Clients that close in the middle of a
-command, vanish without a close, send no request at all, or send bytes behind QUIT, give their workers back. At the end all
+command, vanish without a close, send no request at all, or send bytes behind QUIT, give their workers back. What a client sent
+between MULTI and EXEC is seen by nobody before EXEC, and by nobody at all where it vanishes. At the end all
 clients are gone, and as many connections as there are workers are answered side by side. Prints a line for each, and ends
 with status 1 at the first that is otherwise. It takes some ten seconds.
 """
@@ -125,6 +126,34 @@ def gives_back(port):
     return True
 
 
+def asks(link, words, reply):
+    link.sendall(request(*words))
+    return read_exactly(link, len(reply)) == reply
+
+
+def transacts(port):
+    """One client inside MULTI, another beside it, and one that vanishes inside MULTI."""
+    one, two, gone = connect(port), connect(port), connect(port)
+    held = [
+        asks(one, [b"MULTI"], b"+OK\r\n"),
+        asks(one, [b"HSET", b"tx:a", b"t", b"x"], b"+QUEUED\r\n"),
+        asks(one, [b"HGET", b"tx:b", b"t"], b"+QUEUED\r\n"),
+        asks(two, [b"HGET", b"tx:a", b"t"], b"$-1\r\n"),
+        asks(two, [b"HSET", b"tx:b", b"t", b"y"], b":1\r\n"),
+        asks(one, [b"EXEC"], b"*2\r\n:1\r\n$1\r\ny\r\n"),
+        asks(two, [b"HGET", b"tx:a", b"t"], b"$1\r\nx\r\n"),
+        asks(gone, [b"MULTI"], b"+OK\r\n"),
+        asks(gone, [b"HSET", b"tx:a", b"t", b"z"], b"+QUEUED\r\n"),
+    ]
+    gone.setsockopt(socket.SOL_SOCKET, socket.SO_LINGER, struct.pack("ii", 1, 0))
+    gone.close()
+    held.append(asks(two, [b"HGET", b"tx:a", b"t"], b"$1\r\nx\r\n"))
+    held.append(asks(two, [b"DEL", b"tx:a", b"tx:b"], b":2\r\n"))
+    one.close()
+    two.close()
+    return all(held)
+
+
 def main():
     port, workers = int(sys.argv[1]), int(sys.argv[2])
     stop = threading.Event()
@@ -149,6 +178,7 @@ def main():
     for link in held + good:
         link.close()
     time.sleep(1.0)
+    say("what waits for EXEC is seen by nobody before it, nor where its client vanishes", transacts(port))
     again = [connect(port) for _ in range(workers)]
     say(f"once all are gone, {workers} clients are answered side by side", all(is_answered(link) for link in again))
 

@@ -47,6 +47,11 @@ const main = async () => {
   // ft.info() expects all fields of RediSearch's reply; here there are seven.
   const info = await client.sendCommand(['FT.INFO', 'clientcheck']);
   console.log(`info ${info[1]}, ${info[info.indexOf('num_docs') + 1]} documents`);
+  const block = client.multi().hSet('clientcheck:4', 'name', 'Green shoe').hGet('clientcheck:4', 'name').del('clientcheck:4');
+  console.log('transaction', ...await block.exec());
+  let spoilt; // multi().exec() rejects with the first refusal
+  for (const words of [['MULTI'], ['NOPE'], ['DEL', 'clientcheck:1'], ['EXEC']]) spoilt = await refusal(() => client.sendCommand(words));
+  console.log('spoilt', spoilt);
   console.log('refused', await refusal(() => ft.search('missing', 'shoe')));
   console.log('unknown', await refusal(() => client.sendCommand(['CLIENT', 'SETNAME', 'x'])));
   console.log('drop', await ft.dropIndex('clientcheck', { DD: true }));

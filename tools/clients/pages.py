@@ -28,8 +28,19 @@ def typed(port: str, command: str) -> str:
 def exchanges(block: str) -> list:
     """The commands of a session, each with the answer that the page shows."""
     parts = re.split(r"^> ", block, flags=re.M)[1:]
-    pairs = [part.partition("\n") for part in parts]
-    return [(command.strip(), answer.rstrip()) for command, _, answer in pairs]
+    found = []
+    for command, _, answer in (part.partition("\n") for part in parts):
+        if found and is_under_way(found[-1][0]):
+            before = found.pop()
+            command, answer = f"{before[0]}\n{command}", f"{before[1]}\n{answer}"
+        found.append((command.strip(), answer.rstrip()))
+    return found
+
+
+def is_under_way(command: str) -> bool:
+    """Whether a transaction goes on behind it. Its commands are typed together, as they are of one connection."""
+    lines = command.upper().splitlines()
+    return lines[0] == "MULTI" and lines[-1] not in ("EXEC", "DISCARD")
 
 
 def true_words(command: str, ids: dict) -> str:

@@ -44,6 +44,10 @@ $names = fn ($rows) => implode(', ', array_map(fn ($row) => $row[1], array_slice
 echo 'cursor ', implode(' | ', array_map($names, $parts)), "\n";
 $info = asked('FT.INFO', 'clientcheck');
 echo "info $info[1], ", $info[array_search('num_docs', $info, true) + 1], " documents\n";
+$redis->multi()->hSet('clientcheck:4', 'name', 'Green shoe')->hGet('clientcheck:4', 'name')->del('clientcheck:4');
+echo 'transaction ', implode(' ', $redis->exec()), "\n";
+$spoilt = [asked('MULTI'), asked('NOPE'), asked('DEL', 'clientcheck:1'), asked('EXEC')];
+echo "spoilt $spoilt[3]\n";
 echo 'refused ', asked('FT.SEARCH', 'missing', 'shoe'), "\n";
 echo 'unknown ', asked('CLIENT', 'SETNAME', 'x'), "\n";
 echo 'drop ', asked('FT.DROPINDEX', 'clientcheck', 'DD'), "\n";

@@ -21,6 +21,9 @@ second=$(typed FT.CURSOR READ clientcheck "$(tail -n 1 <<<"$first")")
 echo "cursor $(names <<<"$first") | $(names <<<"$second")"
 typed FT.INFO clientcheck | paste -s -d ' ' |
   sed -E 's/^index_name ([^ ]+) .* num_docs ([0-9]+) .*/info \1, \2 documents/'
+waits() { printf '%s\n' MULTI "$@" EXEC | redis-cli -p "$port" | grep -v -e '^OK$' -e '^QUEUED$' -e '^$' | paste -s -d ' '; } # one connection
+echo "transaction $(waits 'HSET clientcheck:4 name "Green shoe"' 'HGET clientcheck:4 name' 'DEL clientcheck:4')"
+echo "spoilt $(waits NOPE 'DEL clientcheck:1' | sed 's/^ERR .* EXEC/EXEC/')"
 echo "refused $(typed FT.SEARCH missing shoe | head -n 1)"
 echo "unknown $(typed CLIENT SETNAME x | head -n 1)"
 echo "drop $(typed FT.DROPINDEX clientcheck DD)"

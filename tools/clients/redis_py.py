@@ -19,6 +19,14 @@ def refusal(ask):
         return str(fault)
 
 
+def spoilt(r):
+    """What EXEC is answered behind a command that was refused; redis-py's own pipeline raises that refusal."""
+    with r.client() as one:
+        one.execute_command("MULTI")
+        refusal(lambda: one.execute_command("NOPE"))
+        return one.execute_command("EXEC")
+
+
 def text(value):
     return value.decode() if isinstance(value, bytes) else str(value)
 
@@ -50,8 +58,12 @@ def main():
     print("cursor", " | ".join(", ".join(row[1] for row in rows) for rows in parts))
     info = shop.info()
     print(f"info {info['index_name']}, {info['num_docs']} documents")
+    # redis-py takes the words ERR and EXECABORT from the front of a refusal.
+    block = r.pipeline()
+    block.hset("clientcheck:4", "name", "Green shoe").hget("clientcheck:4", "name").delete("clientcheck:4")
+    print("transaction", *block.execute())
+    print("spoilt EXECABORT", refusal(lambda: spoilt(r)))
     print("refused", refusal(lambda: r.ft("missing").search("shoe")))
-    # redis-py takes the word ERR from the front of a refusal.
     print("unknown ERR", refusal(lambda: r.client_setname("x")))
     print("drop", r.execute_command("FT.DROPINDEX", "clientcheck", "DD"))
     print("left", r.exists("clientcheck:1", "clientcheck:2", "clientcheck:3"))

@@ -36,6 +36,14 @@ end
 puts "cursor #{parts.map { |part| part.drop(1).map { |row| row[1] }.join(', ') }.join(' | ')}"
 info = Hash[*redis.call('FT.INFO', 'clientcheck')]
 puts "info #{info['index_name']}, #{info['num_docs']} documents"
+block = redis.multi do |transaction|
+  transaction.hset('clientcheck:4', 'name', 'Green shoe')
+  transaction.hget('clientcheck:4', 'name')
+  transaction.del('clientcheck:4')
+end
+puts "transaction #{block.join(' ')}"
+spoilt = ['MULTI', 'NOPE', 'DEL clientcheck:1', 'EXEC'].map { |line| refusal { redis.call(*line.split) } }
+puts "spoilt #{spoilt.last}"
 puts "refused #{refusal { redis.call('FT.SEARCH', 'missing', 'shoe') }}"
 puts "unknown #{refusal { redis.call('CLIENT', 'SETNAME', 'x') }}"
 puts "drop #{redis.call('FT.DROPINDEX', 'clientcheck', 'DD')}"

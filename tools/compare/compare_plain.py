@@ -4,7 +4,7 @@
     tools/compare/compare_plain.py [SESSIONS [SEED]]            without these, 100 sessions of the first seed
     tools/compare/compare_plain.py --rows < crates/rows/stdin   the plain machine itself, with the rows of sessions
 
-Each session is 200 random commands and more: hashes, schemas, searches, aggregates, cursors, and now and then a fault.
+Each session is 200 random commands and more: hashes, schemas, searches, aggregates, cursors, transactions, and now and then a fault.
 A seed has the same sessions each time. tools/compare/plain works out what each command has to answer; the program gets the same
 requests as `rsearch script`. It is that of ./rsearch, built where it is missing or old, or the one that RSEARCH names.
 
@@ -19,9 +19,10 @@ import subprocess
 import sys
 
 from plain.drawn_cursors import is_short_lived
-from plain.machine import Machine
+from plain.machine import Machine, check_words
 from plain.rows import is_reply, read_sessions, spelled_reply, spelled_row
 from plain.sessions import session
+from plain.transactions import Transaction
 from plain.wire import RECORDS, request, split_replies, with_numbers_of
 
 PROGRAM = "crates/rsearch/out/rsearch"
@@ -72,10 +73,32 @@ def without_runs(items: list, differs) -> list:
 
 
 def those_at(commands: list, places: list) -> list:
-    """The commands in these places. A cursor's id is the place of its opening, from 1, and so is another one then."""
-    ids = {b"%d" % (place + 1): b"0" for place in range(len(commands))}
-    ids |= {b"%d" % (before + 1): b"%d" % (after + 1) for after, before in enumerate(places)}
+    """The commands in these places. A cursor's id is the number of its opening, and so is another one then."""
+    before, after = numbers_of(commands), numbers_of([commands[place] for place in places])
+    ids = {b"%d" % number: b"0" for number in before.values()}
+    ids |= {b"%d" % before[place]: b"%d" % after[at] for at, place in enumerate(places) if place in before and at in after}
     return [with_new_id(commands[place], ids) for place in places]
+
+
+class Placed(list):
+    """The words of a command, with its place in its session."""
+
+    def __init__(self, place: int, words: list):
+        super().__init__(words)
+        self.place = place
+
+
+def numbers_of(commands: list) -> dict:
+    """The number of each command that is executed, by its place."""
+    transaction, found = Transaction(), {}
+
+    def execute(words: Placed) -> bytes:
+        found[words.place] = len(found) + 1
+        return b""
+
+    for place, words in enumerate(commands):
+        transaction.reply(Placed(place, words), check_words, execute)
+    return found
 
 
 def with_new_id(words: list, ids: dict) -> list:

@@ -10,7 +10,7 @@ MOST_WORDS = 65_536
 MOST_WORD_BYTES = 1_048_576
 
 NAMES = """PING ECHO SELECT QUIT HSET HSETNX HGET HMGET HGETALL HDEL HLEN HEXISTS HINCRBY HKEYS HVALS
-    DEL EXISTS TYPE DBSIZE RENAME FLUSHALL""".encode().split()
+    DEL EXISTS TYPE DBSIZE RENAME FLUSHALL MULTI EXEC DISCARD""".encode().split()
 
 
 class Sessions(NamedTuple):
@@ -85,6 +85,12 @@ def far_index(words, theirs):
     return b"-ERR DB index is out of range\r\n" if wrong else None
 
 
+def words_behind_exec(words, theirs):
+    """EXEC with further words has a wrong number of them, and ends no transaction"""
+    wrong = words[0].upper() == b"EXEC" and theirs.startswith(b"-EXECABORT Transaction discarded because of: wrong number ")
+    return b"-ERR wrong number of arguments for 'exec' command\r\n" if wrong else None
+
+
 def order_of_fields(words, theirs):
     """the fields of a large hash come in the order in which they came first"""
     pairs = UNORDERED.get(words[-1])
@@ -96,7 +102,7 @@ def order_of_fields(words, theirs):
     return request(items) if same_items else None  # an array of bulks has the spelling of a request
 
 
-RULES = [unknown_text, left_out, flushall_word, flushall_number, far_index, order_of_fields]
+RULES = [unknown_text, left_out, flushall_word, flushall_number, far_index, words_behind_exec, order_of_fields]
 
 
 # Sessions
@@ -179,6 +185,21 @@ HASHES = session("""
     FLUSHALL
     DBSIZE
 """)
+
+TRANSACTIONS = [session(line.replace(";", "\n")) for line in """
+    MULTI; HSET a t x; HGET a t; EXEC; HGET a t
+    MULTI; NOPE; EXEC; EXEC; DISCARD
+    MULTI; MULTI; EXEC; MULTI; HSET a t x; MULTI; HLEN a; EXEC
+    EXEC; DISCARD; HSET a t x; EXEC; DISCARD; HGET a t
+    MULTI x; EXEC x; DISCARD x; EXEC; MULTI; MULTI x; EXEC; MULTI; DISCARD x y; DISCARD; DISCARD
+    MULTI; HGET a t; HSET a; HSET a t x; HGET a t; MULTI; EXEC; HGET a t; MULTI; EXEC; MULTI; PING; EXEC
+    MULTI; HSET a t x; DISCARD; EXEC; HGET a t; MULTI; NOPE x; HSET a t z; DISCARD; DISCARD; MULTI; EXEC; DBSIZE
+    MULTI; HSET a t x; QUIT; HGET a t
+    MULTI; NOPE; quit now; HGET a t
+    multi; hset a t x; MuLtI; hGet a t; exec; Multi; hset a t y; discard; exeC; hget a t
+    MULTI; HSET a t x; HINCRBY a t 1; HINCRBY a n 2; SELECT 1; HINCRBY a n +1; RENAME z a; HGETALL a; EXEC; HGETALL a
+    HSET a t x; MULTI; DEL a; FLUSHALL; EXISTS a; TYPE a; ECHO hello; EXEC; HGETALL a
+""".strip().splitlines()] + [session("MULTI\n" + "HINCRBY a n 1\n" * 200 + "EXEC\nHGETALL a")]
 
 ORDER_KEPT = session("""
     HSET h a 1 b 2 c 3 d 4
@@ -376,6 +397,24 @@ def drawn_sessions(seeds, without=()):
     return sessions
 
 
+def drawn_transactions(seeds):
+    """Random commands between MULTI and EXEC or DISCARD, and now and then one of these elsewhere, or with a word too many. Those are
+    left out whose text differs by decision: within the reply to EXEC no decision is looked for."""
+    sessions = []
+    for seed in seeds:
+        rng = random.Random(seed)
+        rows = []
+        while len(rows) < 2_000:
+            if rng.randrange(8) > 0:
+                rows.append([rng.choice([b"MULTI", b"multi"])])
+            rows += [drawn_command(rng, ("FLUSHALL", "SELECT")) for _ in range(rng.randrange(12))]
+            if rng.randrange(10) == 0:
+                rows.append(rng.choice([command("MULTI"), command("DISCARD"), command("MULTI x"), command("DISCARD x"), command("HSET h")]))
+            rows.append([rng.choice([b"EXEC", b"EXEC", b"EXEC", b"exec", b"Exec", b"DISCARD"])])
+        sessions.append(rows)
+    return sessions
+
+
 # Streams
 
 MULTI = b"-ERR Protocol error: invalid multibulk length\r\n"
@@ -433,6 +472,7 @@ def groups():
     return [
         Sessions("connection", [CONNECTION] + QUITS),
         Sessions("hash commands", [HASHES, ORDER_KEPT]),
+        Sessions("transactions", TRANSACTIONS),
         Sessions("numbers of words", numbers_of_words()),
         Sessions("case of names", names_in_any_case()),
         Sessions("spellings of numbers", numbers()),
@@ -445,6 +485,7 @@ def groups():
         Sessions("names of no command", [UNKNOWN]),
         Sessions("random, fields stay", drawn_sessions(range(100, 103), without=("HDEL", "HINCRBY", "RENAME"))),
         Sessions("random", drawn_sessions(range(200, 204))),
+        Sessions("random transactions", drawn_transactions(range(400, 404))),
         ("faults of the wire", same_streams()),
         ("wire, by decision", other_streams()),
     ]

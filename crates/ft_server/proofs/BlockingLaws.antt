@@ -1,5 +1,5 @@
 -- How the commands of a block lead on, and that an engine which executed them stands for their entries.
-use Rattle.std.proofs.Common.{◌≡◌, ◌+◌, ◌<◌, ℕ, suc, false, List, [], ◌∷◌, ◌++◌, length, map, take, get_or, refl, sym, ap, subst, ◌∙◌, arith, append_assoc, append-nil, length-append}
+use Rattle.std.proofs.Common.{◌≡◌, ◌+◌, ◌<◌, ℕ, List, [], ◌∷◌, ◌++◌, length, map, take, get_or, refl, sym, ap, subst, ◌∙◌, arith, append_assoc, append-nil, length-append}
 use Rattle.std.proofs.lemmas.List.{map-append, take_more, take_more_set}
 use Rattle.std.proofs.lemmas.List.Elements.{recursion_from_All}
 use Rattle.std.specs.List.{All, AllByRecursion}
@@ -7,11 +7,11 @@ use Rattle.std.specs.Prelude.{set}
 use Rattle.ft_base.specs.declared.words.Frame.{Frame}
 use Rattle.history_core.specs.Commands.{Said, commands_of, moments_of, words_of}
 use Rattle.history_core.specs.Entries.{Exec}
-use Rattle.history_core.specs.Running.{AreLawful}
 use Rattle.ft_engine.specs.Entries.{Entry}
 use Rattle.ft_engine.specs.Stands.{Stands}
 use Rattle.ft_server.specs.BlockLaws.{block}
-use Rattle.ft_server.specs.Blocks.{Executes, IsCommand, Went, all_words, said_at, words_in}
+use Rattle.ft_server.specs.Blocks.{Executes, IsCommand, Went, all_words, words_in}
+use Rattle.ft_server.specs.Items.{said_at}
 use Rattle.ft_server.specs.Telling.{Tells}
 use Rattle.ft_server.proofs.TellingLaws.{tells_more}
 

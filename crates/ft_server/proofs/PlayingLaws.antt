@@ -8,6 +8,7 @@ use Rattle.std.proofs.lemmas.List.{append-nil, length-append, map_push}
 use Rattle.std.proofs.lemmas.List.Sums.{sum_by_push, count_by-le-length}
 use Rattle.std.proofs.lemmas.List.Elements.{All-push, All-nil}
 use Rattle.history_core.specs.Commands.{Said, words_of}
+use Rattle.history_core.specs.Commands as history
 use Rattle.ft_engine.specs.Entries.{Entry}
 use Rattle.turn_gate.specs.Known.{Known}
 use Rattle.load_maker.specs.Load.{load}
@@ -17,15 +18,17 @@ use Rattle.resp_wire.specs.Stream.{Command, FaultAt, Stream, ended, fault_from, 
 use Rattle.resp_wire.specs.declared.fault.Stop.{Stop}
 use Rattle.resp_wire.specs.declared.fault.Stop.TheVariants.{More}
 use Rattle.resp_wire.proofs.ReadingLaws.{command_again}
-use Rattle.ft_server.specs.Answer.{Answer}
+use Rattle.ft_server.specs.Answer.{AddsItem}
+use Rattle.ft_server.specs.Items.{Item, One, said_in}
+use Rattle.ft_server.specs.Callers.{Called}
 use Rattle.ft_server.specs.Load.{EndsLoad, Loaded, Wrote, counted, each_reply, is_error, last_of, number_of, summary}
 use Rattle.ft_server.specs.Passes.{Adds, LegalFrom}
-use Rattle.ft_server.specs.Playing.{Counts, EndsLines, Played, Playing}
+use Rattle.ft_server.specs.Playing.{Counts, EndsLines, Played, Playing, ones}
 use Rattle.ft_server.specs.Session.{IsCut, Outside}
 use Rattle.ft_server.specs.declared.exit.Exit.{Exit}
 use Rattle.ft_server.specs.declared.exit.Exit.TheVariants as exit
 use Rattle.ft_server.specs.declared.tally.Tally.{Tally}
-use Rattle.ft_server.proofs.CallerLaws.{called_alone, called_more, called_none}
+use Rattle.ft_server.proofs.CallerLaws.{called_alone, called_more, called_none, woven_own}
 
 last_push : (before reply : List ℕ) (replies : List (List ℕ)) → last_of before (replies ++ reply ∷ []) ≡ reply
 last_push before reply [] = refl
@@ -140,8 +143,8 @@ module _ (commands : List Command) (left left' : List ℕ) (pass later next : Kn
   abbrev one : Said
   one = record { moment = 0; words = words; reply = reply }
 
-  abbrev answer : Answer words later next None None reply
-  answer = record { moment = 0; adds = adds; asked = tt }
+  item_adds : AddsItem later next (One one)
+  item_adds = record { others = adds.others; none_own = adds.none_own; none = adds.none; seen = adds.seen }
 
   split_more : words_of (playing.said ++ one ∷ []) ++ (stream_of left').commands ≡ commands
   split_more =
@@ -154,7 +157,8 @@ module _ (commands : List Command) (left left' : List ℕ) (pass later next : Kn
     said = playing.said ++ one ∷ [];
     caller = same.0 ∙ playing.caller;
     alone = same.1 ∙ playing.alone;
-    called = called_more pass later next playing.said None None None words reply playing.called playing.caller playing.alone answer;
+    called = subst (λ (items : List Item). Called pass next items None None) (sym (map_push One playing.said one))
+        (called_more pass later next (ones playing.said) (One one) None None None playing.called playing.caller playing.alone item_adds tt);
     split = split_more;
     waits = sym (stop_of words (stream_of left')) ∙ (sym (ap (λ (s : Stream). s.stop) taken) ∙ playing.waits);
     moments = All-push (λ (s : Said). s.moment ≡ 0) playing.said one playing.moments refl;
@@ -172,17 +176,21 @@ playing_ends commands left left' pass later tally playing none = record {
   counts = playing.counts;
 }
 
+executed_ones : (said : List Said) → said_in (ones said) ≡ said
+executed_ones [] = refl
+executed_ones (one ∷ said) = ap (λ (l : List Said). one ∷ l) (executed_ones said)
+
 -- a caller that began alone, with nothing seen
 pub loaded_alone : (commands : List Command) (pass later : Known Entry) (tally : Tally) → pass.seen ≡ [] → pass.alone ≡ true → pass.caller ≡ 0 → LegalFrom 1 later.seen
     → Played commands pass later tally → (said : List Said) × Loaded commands said × Counts tally (each_reply said)
 loaded_alone commands pass later tally none alone first legal played =
-    let all = called_alone pass later played.said None None none alone first legal played.called in (
+    let all = called_alone pass later (ones played.said) None None none alone first legal played.called in (
       played.said,
       record {
         entries = all.entries;
         after = all.after;
         legal = all.legal;
-        own_are = all.own_are;
+        own_are = woven_own 0 (ones played.said) all.entries all.woven ∙ ap (λ (said : List Said). history.commands_of 0 said) (executed_ones played.said);
         alone = all.alone;
         words = played.words;
         moments = played.moments;

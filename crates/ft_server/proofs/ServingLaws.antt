@@ -1,35 +1,40 @@
 -- Serving goes on: by a command, or by more bytes. What was read, answered and written so far.
 use Rattle.std.proofs.Common.{◌≡◌, ℕ, ◌<◌, ◌≤◌, false, List, [], ◌∷◌, ◌++◌, length, refl, sym, ap, subst, ◌∙◌, arith, append_assoc}
-use Rattle.std.proofs.lemmas.List.{append-nil, map_push, length-append}
+use Rattle.std.proofs.lemmas.List.{append-nil, length-append}
 use Rattle.std.specs.Io.KnownBytes.{Appends, Keeps}
 use Rattle.std.proofs.KnownBytes.{Appends-trans, Appends-nil, Appends-kept, Consumes-nil, Consumes-trans, Consumes-kept}
+use Rattle.fs_ports.specs.Moments.{Gives}
 use Rattle.ft_base.specs.Words.{is_quit}
-use Rattle.history_core.specs.Commands.{Said, replies_of, words_of}
 use Rattle.ft_engine.specs.Entries.{Entry}
 use Rattle.turn_gate.specs.Known.{Known}
 use Rattle.resp_wire.specs.Decoding.{Decoding, fed}
 use Rattle.resp_wire.specs.declared.fault.Stop.TheVariants.{More}
 use Rattle.resp_wire.specs.Stream.{Command, Stream, with_command, ended, goes_on, stream_of}
 use Rattle.resp_wire.proofs.MoreLaws.{cut}
-use Rattle.ft_server.specs.Answer.{Answer}
+use Rattle.tx_session.specs.Table.{Session, idle}
+use Rattle.ft_server.specs.Answer.{AddsItem}
 use Rattle.ft_server.specs.Callers.{Called}
+use Rattle.ft_server.specs.Items.{Item, moment_of, text_of, texts_of}
 use Rattle.ft_server.specs.Reading.{Further}
 use Rattle.ft_server.specs.Serving.{Going, behind}
 use Rattle.ft_server.specs.Session.{Outside, quits}
+use Rattle.ft_server.specs.Talk.{Talks, Turns}
 use Rattle.ft_server.proofs.CallerLaws.{called_none, called_more}
 use Rattle.ft_server.proofs.QuitLaws.{quits_behind}
-use Rattle.history_core.proofs.CommandLaws.{replies_of-push}
+use Rattle.ft_server.proofs.TalkLaws.{talks_more, texts_of-push}
 
 -- nothing was read yet
-pub begins : (held : Decoding) (pass : Known Entry) (now : Outside) → held.taken ≡ 0 → held.left ≡ [] → Going held pass pass now now
-begins held pass now none empty = record {
+pub begins : (held : Decoding) (session : Session) (pass : Known Entry) (now : Outside) → held.taken ≡ 0 → held.left ≡ [] → session ≡ idle → Going held session pass pass now now
+begins held session pass now none empty fresh = record {
   input = [];
-  said = [];
+  commands = [];
+  items = [];
   caller = refl;
   alone = refl;
   called = called_none pass now.given;
   read = Consumes-nil now.left;
   split = ap (λ (b : List ℕ). stream_of b) (sym empty);
+  talks = fresh;
   no_quit = refl;
   fed_is = omega (arith, none, ap length empty);
   sent = Appends-nil now.written;
@@ -41,45 +46,42 @@ pub taken_first : (words : Command) (stream : Stream) → 0 < length words → w
 taken_first [] stream some = absurd (omega (arith, some))
 taken_first (word ∷ words) stream some = refl
 
--- the decoder took a command, which was answered; its reply was written in part or whole
-module _ (held later : Decoding) (pass seen seen' : Known Entry) (before now after : Outside) (words : Command) (reply : List ℕ)
-    (going : Going held pass seen before now) (answer : Answer words seen seen' now.given after.given reply)
-    (same : (seen'.caller ≡ seen.caller) × (seen'.alone ≡ seen.alone)) (some : 0 < length words)
+-- the decoder took a command, which became an item; what is written for it was written in part or whole
+module _ (held later : Decoding) (session session' : Session) (pass seen seen' : Known Entry) (before now after : Outside) (words : Command) (item : Item)
+    (going : Going held session pass seen before now) (turns : Turns session words item session') (adds : AddsItem seen seen' item)
+    (asked : Gives now.given after.given (moment_of item ∷ [])) (same : (seen'.caller ≡ seen.caller) × (seen'.alone ≡ seen.alone)) (some : 0 < length words)
     (taken : stream_of held.left ≡ with_command words (stream_of later.left)) (kept : Keeps now.left after.left) where
-  abbrev pub one : Said
-  one = record { moment = answer.moment; words = words; reply = reply }
-
-  split_more : stream_of going.input ≡ behind (words_of (going.said ++ one ∷ [])) (stream_of later.left)
+  split_more : stream_of going.input ≡ behind (going.commands ++ words ∷ []) (stream_of later.left)
   split_more =
-      going.split ∙ (ap (behind (words_of going.said)) (taken ∙ taken_first words (stream_of later.left) some)
-      ∙ (ap (λ (cs : List Command). with_commands cs) (sym (append_assoc (words_of going.said) (words ∷ []) (stream_of later.left).commands))
-      ∙ ap (λ (cs : List Command). behind cs (stream_of later.left)) (sym (map_push (λ (s : Said). s.words) going.said one))))
+      going.split ∙ (ap (behind going.commands) (taken ∙ taken_first words (stream_of later.left) some)
+      ∙ ap (λ (cs : List Command). with_commands cs) (sym (append_assoc going.commands (words ∷ []) (stream_of later.left).commands)))
     where
       with_commands : List Command → Stream
       with_commands cs = record { commands = cs; rest = (stream_of later.left).rest; stop = (stream_of later.left).stop }
 
-  -- the words of the entries, one more
-  words_more : words_of (going.said ++ one ∷ []) ≡ words_of going.said ++ words ∷ []
-  words_more = map_push (λ (s : Said). s.words) going.said one
+  pub talked_more : Talks idle (going.commands ++ words ∷ []) (going.items ++ item ∷ []) session'
+  talked_more = talks_more idle session session' going.commands going.items words item going.talks turns
 
-  pub answered_more : Called pass seen' (going.said ++ one ∷ []) before.given after.given
-  answered_more = called_more pass seen seen' going.said before.given now.given after.given words reply going.called going.caller going.alone answer
+  pub answered_more : Called pass seen' (going.items ++ item ∷ []) before.given after.given
+  answered_more = called_more pass seen seen' going.items item before.given now.given after.given going.called going.caller going.alone adds asked
 
-  pub sent_more : Appends now.written after.written reply → Appends before.written after.written (replies_of (going.said ++ one ∷ []))
-  sent_more sent = subst (Appends before.written after.written) (sym (replies_of-push going.said one)) (Appends-trans before.written now.written after.written _ _ going.sent sent)
+  pub sent_more : Appends now.written after.written (text_of item) → Appends before.written after.written (texts_of (going.items ++ item ∷ []))
+  sent_more sent = subst (Appends before.written after.written) (sym (texts_of-push going.items item)) (Appends-trans before.written now.written after.written _ _ going.sent sent)
 
-  -- the reply was written whole, and the command is not QUIT
-  pub goes_by : is_quit words ≡ false → fed later ≡ fed held → Appends now.written after.written reply → before.read_faults ≤ after.read_faults → before.write_faults ≤ after.write_faults
-      → Going later pass seen' before after
+  -- it was written whole, and the command is not QUIT
+  pub goes_by : is_quit words ≡ false → fed later ≡ fed held → Appends now.written after.written (text_of item) → before.read_faults ≤ after.read_faults → before.write_faults ≤ after.write_faults
+      → Going later session' pass seen' before after
   goes_by no_quit fed_same sent reads writes = record {
     input = going.input;
-    said = going.said ++ one ∷ [];
+    commands = going.commands ++ words ∷ [];
+    items = going.items ++ item ∷ [];
     caller = same.0 ∙ going.caller;
     alone = same.1 ∙ going.alone;
     called = answered_more;
     read = Consumes-kept before.left now.left after.left going.input going.read kept;
     split = split_more;
-    no_quit = ap quits words_more ∙ (quits_behind (words_of going.said) (words ∷ []) going.no_quit ∙ one_no_quit words no_quit);
+    talks = talked_more;
+    no_quit = quits_behind going.commands (words ∷ []) going.no_quit ∙ one_no_quit words no_quit;
     fed_is = omega (arith, fed_same, going.fed_is);
     sent = sent_more sent;
     reads = reads;
@@ -97,15 +99,18 @@ same_stream a b e =
     ∙ (sym (cut a []) ∙ (ap (λ (x : List ℕ). stream_of x) (append-nil a) ∙ e)))
 
 -- the decoder took nothing but requests without words
-pub waits : (held later : Decoding) (pass seen : Known Entry) (before now : Outside) → Going held pass seen before now → stream_of held.left ≡ ended More later.left → fed later ≡ fed held → Going later pass seen before now
-waits held later pass seen before now going more same = record {
+pub waits : (held later : Decoding) (session : Session) (pass seen : Known Entry) (before now : Outside) → Going held session pass seen before now → stream_of held.left ≡ ended More later.left → fed later ≡ fed held
+    → Going later session pass seen before now
+waits held later session pass seen before now going more same = record {
   input = going.input;
-  said = going.said;
+  commands = going.commands;
+  items = going.items;
   caller = going.caller;
   alone = going.alone;
   called = going.called;
   read = going.read;
-  split = going.split ∙ ap (behind (words_of going.said)) (more ∙ sym (same_stream held.left later.left more));
+  split = going.split ∙ ap (behind going.commands) (more ∙ sym (same_stream held.left later.left more));
+  talks = going.talks;
   no_quit = going.no_quit;
   fed_is = omega (arith, same, going.fed_is);
   sent = going.sent;
@@ -122,16 +127,18 @@ grown ws input left piece longer e l =
     ∙ ap (λ (b : List ℕ). behind ws (stream_of b)) (sym l)))
 
 -- more was read
-pub reads_on : (held later : Decoding) (pass seen : Known Entry) (before now after : Outside) → Going held pass seen before now → stream_of held.left ≡ ended More held.left → Further held later now.left after.left
-    → Keeps now.written after.written → now.given ≡ after.given → now.read_faults ≤ after.read_faults → now.write_faults ≤ after.write_faults → Going later pass seen before after
-reads_on held later pass seen before now after going more further kept given reads writes = record {
+pub reads_on : (held later : Decoding) (session : Session) (pass seen : Known Entry) (before now after : Outside) → Going held session pass seen before now → stream_of held.left ≡ ended More held.left → Further held later now.left after.left
+    → Keeps now.written after.written → now.given ≡ after.given → now.read_faults ≤ after.read_faults → now.write_faults ≤ after.write_faults → Going later session pass seen before after
+reads_on held later session pass seen before now after going more further kept given reads writes = record {
   input = going.input ++ further.piece;
-  said = going.said;
+  commands = going.commands;
+  items = going.items;
   caller = going.caller;
   alone = going.alone;
-  called = subst (Called pass seen going.said before.given) given going.called;
+  called = subst (Called pass seen going.items before.given) given going.called;
   read = Consumes-trans before.left now.left after.left going.input further.piece going.read further.read;
-  split = grown (words_of going.said) going.input held.left further.piece later.left (going.split ∙ ap (behind (words_of going.said)) more) further.longer;
+  split = grown going.commands going.input held.left further.piece later.left (going.split ∙ ap (behind going.commands) more) further.longer;
+  talks = going.talks;
   no_quit = going.no_quit;
   fed_is = omega (arith, going.fed_is, further.taken, ap length further.longer, length-append held.left further.piece, length-append going.input further.piece);
   sent = Appends-kept before.written now.written after.written _ going.sent kept;

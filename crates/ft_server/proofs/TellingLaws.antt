@@ -15,6 +15,7 @@ use Rattle.history_core.specs.Histories.{at, number}
 use Rattle.ft_index.specs.declared.repairs.AnyRepair.{AnyRepair}
 use Rattle.ft_index.specs.declared.snapshots.NamedPicture.{NamedPicture}
 use Rattle.ft_index.specs.declared.snapshots.Snapshot.{Snapshot}
+use Rattle.ft_index.specs.Snapshots.{NamesRise, names_of}
 use Rattle.ft_machine.specs.History.{Comes}
 use Rattle.indexed_store.specs.Repairing.{FitsSerial, IndexesThin}
 use Rattle.ft_engine.specs.Entries.{Entry, Follows, IsHistory, MayFollow, readings}
@@ -32,8 +33,9 @@ use Rattle.ft_machine.specs.Clean.{Keeps, KeepsMarks, empty_marked}
 use Rattle.ft_machine.specs.Step.{Answers, next_number}
 use Rattle.ft_engine.specs.Cleaning.{AreClean, KeepsClean, StandsFor, marked}
 use Rattle.ft_engine.specs.Stands.{IsIndexed, Stands}
-use Rattle.ft_server.specs.Passes.{LegalFrom, is_scan, last_scan, last_scan_from}
-use Rattle.ft_server.specs.Telling.{Tells}
+use Rattle.ft_server.specs.Passes.{ChangesNothing, LegalFrom, WasSpliced, is_scan, last_scan, last_scan_from}
+use Rattle.ft_server.specs.Telling.{Spends, Tells}
+use Rattle.ft_server.proofs.SpentLaws.{part-once, serials-rise, spends-more, spends-splice, spent-again, was-spent}
 
 -- what an engine that executes words tells of its step
 abbrev Executes : ℕ → Stands → List (List ℕ) → List ℕ → Stands → Type 0
@@ -47,8 +49,8 @@ step_marks words old new reply clean keeps are = let kept = keeps clean are in (
 -- an event leads from an engine that stands for entries to one that stands for one more
 pub tells_on : (old new : Stands) (seen : List Entry) (first first' : ℕ) (entry : Entry) (behind : List (List ℕ)) (told : Tells old seen first) → first' ≡ first
     → MayFollow first seen old.state entry new.state → Keeps readings first seen (marked old told.history.clean) entry (marked new behind) → AreClean behind new.indexes
-    → new.next ≡ next_number old.next → new.pending ≡ false → IsIndexed new → Moves old new → Holds new seen entry → HoldsEnd new seen entry → Tells new (seen ++ entry ∷ []) first'
-tells_on old new seen first first' entry behind told same may keeps are next free indexed moves holds last = record {
+    → new.next ≡ next_number old.next → new.pending ≡ false → IsIndexed new → Moves old new → Holds new seen entry → Spends new seen entry → HoldsEnd new seen entry → Tells new (seen ++ entry ∷ []) first'
+tells_on old new seen first first' entry behind told same may keeps are next free indexed moves holds spends last = record {
   history = record {
     clean = behind;
     history = subst (λ (n : ℕ). IsHistory n (seen ++ entry ∷ []) (marked new behind)) (sym same)
@@ -59,6 +61,7 @@ tells_on old new seen first first' entry behind told same may keeps are next fre
   free = free;
   indexed = indexed;
   holds = holds-more old new seen entry moves told.holds holds;
+  spent = spends-more old new seen entry moves told.spent spends;
   last = last-more new seen entry last;
 }
 
@@ -78,7 +81,7 @@ tells_more old mid new seen first first' caller moment words asked reply written
     let marks : KeepsMarks old.next words (marked old was.clean) reply (marked new behind) = kept.1 in
     let answered : Answers words (number first seen) moment old.state reply new.state = subst (λ (n : ℕ). Answers words n moment old.state reply new.state) tells.next step.0 in
     tells_on old new seen first first' entry behind tells same (some, limits, answered) (subst (λ (n : ℕ). KeepsMarks n words (marked old was.clean) reply (marked new behind)) tells.next marks) kept.2
-    (next ∙ ap (λ (e : Stands). next_number e.next) is) free indexed (subst (λ (e : Stands). Moves e new) is moves) tt tt
+    (next ∙ ap (λ (e : Stands). next_number e.next) is) free indexed (subst (λ (e : Stands). Moves e new) is moves) tt tt tt
 
 -- what the scan of a part tells of its event
 pub record Scans {E : Type 0} (old : Stands) (index : List ℕ) (result : Result (Option Snapshot) E) (new : Stands) : Type 0 where
@@ -97,11 +100,15 @@ tells_scan {E} old mid new seen first first' caller index result tells same is s
     let state : new.state ≡ old.state = ap (λ (e : Stands). e.state) s.still in
     let free : new.pending ≡ false = ap (λ (e : Stands). e.pending) s.still ∙ tells.free in
     tells_on old new seen first first' (Scan caller index (scanned result)) tells.history.clean tells same (state, part-found old new index old.next result state s.indexed s.taken) refl
-    (part-clean old new tells.history.clean state tells.indexed s.indexed s.thin tells.history.are) s.next free s.indexed s.moves (part-good new index old.next result free s.indexed s.taken) tt
+    (part-clean old new tells.history.clean state tells.indexed s.indexed s.thin tells.history.are) s.next free s.indexed s.moves (part-good new index old.next result free s.indexed s.taken) (part-once new index old.next result s.taken) tt
 
 -- the snapshot of a scan that an engine stands for is good
 good-taken : (engine : Stands) (seen : List Entry) (first scan : ℕ) (snapshot : Snapshot) → Tells engine seen first → Pictured seen scan snapshot → IsGoodSnapshot snapshot engine
 good-taken engine seen first scan snapshot tells pictured = each_at (Holds engine) [] seen scan (Scan pictured.caller pictured.index (Taken snapshot)) tells.holds pictured.is
+
+-- and no list is there twice
+names-once : (engine : Stands) (seen : List Entry) (first scan : ℕ) (snapshot : Snapshot) → Tells engine seen first → Pictured seen scan snapshot → NamesRise (names_of snapshot.lists)
+names-once engine seen first scan snapshot tells pictured = each_at (Spends engine) [] seen scan (Scan pictured.caller pictured.index (Taken snapshot)) tells.spent pictured.is
 
 -- the repair of a picture that an engine stands for fits
 pub fits_turn : (old mid : Stands) (seen : List Entry) (first scan : ℕ) (snapshot : Snapshot) (named : NamedPicture) (repair : AnyRepair) → Tells old seen first → mid ≡ old → Pictured seen scan snapshot → Contains snapshot.lists named
@@ -133,6 +140,8 @@ tells_splice old mid new seen first first' caller scan snapshot named repair out
     subst (λ (n : ℕ). Comes readings n old.state.definitions snapshot named.name outcome) tells.next (spliced-comes old new snapshot at_place.0 named repair outcome at_place.1 good its s.splices s.last s.still s.thin s.indexed) in
     tells_on old new seen first first' (Splice caller scan named.name outcome) tells.history.clean tells same (ap (λ (e : Stands). e.state) s.still, (snapshot, pictured, comes)) refl
     (splice-clean old (record { snapshot = snapshot; place = at_place.0 }) outcome new tells.history.clean by tells.history.are) (ap (λ (e : Stands). e.next) s.still) (ap (λ (e : Stands). e.pending) s.still ∙ tells.free) s.indexed s.moves tt
+    (spends-splice old new seen (number first seen) scan snapshot named repair outcome (serials-rise old seen first tells.history tells.indexed) good its s.splices s.moves.next pictured there
+    (names-once old seen first scan snapshot tells pictured))
     (record {
       snapshot = snapshot;
       pictured = pictured;
@@ -142,6 +151,29 @@ tells_splice old mid new seen first first' caller scan snapshot named repair out
       called = refl;
       last = s.last ∙ ap (λ (m : Marker). Some (record { seen = m; answer = outcome })) (repair-marker (has_id snapshot.live) named.picture repair its);
     })
+
+-- a list that was spliced as a scan pictured it is not spliced so again
+pub again_turn : (old mid new : Stands) (seen others log : List Entry) (first scan : ℕ) (snapshot : Snapshot) (named : NamedPicture) (repair : AnyRepair) (outcome : Spliced) → Tells old log first → mid ≡ old → log ≡ seen ++ others
+    → Pictured seen scan snapshot → Contains snapshot.lists named → RepairsPicture (has_id snapshot.live) named.picture repair → Splices mid snapshot.serial named.name repair outcome new → WasSpliced seen scan named.name
+    → ChangesNothing outcome
+again_turn old mid new seen others log first scan snapshot named repair outcome tells is told pictured there its splices was =
+    let s : Splices old snapshot.serial named.name repair outcome new = subst (λ (e : Stands). Splices e snapshot.serial named.name repair outcome new) is splices in
+    let whole : Tells old (seen ++ others) first = subst (λ (l : List Entry). Tells old l first) told tells in
+    let now : Pictured (seen ++ others) scan snapshot = record {
+      caller = pictured.caller;
+      index = pictured.index;
+      is = at_more seen others scan (Scan pictured.caller pictured.index (Taken snapshot)) pictured.is;
+    } in
+    let then : WasSpliced (seen ++ others) scan named.name = record {
+      place = was.place;
+      caller = was.caller;
+      answer = was.answer;
+      is = at_more seen others was.place (Splice was.caller scan named.name was.answer) was.is;
+      event = was.event;
+    } in
+    let at_place = contains-at snapshot.lists named there in
+    spent-again old new snapshot named repair outcome (good-taken old (seen ++ others) first scan snapshot whole now at_place.0 named at_place.1) its s.splices
+    (was-spent old (seen ++ others) scan snapshot named whole.spent then now there)
 
 -- entries of others leave the last scan where it is
 no-scan : (caller : ℕ) (entry : Entry) → caller_of entry ≢ caller → is_scan caller entry ≡ false

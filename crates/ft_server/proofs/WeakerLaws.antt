@@ -1,33 +1,39 @@
--- What is promised of a connection where commands were answered in one way is promised where that is a case of another.
+-- What is promised of a connection where items came about in one way is promised where that is a case of another.
 use Rattle.std.specs.Prelude.{◌⊎◌}
 use Rattle.std.proofs.Common.{ℕ, inl, inr, List, []}
 use Rattle.std.specs.declared.option.Option.{Option}
-use Rattle.history_core.specs.Commands.{Said}
 use Rattle.resp_wire.specs.Stream.{Command, FaultAt}
 use Rattle.ft_server.specs.Ends.{Ends, IsFaulty}
 use Rattle.ft_server.specs.FaultText.{fault_text}
+use Rattle.ft_server.specs.Items.{Item}
 use Rattle.ft_server.specs.Session.{AllAnswered, IsCut, Outside, ReplyCut, Served}
 use Rattle.ft_server.specs.declared.connection.End.{End}
 use Rattle.ft_server.specs.declared.connection.End.TheVariants as end
 
-module _ (A B : List Said → Option (List ℕ) → Option (List ℕ) → Type 0) (weaker : (said : List Said) (given given' : Option (List ℕ)) → A said given given' → B said given given') where
+module _ (A B : List Item → Option (List ℕ) → Option (List ℕ) → Type 0) (weaker : (items : List Item) (given given' : Option (List ℕ)) → A items given given' → B items given given') where
   served_so : (input : List ℕ) (others : List Command) (text : List ℕ) (before after : Outside) → Served A input others text before after → Served B input others text before after
   served_so input others text before after served = record {
-    said = served.said;
+    commands = served.commands;
+    items = served.items;
+    session = served.session;
     read = served.read;
     due_are = served.due_are;
-    answered = weaker served.said before.given after.given served.answered;
+    talks = served.talks;
+    answered = weaker served.items before.given after.given served.answered;
     written = served.written;
   }
 
   cut_so : (input : List ℕ) (before after : Outside) → ReplyCut A input before after → ReplyCut B input before after
   cut_so input before after cut = record {
-    said = cut.said;
+    commands = cut.commands;
+    items = cut.items;
     last = cut.last;
+    session = cut.session;
     others = cut.others;
     front = cut.front;
     read = cut.read;
     due_are = cut.due_are;
+    talks = cut.talks;
     answered = weaker _ before.given after.given cut.answered;
     cut = cut.cut;
     written = cut.written;

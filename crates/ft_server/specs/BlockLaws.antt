@@ -4,7 +4,8 @@ use Rattle.ft_base.specs.declared.words.Frame.{Frame}
 use Rattle.ft_engine.specs.Entries.{Entry}
 use Rattle.history_core.specs.Commands.{caller_of, commands_of}
 use Rattle.turn_gate.specs.Log.{AllBy}
-use Rattle.ft_server.specs.Blocks.{all_words, said_at}
+use Rattle.ft_server.specs.Blocks.{all_words}
+use Rattle.ft_server.specs.Items.{said_at}
 
 -- the entries of a block
 abbrev pub block : ℕ → ℕ → List Frame → List (List ℕ) → List Entry

@@ -6,10 +6,11 @@ use Rattle.ft_engine.specs.Cleaning.{KeepsClean}
 use Rattle.ft_engine.specs.Entries.{Entry}
 use Rattle.ft_engine.specs.Stands.{IsIndexed, Stands}
 use Rattle.ft_engine.specs.Stepping.{AnswersAt, Counts, Moves}
-use Rattle.history_core.specs.Commands.{Said, caller_of, commands_of}
+use Rattle.history_core.specs.Commands.{caller_of, commands_of}
 use Rattle.history_core.specs.Running.{AreLawful}
 use Rattle.turn_gate.specs.Known.{Known}
 use Rattle.turn_gate.specs.Log.{NoneBy}
+use Rattle.ft_server.specs.Items.{said_at}
 
 -- the words of a frame, and those of each frame in order
 abbrev pub words_in : Frame → List (List ℕ)
@@ -21,12 +22,6 @@ all_words frames = map words_in frames
 -- a frame whose words may be executed: there is one, and they keep the limits
 abbrev pub IsCommand : Frame → Type 0
 IsCommand frame = AreLawful (words_in frame)
-
--- What commands left that were executed at one moment: each its words and its reply.
-abbrev pub said_at : ℕ → List (List (List ℕ)) → List (List ℕ) → List Said
-said_at moment [] replies = []
-said_at moment (words ∷ commands) [] = []
-said_at moment (words ∷ commands) (reply ∷ replies) = record { moment = moment; words = words; reply = reply } ∷ said_at moment commands replies
 
 -- A turn of a block: behind what the pass had seen come entries of others, of which there are none where it is alone, and
 -- then the commands as its own, side by side and last.

@@ -3,9 +3,9 @@ use Rattle.std.specs.Prelude.{◌≡◌, ◌⊎◌, ◌<◌, ◌≤◌, ◌^◌,
 use Rattle.std.specs.declared.option.Option.{Option}
 use Rattle.fs_ports.specs.Causes.{Rose}
 use Rattle.resp_wire.specs.Stream.{NextIsLong, Command, FaultAt, stream_of, fault_of}
-use Rattle.history_core.specs.Commands.{Said}
 use Rattle.ft_server.specs.Callers.{Answered}
 use Rattle.ft_server.specs.FaultText.{fault_text}
+use Rattle.ft_server.specs.Items.{Item}
 use Rattle.ft_server.specs.Session.{Outside, IsOpen, WantsMore, IsCut, Served, ReplyCut, quits}
 use Rattle.ft_server.specs.declared.connection.End.{End}
 use Rattle.ft_server.specs.declared.connection.End.TheVariants as end
@@ -31,20 +31,20 @@ MayLack input others =
     (input ≡ [])
     ⊎ (((others ≡ []) × WantsMore input × (65536 ≤ length (stream_of input).rest)) ⊎ NextIsLong others)
 
--- `A` says how commands were answered.
-module _ (A : List Said → Option (List ℕ) → Option (List ℕ) → Type 0) where
+-- `A` says how items came about.
+module _ (A : List Item → Option (List ℕ) → Option (List ℕ) → Type 0) where
   abbrev pub Ends : End → Outside → Outside → Type 0
   -- all that there was is whole requests
   Ends end.Closed before after = (input : List ℕ) × IsAll before.left input × WantsMore input × EndsWith input 0 × Served A input [] [] before after
-  -- the last command that was answered is QUIT
+  -- the last command that was taken is QUIT
   Ends end.Quit before after = (input : List ℕ) × (quits (stream_of input).commands ≡ true) × Served A input [] [] before after
   -- all that there was ends within a request
   Ends (end.CutShort left) before after = (input : List ℕ) × IsAll before.left input × WantsMore input × (0 < left) × EndsWith input left × Served A input [] [] before after
-  -- the fault's text was written behind the replies
+  -- the fault's text was written behind all else
   Ends (end.Protocol at kind) before after = (input : List ℕ) × IsFaulty input (record { at = at; kind = kind }) × Served A input [] (fault_text kind) before after
   -- a read failed
   Ends end.ReadFault before after = Rose before.read_faults after.read_faults × ((input : List ℕ) × WantsMore input × Served A input [] [] before after)
-  -- a write failed: the last reply is cut, or the text of a fault
+  -- a write failed: what the last command is answered is cut, or the text of a fault
   Ends end.WriteFault before after =
       Rose before.write_faults after.write_faults
       × ((input : List ℕ)

@@ -4,13 +4,16 @@ pub mod Blocks
 pub mod Callers
 pub mod Ends
 pub mod FaultText
+pub mod Items
 pub mod Limits
 pub mod Load
 pub mod Passes
+pub mod Plain
 pub mod Playing
 pub mod Prompt
 pub mod Reading
 pub mod Serving
 pub mod Session
 pub mod Status
+pub mod Talk
 pub mod Telling

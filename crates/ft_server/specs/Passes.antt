@@ -1,10 +1,14 @@
 -- The passes of a server: what a pass has seen, and what a turn adds to it.
-use Rattle.std.specs.Prelude.{◌≡◌, ℕ, suc, List, [], ◌∷◌, ◌++◌, Bool, true, false, nat_eq, if◌then◌else◌}
+use Rattle.std.specs.Prelude.{◌≡◌, ◌≢◌, ℕ, suc, Some, List, [], ◌∷◌, ◌++◌, Bool, true, false, nat_eq, if◌then◌else◌}
+use Rattle.gc_splice.specs.declared.splice.Spliced.{Spliced}
+use Rattle.gc_splice.specs.declared.splice.Spliced.TheVariants.{Done, Gone, LastEvent, Moved}
 use Rattle.history_core.specs.Commands.{caller_of}
+use Rattle.history_core.specs.Histories.{at}
 use Rattle.ft_engine.specs.Entries.{Entry, IsHistory}
 use Rattle.history_core.specs.Entries.{Exec, Scan, Splice}
 use Rattle.history_core.specs.Pictures.{Pictured}
 use Rattle.ft_index.specs.declared.snapshots.Snapshot.{Snapshot}
+use Rattle.id_iters.specs.declared.list_name.ListName.{ListName}
 use Rattle.turn_gate.specs.Known.{GateName, Known}
 use Rattle.turn_gate.specs.Log.{NoneBy}
 use Rattle.ft_machine.specs.Clean.{Marked}
@@ -47,3 +51,18 @@ last_scan caller entries = last_scan_from caller 0 0 entries
 -- the last scan that a pass has an entry of took this snapshot
 abbrev pub TookLast : Known Entry → Snapshot → Type 0
 TookLast pass snapshot = Pictured pass.seen (last_scan pass.caller pass.seen) snapshot
+
+-- One of the entries is the splice of the list of a name as the scan at a place pictured it, and it was an event.
+pub record WasSpliced (entries : List Entry) (scan : ℕ) (name : ListName) : Type 0 where
+  pub place : ℕ
+  pub caller : ℕ
+  pub answer : Spliced
+  pub is : at entries place ≡ Some (Splice caller scan name answer)
+  pub event : answer ≢ LastEvent
+
+-- a splice that changed no list
+abbrev pub ChangesNothing : Spliced → Type 0
+ChangesNothing (Done removed tail_kept) = ⊥
+ChangesNothing (Moved seen now) = Unit {0}
+ChangesNothing Gone = Unit {0}
+ChangesNothing LastEvent = Unit {0}

@@ -1,6 +1,6 @@
 -- The load under way: the commands that were answered so far, those that are left, and the text that is written at last. No
 -- public clause cites this file.
-use Rattle.std.specs.Prelude.{◌≡◌, ◌≤◌, ◌*◌, ◌^◌, ℕ, List, ◌++◌, length, sum_by, None, []}
+use Rattle.std.specs.Prelude.{◌≡◌, ◌≤◌, ◌*◌, ◌^◌, ℕ, List, ◌++◌, length, map, sum_by, None, []}
 use Rattle.std.specs.List.{All, count_by}
 use Rattle.fs_ports.specs.Causes.{Rose}
 use Rattle.history_core.specs.Commands.{Said, words_of}
@@ -9,11 +9,16 @@ use Rattle.turn_gate.specs.Known.{Known}
 use Rattle.resp_wire.specs.Stream.{Command, stream_of}
 use Rattle.resp_wire.specs.declared.fault.Stop.TheVariants.{More}
 use Rattle.ft_server.specs.Callers.{Called}
+use Rattle.ft_server.specs.Items.{Item, One}
 use Rattle.ft_server.specs.Load.{Wrote, each_reply, is_error, last_of, number_of}
 use Rattle.ft_server.specs.Session.{IsCut, Outside}
 use Rattle.ft_server.specs.declared.exit.Exit.{Exit}
 use Rattle.ft_server.specs.declared.exit.Exit.TheVariants as exit
 use Rattle.ft_server.specs.declared.tally.Tally.{Tally}
+
+-- each command executed by itself
+abbrev pub ones : List Said → List Item
+ones said = map One said
 
 -- these are the counts of such replies
 pub record Counts (tally : Tally) (replies : List (List ℕ)) : Type 0 where
@@ -28,7 +33,7 @@ pub record Playing (commands : List Command) (left : List ℕ) (pass later : Kno
   pub said : List Said
   pub caller : later.caller ≡ pass.caller
   pub alone : later.alone ≡ pass.alone
-  pub called : Called pass later said None None
+  pub called : Called pass later (ones said) None None
   pub split : words_of said ++ (stream_of left).commands ≡ commands
   pub waits : (stream_of left).stop ≡ More
   pub moments : All (λ (one : Said). one.moment ≡ 0) said
@@ -37,7 +42,7 @@ pub record Playing (commands : List Command) (left : List ℕ) (pass later : Kno
 -- all were answered
 pub record Played (commands : List Command) (pass later : Known Entry) (tally : Tally) : Type 0 where
   pub said : List Said
-  pub called : Called pass later said None None
+  pub called : Called pass later (ones said) None None
   pub words : words_of said ≡ commands
   pub moments : All (λ (one : Said). one.moment ≡ 0) said
   pub counts : Counts tally (each_reply said)

@@ -6,8 +6,10 @@ use Rattle.std.specs.List.{list_any}
 use Rattle.ft_base.specs.Words.{is_quit}
 use Rattle.fs_ports.specs.declared.clock.Clock as Clock
 use Rattle.fs_ports.specs.declared.link.Link as Link
-use Rattle.history_core.specs.Commands.{Said, replies_of, words_of}
 use Rattle.resp_wire.specs.Stream.{Command, stream_of, fault_of, due}
+use Rattle.tx_session.specs.Table.{Session, idle}
+use Rattle.ft_server.specs.Items.{Item, text_of, texts_of}
+use Rattle.ft_server.specs.Talk.{Talks}
 
 -- whether a QUIT is among the commands
 abbrev pub quits : List Command → Bool
@@ -47,32 +49,38 @@ pub record IsCut (front piece : List ℕ) : Type 0 where
   pub whole : piece ≡ front ++ back
   pub proper : 0 < length back
 
--- `A` says how commands were answered, between what the clock had given before and what it has given since.
-module _ (A : List Said → Option (List ℕ) → Option (List ℕ) → Type 0) where
-  -- These bytes were read, and the commands that are due but for these last ones were answered. What was written is the
-  -- replies, and this text behind them.
+-- `A` says how items came about, between what the clock had given before and what it has given since.
+module _ (A : List Item → Option (List ℕ) → Option (List ℕ) → Type 0) where
+  -- These bytes were read, and the commands that are due but for these last ones were taken. What was written is the texts of
+  -- what they became, and this text behind them.
   pub record Served (input : List ℕ) (others : List Command) (text : List ℕ) (before after : Outside) : Type 0 where
-    pub said : List Said
+    pub commands : List Command
+    pub items : List Item
+    pub session : Session
     pub read : Consumes before.left after.left input
-    pub due_are : due input ≡ words_of said ++ others
-    pub answered : A said before.given after.given
-    pub written : Appends before.written after.written (replies_of said ++ text)
+    pub due_are : due input ≡ commands ++ others
+    pub talks : Talks idle commands items session
+    pub answered : A items before.given after.given
+    pub written : Appends before.written after.written (texts_of items ++ text)
 
-  -- More may be read: what was read leaves the connection open, and each command that it spells whole was answered and its
-  -- reply written.
+  -- More may be read: what was read leaves the connection open, and each command that it spells whole was taken, and what it
+  -- is answered written.
   pub record AllAnswered (before after : Outside) : Type 0 where
     pub input : List ℕ
     pub wants : WantsMore input
     pub served : Served input [] [] before after
 
-  -- Of the reply to the last command that was answered only a front was written, and all before it whole.
+  -- Of the text of the last item only a front was written, and all before it whole.
   pub record ReplyCut (input : List ℕ) (before after : Outside) : Type 0 where
-    pub said : List Said
-    pub last : Said
+    pub commands : List Command
+    pub items : List Item
+    pub last : Item
+    pub session : Session
     pub others : List Command
     pub front : List ℕ
     pub read : Consumes before.left after.left input
-    pub due_are : due input ≡ words_of (said ++ last ∷ []) ++ others
-    pub answered : A (said ++ last ∷ []) before.given after.given
-    pub cut : IsCut front last.reply
-    pub written : Appends before.written after.written (replies_of said ++ front)
+    pub due_are : due input ≡ commands ++ others
+    pub talks : Talks idle commands (items ++ last ∷ []) session
+    pub answered : A (items ++ last ∷ []) before.given after.given
+    pub cut : IsCut front (text_of last)
+    pub written : Appends before.written after.written (texts_of items ++ front)

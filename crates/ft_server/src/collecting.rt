@@ -5,7 +5,7 @@ ghost use Rattle.doc_table.specs.Pages.{has_id};
 ghost use Rattle.history_core.specs.Entries.{Scan, Splice};
 ghost use Rattle.ft_engine.specs.Kept.{scanned};
 ghost use Rattle.ft_engine.specs.Pictures.{RepairsPicture};
-ghost use Rattle.ft_server.specs.Passes.{AddsEntry, IsOf, TookLast, last_scan};
+ghost use Rattle.ft_server.specs.Passes.{AddsEntry, ChangesNothing, IsOf, TookLast, WasSpliced, last_scan};
 
 use crate::logged_engine::LogEntry;
 use crate::server::{Pass, Server};
@@ -119,6 +119,8 @@ pub fn splice_turn<R: Wait>(
     // The history goes on with entries of others, none where the pass is alone, and then with this splice.
     ensures entry { AddsEntry pass result.0
         (Splice pass.caller (last_scan pass.caller pass.seen) named.now.name result.1) }
+    // A list that was spliced as that scan pictured it, by this caller or another, is not spliced so again.
+    ensures again { WasSpliced pass.seen (last_scan pass.caller pass.seen) named.now.name → ChangesNothing result.1 }
 {
     let mut turn = server.gate.enter(rt, pass);
     let answer = turn

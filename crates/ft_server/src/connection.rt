@@ -1,7 +1,10 @@
-//! One connection: each command is executed as soon as it is whole, and its reply written before the
+//! One connection: each command is taken as soon as it is whole, and what it is answered is written before the
 //! next one is.
 ghost use Rattle.std.specs.Prelude.{◌≡◌, ◌<◌, ◌≤◌, ◌+◌, ◌*◌, ◌^◌, [], length, vec_capacity, IfOk};
+ghost use Rattle.std.specs.List.{All};
+ghost use Rattle.history_core.specs.Running.{AreLawful};
 ghost use Rattle.resp_wire.specs.Decoding.{fed};
+ghost use Rattle.tx_session.specs.Table.{idle};
 ghost use Rattle.ft_server.specs.Callers.{Called};
 ghost use Rattle.ft_server.specs.Ends.{Ends};
 ghost use Rattle.ft_server.specs.Passes.{IsOf};
@@ -17,6 +20,7 @@ use ft_base::NoMemory;
 use resp_wire::{Decoder, Take, WireFault};
 use std::alloc::Global;
 use std::sync::Wait;
+use tx_session::TxSession;
 
 /// The most bytes that one read asks for.
 const READ_ROOM: usize = 65_536;
@@ -45,18 +49,20 @@ pub enum End {
     NoMemory,
 }
 
-/// What is read and written goes through these.
+/// What is read and written goes through these, and what waits for EXEC is held here.
 #[derive(Drop)]
 struct Buffers {
+    alloc: Global,
     decoder: Decoder,
     input: Vec<u8>,
     reply: Vec<u8>,
+    session: TxSession,
 }
 
 /// Serves a link until it ends, as the caller whose pass it is given. All room is taken first.
 ///
-/// Each command is a turn of its own. It may wait for a turn, and for nothing else of other callers: what is read,
-/// decoded and written is read, decoded and written outside the turns.
+/// A command is a turn of its own; those between MULTI and EXEC are one. It may wait for a turn, and for nothing else of
+/// other callers: what is read, decoded and written is read, decoded and written outside the turns.
 pub fn serve_connection<L: Link, C: Clock, R: Wait>(
     rt: &R,
     alloc: Global,
@@ -87,11 +93,14 @@ fn take_buffers(alloc: Global) -> Result<Buffers, NoMemory>
         ≡ record { taken = 0; left = []; words = []; spare = 65_536 }) }
     ensures input { IfOk result (λ buffers. length buffers.input.items ≡ 65_536) }
     ensures reply { IfOk result (λ buffers. vec_capacity buffers.reply ≡ 65_536) }
+    ensures session { IfOk result (λ buffers. buffers.session ≡ idle) }
 {
     Ok(Buffers {
+        alloc,
         decoder: Decoder::open(alloc)?,
         input: vec![in alloc; 0u8; READ_ROOM]?,
         reply: Vec::with_capacity(alloc, REPLY_ROOM)?,
+        session: TxSession::open(alloc),
     })
 }
 
@@ -109,6 +118,7 @@ fn serve<L: Link, C: Clock, R: Wait>(
         ≡ record { taken = 0; left = []; words = []; spare = 65_536 } }
     requires input { 0 < length buffers.old.input.items }
     requires reply { 64 ≤ vec_capacity buffers.old.reply }
+    requires session { buffers.old.session ≡ idle }
     requires prompt { MayBeRead L.Link C.Clock server.now pass link.old clock.old }
     ensures of { IsOf server.now result.0 }
     ensures same { (result.0.caller ≡ pass.caller) × (result.0.alone ≡ pass.alone) }
@@ -127,8 +137,8 @@ fn serve<L: Link, C: Clock, R: Wait>(
     }
 }
 
-/// Answers the next command; or reads more where none is whole, and answers how much; or says how the connection ends.
-/// `total` bytes were read before.
+/// Takes the next command and answers it; or reads more where none is whole, and answers how much; or says how the connection
+/// ends. `total` bytes were read before.
 fn step<L: Link, C: Clock, R: Wait>(
     rt: &R,
     server: &Server,
@@ -141,27 +151,33 @@ fn step<L: Link, C: Clock, R: Wait>(
     requires of { IsOf server.now pass }
     requires input { 0 < length buffers.old.input.items }
     requires reply { 64 ≤ vec_capacity buffers.old.reply }
+    requires queue { All AreLawful buffers.old.session.queue }
     requires few { total ≤ 2 ^ 40 }
     requires fed { fed buffers.old.decoder ≡ total }
     requires turn { HoldsNoCommand buffers.old.decoder → total < 2 ^ 40 → L.readable link.old }
     ensures of { IsOf server.now result.0 }
     ensures same { (result.0.caller ≡ pass.caller) × (result.0.alone ≡ pass.alone) }
     // From what was served before, on or to an end.
-    ensures leads { Leads buffers.old.decoder buffers.new.decoder pass result.0
+    ensures leads { Leads buffers.old.decoder buffers.new.decoder buffers.old.session buffers.new.session pass result.0
         (told L.Link C.Clock link.old clock.old) (told L.Link C.Clock link.new clock.new) result.1 }
     ensures fed { IfOk result.1 (λ count. (fed buffers.new.decoder ≡ total + count) × (total + count ≤ 2 ^ 40)) }
     ensures less { IfOk result.1 (λ count. length buffers.new.decoder.left
         < length buffers.old.decoder.left + 2 * count) }
     ensures input { length buffers.new.input.items ≡ length buffers.old.input.items }
     ensures reply { 64 ≤ vec_capacity buffers.new.reply }
+    ensures queue { All AreLawful buffers.new.session.queue }
 {
     let Buffers {
+        alloc,
         decoder,
         input,
         reply,
+        session,
     } = buffers;
     match decoder.take() {
-        Take::Words => answer(rt, server, pass, decoder, reply, link, clock),
+        Take::Words => answer(
+            rt, *alloc, server, pass, decoder, session, reply, link, clock,
+        ),
         Take::More => (pass, read_more(link, decoder, input.as_mut_slice(), total)),
         Take::NoMemory => (pass, Err(End::NoMemory)),
         Take::Fault { at, kind } => (pass, Err(refuse(link, at, kind))),

@@ -5,9 +5,9 @@ use ft_base::{Fields, NoMemory};
 use std::cell::Cell;
 
 /// So many bytes the parts of a plan may take.
-const ROOM: u64 = 60_000_000;
+const ROOM: u64 = 75_000_000;
 /// As long as so many are left, the leaves of a union keep what they have read ahead.
-const PLENTY: u64 = 30_000_000;
+const PLENTY: u64 = 37_500_000;
 /// What a leaf takes, with its place among the parts of a union, before it reads.
 const LEAF: u64 = 180;
 /// What it takes besides until it is put together with others: its places in the vectors of parts.

@@ -10,6 +10,8 @@
 #[cfg(test)]
 mod answers;
 #[cfg(test)]
+mod cycles;
+#[cfg(test)]
 mod events;
 #[cfg(test)]
 mod gates;
@@ -29,5 +31,7 @@ mod rows;
 mod session;
 #[cfg(test)]
 mod system;
+#[cfg(test)]
+mod transactions;
 #[cfg(test)]
 mod workers;

@@ -95,14 +95,14 @@ fn a_cut_reply_is_of_a_command_that_counts(rt: HostRuntime) {
 
 /// A caller with its buffers, and how many of its replies were others than it wanted.
 #[derive(Drop)]
-struct Caller {
+pub struct Caller {
     spans: Vec<Span>,
     reply: Vec<u8>,
-    others: u32,
+    pub others: u32,
     ghost room: { 64 ≤ vec_capacity reply },
 }
 
-fn new_caller(alloc: Global) -> Option<Caller> {
+pub fn new_caller(alloc: Global) -> Option<Caller> {
     Some(Caller {
         spans: Vec::new(alloc),
         reply: Vec::with_capacity(alloc, 64).ok()?,
@@ -111,7 +111,7 @@ fn new_caller(alloc: Global) -> Option<Caller> {
 }
 
 /// Executes a line of words with one `|` between each two at a moment in milliseconds, and compares its reply.
-fn ask_at<R: Wait>(
+pub fn ask_at<R: Wait>(
     rt: &R,
     server: &Server,
     pass: Pass,
@@ -137,7 +137,7 @@ fn ask_at<R: Wait>(
 }
 
 /// A moment at which nothing is idle.
-const NOW: u64 = 5;
+pub const NOW: u64 = 5;
 
 /// Sets a field to one value and another in turns, and reads each back.
 fn set_and_get<R: Wait>(

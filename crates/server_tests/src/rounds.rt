@@ -42,6 +42,8 @@ impl Pace for TellingPace {
         }
         true
     }
+
+    fn end_round(&mut self) {}
 }
 
 /// A door that gives its links behind a flag.

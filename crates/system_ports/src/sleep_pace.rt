@@ -1,9 +1,10 @@
 //! A pace that sleeps, behind the trait of the outside.
 //!
 //! Whoever asks it works between two of its answers. It rests three times as long as that work took, so the work takes at
-//! most a quarter of one processor; after hardly any work it rests a while. While it rests it looks at its flag again and
-//! again, and answers at once where that is set.
-ghost use Rattle.std.specs.Prelude.{◌≡◌, ◌<◌, ◌≤◌, ◌*◌, ◌-◌, ◌^◌, min, Bool, None, false};
+//! most a quarter of one processor. Short work is rested for together: it answers at once until a millisecond of work has come
+//! together. Where a round ends and less came together, nothing was due, and it rests a while. While it rests it looks at its
+//! flag again and again, and answers at once where that is set.
+ghost use Rattle.std.specs.Prelude.{◌≡◌, ◌<◌, ◌≤◌, ◌*◌, ◌-◌, ◌^◌, min, Bool, None, true, false};
 
 use fs_ports::Pace;
 use std::alloc::Global;
@@ -13,11 +14,11 @@ use std::sync::atomic::{AtomicBool, Ordering};
 use std::thread;
 use std::time::{Duration, Instant};
 
-/// The microseconds of work below which nothing was due.
+/// The microseconds of work that come together before it rests. At the end of a round fewer are hardly any work.
 const HARDLY_ANY: u64 = 1_000;
 
-/// How long it rests where nothing was due, and how long it sleeps at the most before it looks at its flag again, in
-/// microseconds.
+/// How long it rests behind a round of hardly any work, and how long it sleeps at the most before it looks at its flag again,
+/// in microseconds.
 const PAUSE: u64 = 10_000;
 
 /// How often its rest is as long as the work before it.
@@ -31,6 +32,10 @@ pub struct SleepPace<R: std::rt::Clock + Drop> {
     stopped: bool,
     // When it answered last. None before its first answer, and where the clock told nothing.
     answered: Option<Instant>,
+    // The microseconds of work before that, for which it has not rested.
+    owed: u64,
+    // Whether a round has ended since it answered last.
+    is_round_over: bool,
 }
 
 impl<R: std::rt::Clock + Drop> Model for SleepPace<R> {
@@ -49,6 +54,8 @@ impl<R: std::rt::Clock + Drop> SleepPace<R> {
             stop,
             stopped: false,
             answered: None,
+            owed: 0,
+            is_round_over: false,
         }
     }
 
@@ -80,15 +87,15 @@ impl<R: std::rt::Clock + Drop> SleepPace<R> {
 }
 
 /// How many microseconds of rest are due behind so many of work.
-fn rest_for(worked: u64) -> u64
-    ensures hardly { worked < 1_000 → result ≡ 10_000 }
+fn rest_for(worked: u64, is_round_over: bool) -> u64
     ensures more { 1_000 ≤ worked → result ≡ min (worked * 3) (2 ^ 64 - 1) }
+    ensures hardly { worked < 1_000 → is_round_over ≡ true → result ≡ 10_000 }
+    ensures none { worked < 1_000 → is_round_over ≡ false → result ≡ 0 }
 {
-    if worked < HARDLY_ANY {
-        PAUSE
-    } else {
-        worked.saturating_mul(REST_TIMES)
+    if worked >= HARDLY_ANY {
+        return worked.saturating_mul(REST_TIMES);
     }
+    if is_round_over { PAUSE } else { 0 }
 }
 
 impl<R: std::rt::Clock + Drop> Pace for SleepPace<R> {
@@ -97,9 +104,17 @@ impl<R: std::rt::Clock + Drop> Pace for SleepPace<R> {
     ghost asked = { λ _. None };
 
     fn between(&mut self) -> bool {
-        self.rest(rest_for(self.worked()));
+        let worked = self.owed.saturating_add(self.worked());
+        let micros = rest_for(worked, self.is_round_over);
+        self.rest(micros);
+        self.owed = if micros == 0 { worked } else { 0 };
+        self.is_round_over = false;
         self.stopped = self.is_told_to_stop();
         self.answered = Instant::now(&self.rt).ok();
         !self.stopped
+    }
+
+    fn end_round(&mut self) {
+        self.is_round_over = true;
     }
 }

@@ -1,10 +1,9 @@
 -- What the code answers, read by the table.
-use Rattle.std.specs.Prelude.{◌≡◌, ◌⊎◌, ℕ, List, [], map}
+use Rattle.std.specs.Prelude.{◌≡◌, ◌⊎◌, List, [], map}
 use Rattle.ft_base.specs.Spans.{words_of}
 use Rattle.ft_base.specs.declared.name_fit.NameFit.{NameFit}
-use Rattle.ft_base.specs.declared.name_fit.NameFit.TheVariants.{Fits}
 use Rattle.ft_base.specs.declared.words.Frame.{Frame}
-use Rattle.tx_session.specs.Table.{Command, Session, Row, Say, One, Block, Fate, broken, line_of, other}
+use Rattle.tx_session.specs.Table.{Command, Session, Row, Say, One, Block, Fate, broken, idle, line, line_of, other, row}
 use Rattle.tx_session.specs.declared.kinds.Name.{Name}
 use Rattle.tx_session.specs.declared.kinds.Phase.{Phase}
 use Rattle.tx_session.specs.declared.kinds.Phase.TheVariants.{Idle, Open, Broken}
@@ -44,3 +43,7 @@ Others name judged words old result new = Follows (other old.phase name judged w
 -- A command was taken.
 abbrev pub Takes : Command → NameFit → Session → TxTake → Session → Type 0
 Takes words judged old result new = Follows (line_of words judged old) old result new
+
+-- a name that an idle session takes no notice of
+abbrev pub IsPlain : Name → Type 0
+IsPlain name = (words : Command) (judged : NameFit) → line name judged words idle ≡ row One idle

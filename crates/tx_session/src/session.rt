@@ -1,8 +1,9 @@
 //! The session of one caller.
-ghost use Rattle.std.specs.Prelude.{◌≡◌, ◌<◌, ◌++◌, ◌∷◌, [], length, OnOk, OnErr};
+ghost use Rattle.std.specs.Prelude.{◌≡◌, ◌<◌, ◌++◌, ◌∷◌, [], true, length, OnOk, OnErr};
+ghost use Rattle.ft_base.specs.declared.name_fit.NameFit.{NameFit};
 ghost use Rattle.ft_base.specs.declared.name_fit.NameFit.TheVariants as fit;
-ghost use Rattle.tx_session.specs.Table.{Session, idle, broken};
-ghost use Rattle.tx_session.specs.Taking.{Others, Takes};
+ghost use Rattle.tx_session.specs.Table.{One, Session, broken, idle, line_of, row};
+ghost use Rattle.tx_session.specs.Taking.{IsPlain, Others, Takes};
 
 use crate::kinds::{Name, Phase, TxText, name_of};
 use ft_base::{Frame, ListOf, NameFit, NoMemory, Words};
@@ -50,6 +51,19 @@ impl TxSession {
             alloc,
             phase: Phase::Idle,
             queue: ListOf::new(alloc),
+        }
+    }
+
+    /// Whether a command is executed by itself whatever its number of words: no transaction is under way, and it is none of the
+    /// three that begin or end one. Then `take` says so too, and leaves the session as it is. It is most commands of most
+    /// callers, who need not ask for their fit.
+    pub fn passes(&self, words: &Words<'_>) -> bool
+        requires { 0 < length words.now }
+        ensures { result ≡ true → (fit : NameFit) → line_of words.now fit self.now ≡ row One self.now }
+    {
+        match self.phase {
+            Phase::Idle => is_plain(name_of(words)),
+            Phase::Open | Phase::Broken => false,
         }
     }
 
@@ -182,5 +196,15 @@ impl TxSession {
     {
         let frame = Frame::copy(self.alloc, words)?;
         self.queue.push(frame)
+    }
+}
+
+// Whether a name is none of the three that begin or end a transaction.
+fn is_plain(name: Name) -> bool
+    ensures { result ≡ true → IsPlain name }
+{
+    match name {
+        Name::Quit | Name::Other => true,
+        Name::Multi | Name::Exec | Name::Discard => false,
     }
 }

@@ -20,6 +20,12 @@ use std::sync::Wait;
 use std::sync::atomic::{AtomicBool, Ordering};
 use std::thread::Threads;
 
+/// The room for the names of the indexes at the start. A longer reply makes more.
+const ROOM: usize = 64;
+
+/// A room of more bytes is not kept for short replies.
+const MOST_KEPT: usize = 65_536;
+
 /// Works in rounds until the pace says no, or the flag is set at the end of one. Replies are written into the room.
 pub(crate) fn collect<D, C, P: Pace, R: Threads + Wait + Sync>(
     rt: &R,
@@ -85,6 +91,7 @@ fn work_one_round<P: Pace, R: Threads + Wait + Sync>(
 {
     let pass = list_indexes(rt, server, pass, room);
     let (pass, going) = collect_all(rt, alloc, server, pass, room.as_slice(), pace);
+    shorten(alloc, room);
     (pass, rest(pace, going))
 }
 
@@ -165,11 +172,28 @@ fn was_stopped(cycle: Cycle) -> bool
     }
 }
 
-/// Asks the pace once, but where its last answer was false, and says whether its last answer is true.
+/// Asks the pace once, but where its last answer was false, and says whether its last answer is true. A round is over then.
 fn rest<P: Pace>(pace: &mut P, going: bool) -> bool
     requires going { P.stopped pace.old ≡ not going }
     ensures rests { Rests P.Pace pace.old pace.new }
     ensures going { P.stopped pace.new ≡ not result }
 {
-    if going { pace.between() } else { false }
+    if !going {
+        return false;
+    }
+    pace.end_round();
+    pace.between()
+}
+
+/// Gives back the memory of a room that the last reply needed little of, where there is memory for a short one.
+fn shorten(alloc: Global, room: &mut Vec<u8>)
+    requires room { 64 ≤ vec_capacity room.old }
+    ensures room { 64 ≤ vec_capacity room.new }
+{
+    let capacity = room.capacity();
+    if capacity > MOST_KEPT && room.len() < capacity / 4 {
+        if let Ok(short) = Vec::with_capacity(alloc, ROOM) {
+            *room = short;
+        }
+    }
 }

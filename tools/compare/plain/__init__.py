@@ -20,6 +20,7 @@ The machine has no clock: each command may be told a moment.
     schemas.py         the words of FT.CREATE and FT.ALTER, and which documents are members
     told.py            what FT.INFO tells of an index
     hashes.py          the hashes, and the commands of Redis
+    transactions.py    what becomes of the commands between MULTI and EXEC
     machine.py         the indexes, the commands of RediSearch, and the table of all commands
 
     rows.py            rows of sessions, read and written
@@ -31,5 +32,6 @@ The machine has no clock: each command may be told a moment.
     drawn_aggregates.py    random parts of FT.AGGREGATE, and expressions
     drawn_cursors.py   random words of WITHCURSOR and FT.CURSOR
     drawn_faults.py    random faults of a command's words
+    drawn_transactions.py  random transactions
     sessions.py        random sessions, each of a seed and a number
 """

@@ -12,6 +12,7 @@ from .schemas import Index, are_too_many, duplicate, read_alter, read_create, to
 from .steps import read_aggregate
 from .texts import number, tags
 from .told import told
+from .transactions import NAMES, Transaction
 from .wire import Fault, array, bulk, bulks, error, integer, line, pairs, syntax
 
 MOST_INDEXES = 256
@@ -27,26 +28,24 @@ class Machine(Hashes):
         super().__init__()
         self.indexes = {}
         self.cursors = {}
+        self.transaction = Transaction()
         self.now = 0
 
     def reply(self, words: list, moment: int = 0) -> bytes:
-        """The bytes that answer a command at a moment, in milliseconds. A refused one is an event too."""
+        """The bytes that answer a command of its one connection at a moment, in milliseconds."""
+        return self.transaction.reply(words, check_words, lambda waiting: self.executed(waiting, moment))
+
+    def executed(self, words: list, moment: int) -> bytes:
+        """The bytes that answer a command that is executed. A refused one is an event too."""
         self.event += 1
         self.now = max(self.now, moment)
         self.keep_cursors(lambda cursor: not cursor.is_idle(self.now))
         try:
-            return self.answer(words[0].upper(), words)
+            check_words(words)
+            command = COMMANDS[words[0].upper()][2]
+            return command(self, words) if command in TAKE_ALL_WORDS else command(self, *words[1:])
         except Fault as fault:
             return error(fault.text)
-
-    def answer(self, name: bytes, words: list) -> bytes:
-        if name not in COMMANDS:
-            raise Fault("ERR unknown command")
-        least, most, command = COMMANDS[name]
-        has_half_pair = command is hashes.hset and len(words) % 2
-        if not least <= len(words) <= (most or len(words)) or has_half_pair:
-            raise Fault(f"ERR wrong number of arguments for '{name.decode().lower()}' command")
-        return command(self, words) if command in TAKE_ALL_WORDS else command(self, *words[1:])
 
     def index(self, name: bytes) -> Index:
         if name not in self.indexes:
@@ -76,6 +75,17 @@ class Machine(Hashes):
 
     def keep_cursors(self, stays: Callable):
         self.cursors = {number: cursor for number, cursor in self.cursors.items() if stays(cursor)}
+
+
+def check_words(words: list):
+    """Whether the name is known, and the number of words lawful."""
+    name = words[0].upper()
+    if name not in COMMANDS and name not in NAMES:
+        raise Fault("ERR unknown command")
+    least, most, command = COMMANDS.get(name, (1, 1, None))
+    has_half_pair = command is hashes.hset and len(words) % 2
+    if not least <= len(words) <= (most or len(words)) or has_half_pair:
+        raise Fault(f"ERR wrong number of arguments for '{name.decode().lower()}' command")
 
 
 def flush_all(machine: Machine, *mode: bytes) -> bytes:

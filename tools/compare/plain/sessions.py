@@ -8,6 +8,7 @@ from .drawn_cursors import Opening, is_short_lived, read_or_delete
 from .drawn_faults import spoilt
 from .drawn_options import search_options
 from .drawn_queries import query
+from .drawn_transactions import with_transactions
 from .drawn_values import KEYS, NAMES, ODD_NAMES, Draw, Known, many_pairs, number, text, value
 from .machine import Machine
 
@@ -180,4 +181,4 @@ def encoded(words: list) -> list:
 
 def session(seed: int, number: int) -> list:
     """The commands of the session of this number."""
-    return Session(f"{seed} {number}").commands()
+    return with_transactions(Draw(f"{seed} {number} transactions"), Session(f"{seed} {number}").commands())

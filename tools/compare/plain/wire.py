@@ -1,9 +1,9 @@
 """Faults, replies and requests, as they are spelled in RESP2."""
 import re
 
-# The one number that may be unknown, in a reply of the plain machine and in another one.
+# The numbers that may be unknown, in a reply of the plain machine, and those in another one.
 RECORDS = b"$11\r\nnum_records\r\n"
-UNKNOWN = re.compile(re.escape(RECORDS) + rb":(\d+)\.\.\r\n")
+EITHER = re.compile(re.escape(RECORDS) + rb":(\d+)(\.\.)?\r\n")
 TOLD = re.compile(re.escape(RECORDS) + rb":(\d+)\r\n")
 
 
@@ -45,11 +45,16 @@ def at_least(n: int) -> bytes:
 
 
 def with_numbers_of(reply: bytes, other: bytes) -> bytes:
-    """The reply with the other one's number where its own is not known, and the other's is not too low."""
-    parts, number = UNKNOWN.search(reply), TOLD.search(other)
-    if not parts or not number or int(number[1]) < int(parts[1]):
-        return reply
-    return reply[:parts.start()] + RECORDS + integer(int(number[1])) + reply[parts.end():]
+    """The reply with the other one's numbers where its own are not known, and the other's are not too low."""
+    numbers = iter(TOLD.findall(other))
+
+    def filled(found):
+        number = next(numbers, None)
+        if found[2] is None or number is None or int(number) < int(found[1]):
+            return found[0]
+        return RECORDS + integer(int(number))
+
+    return EITHER.sub(filled, reply)
 
 
 def bulk(text) -> bytes:

@@ -12,7 +12,7 @@ serve_connection-requires-clause-prompt g c later now moment of all =
     let made = c.in-Ok.ensures in
     c.requires.prompt now moment
     (all_answered_so (Called c.in-Ok.pass later) Answered
-    (λ said given given' called. called_alone c.in-Ok.pass later said given given' made.pass.0 made.pass.1 made.pass.2 (subst (λ (n : ℕ). LegalFrom n later.seen) made.first of.1) called)
+    (λ items given given' called. called_alone c.in-Ok.pass later items given given' made.pass.0 made.pass.1 made.pass.2 (subst (λ (n : ℕ). LegalFrom n later.seen) made.first of.1) called)
     (told g.L.Link g.C.Clock c.args.link.now c.args.clock.now) (told g.L.Link g.C.Clock now moment) all)
 
 pub returns-in-Ok : goal.returns-in-Ok
@@ -20,7 +20,7 @@ returns-in-Ok g c =
     let made = c.in-Ok.ensures in
     let served = c.serve_connection.result.0 in
     ends_so (Called c.in-Ok.pass served) Answered
-    (λ said given given' called. called_alone c.in-Ok.pass served said given given' made.pass.0 made.pass.1 made.pass.2 (subst (λ (n : ℕ). LegalFrom n served.seen) made.first c.serve_connection.ensures.of.1) called)
+    (λ items given given' called. called_alone c.in-Ok.pass served items given given' made.pass.0 made.pass.1 made.pass.2 (subst (λ (n : ℕ). LegalFrom n served.seen) made.first c.serve_connection.ensures.of.1) called)
     c.serve_connection.result.1 _ _ c.serve_connection.ensures.ends
 
 pub returns-in-Err : goal.returns-in-Err
