@@ -282,6 +282,38 @@ fn a_pace_stops_a_cycle_at_each_list(rt: HostRuntime) {
     }
 }
 
+// Whether commands are answered behind a cycle, and a next cycle is done, where one allocation at most finds no memory. None
+// where it was one before the cycle.
+fn goes_on_behind<R: RandomSource + Threads + Wait + Sync>(rt: &R, alloc: Global) -> Option<bool> {
+    let (server, pass) = server_of(rt, alloc)?;
+    let mut caller = new_caller(alloc)?;
+    let pass = ask_all(rt, &server, pass, &mut caller, THREE);
+    if caller.others > 0 {
+        return None;
+    }
+    let (pass, first) = collect_cycle(rt, alloc, &server, pass, b"ix", &mut CountedPace::new(3));
+    let pass = ask_all(
+        rt,
+        &server,
+        pass,
+        &mut caller,
+        &[[b"HGET|d|t", b"$5\r\nx y z\r\n"]],
+    );
+    let (_, second) = collect_cycle(rt, alloc, &server, pass, b"ix", &mut CountedPace::new(3));
+    let both = match (first, second) {
+        (Cycle::Done { .. }, Cycle::Done { .. } | Cycle::NoMemory) => true,
+        (Cycle::NoMemory, Cycle::Done { .. }) => true,
+        _ => false,
+    };
+    Some(both & (caller.others == 0))
+}
+
+// It tells something where each of its allocations is made to fail in turn.
+#[test]
+fn a_cycle_without_memory_ends_nothing(rt: HostRuntime) {
+    assert!(rt; goes_on_behind(&rt, rt.alloc()) != Some(false));
+}
+
 // A line that writes the eighteen words that begin with two letters into a document of that name.
 fn line_of(alloc: Global, first: u8, second: u8) -> Option<Vec<u8>> {
     let mut line = b"HSET|".to_vec(alloc).ok()?;

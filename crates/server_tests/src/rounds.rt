@@ -1,5 +1,6 @@
 //! The collector beside a worker, each in a thread of its own: it goes on from round to round while the worker is at work, and
-//! ends once the worker is done. No clause says so, since the flag between them is an atomic.
+//! ends once the worker is done, also where the worker's door fails while the collector is held. No clause says so, since the
+//! flag between them is an atomic.
 ghost use Rattle.std.specs.Prelude.{◌≡◌, None, false, IfSome};
 
 use crate::links::{clock_of, door_of, words_of};
@@ -23,11 +24,13 @@ const ASKED: u64 = 3;
 /// How often a door looks at its flag before it gives its links all the same, so that a test ends.
 const MOST_LOOKS: u32 = 100_000_000;
 
-/// A pace that never says no, and sets a flag once it was asked for a number of times.
+/// A pace that never says no, and sets a flag once it was asked for a number of times. Each time it looks at another flag until
+/// that is set, or for long enough.
 #[derive(Drop)]
 pub struct TellingPace {
     left: u64,
     flag: Arc<AtomicBool, Global>,
+    goes_on: Arc<AtomicBool, Global>,
 }
 
 impl Pace for TellingPace {
@@ -40,6 +43,7 @@ impl Pace for TellingPace {
         if self.left == 0 {
             self.flag.store(true, Ordering::SeqCst);
         }
+        wait_for(&self.goes_on);
         true
     }
 
@@ -77,32 +81,45 @@ impl Door for WaitingDoor {
     }
 }
 
-// A door of one link, behind this flag.
-fn waiting_door(alloc: Global, flag: &Arc<AtomicBool, Global>) -> Option<WaitingDoor>
+// A door of one link, behind this flag, and the accepts that fail.
+fn waiting_door(alloc: Global, flag: &Arc<AtomicBool, Global>, fails: &[u64]) -> Option<WaitingDoor>
     ensures { IfSome result (λ door. door.door.at.out ≡ false) }
 {
-    let door = door_of(alloc, &[SET], &[])?;
+    let door = door_of(alloc, &[SET], fails)?;
     let flag = Arc::try_clone(flag).ok()?;
     Some(WaitingDoor { door, flag })
 }
 
-// Whether the pace was asked often enough while the door gave no link, and all ended behind it.
+/// How often the pace is asked before the door gives its link, which accept fails, whether the pace holds nobody back, and how
+/// it ends.
+type Way = (u64, u64, bool, Exit);
+
+const WAYS: &[Way] = &[
+    (ASKED, 0, true, Exit::Done),
+    // The second accept fails while the collector is held.
+    (1, 2, false, Exit::DoorFault),
+];
+
+// Whether the pace was asked often enough while the door gave no link, and all ended in this way behind it.
 fn is_told<
     S: Spawner<Work<WaitingDoor, ScriptedClock, TellingPace>>,
     R: RandomSource + Threads + Wait + Sync,
->(rt: &R, alloc: Global, spawner: &mut S) -> Option<bool>
+>(rt: &R, alloc: Global, spawner: &mut S, way: &Way) -> Option<bool>
     requires able { S.able spawner.old }
 {
+    let (left, fails, holds_nobody, want) = *way;
     let hashing = RandomState::new(rt).ok()?;
     let flag = Arc::new(alloc, AtomicBool::new(false)).ok()?;
     let told = Arc::try_clone(&flag).ok()?;
+    let goes_on = Arc::new(alloc, AtomicBool::new(holds_nobody)).ok()?;
     let pace = TellingPace {
-        left: ASKED,
+        left,
         flag: told,
+        goes_on,
     };
-    let door = waiting_door(alloc, &flag)?;
+    let door = waiting_door(alloc, &flag, &[fails])?;
     let exit = serve_door(rt, alloc, hashing, spawner, door, pace)?;
-    Some(exit == (Exit::Done, 2) && flag.load(Ordering::SeqCst))
+    Some(exit == (want, 2) && flag.load(Ordering::SeqCst))
 }
 
 // How it ends over one door, and with how many works.
@@ -130,13 +147,15 @@ fn rounds_go_on_until_the_worker_is_done(rt: HostRuntime) {
     let own = rt;
     // The closure has to name the door's type of links, which only its contract speaks of.
     let named: PhantomData<MemLink> = PhantomData;
-    let mut spawner = ThreadSpawner {
-        start: |job: Work<WaitingDoor, ScriptedClock, TellingPace>| {
-            let _named = named;
-            start_thread(&own, job)
-        },
-        faults: 0,
-        of: PhantomData,
-    };
-    assert!(rt; is_told(&rt, rt.alloc(), &mut spawner) == Some(true));
+    for way in WAYS {
+        let mut spawner = ThreadSpawner {
+            start: |job: Work<WaitingDoor, ScriptedClock, TellingPace>| {
+                let _named = named;
+                start_thread(&own, job)
+            },
+            faults: 0,
+            of: PhantomData,
+        };
+        assert!(rt; is_told(&rt, rt.alloc(), &mut spawner, way) == Some(true));
+    }
 }
